@@ -1,0 +1,40 @@
+-- Document 01, "Calls": what an answer is.
+use Prim.Native.Nat.{ℕ, zero, suc}
+use mathlib.Core.List.{List, [], _∷_}
+use Rattle.model.specs.declared.Answer.{Answer}
+use Rattle.model.specs.Session.{State, front, frontScreen, height, count}
+
+-- "An answer is six numbers: refusal (0 if none), front screen, front root, front height, n, m, after the call. An
+-- empty session gives six zeros."
+unfoldable pub lookAt : State ℕ → Answer
+lookAt s =
+    record {
+      refusal = 0;
+      screen = frontScreen s;
+      root = front s .root;
+      height = height (front s);
+      tasks = count s;
+      main = s .main;
+    }
+
+-- "A refused call gives its number and zeros in every other place of the answer"
+abbrev pub refused : ℕ → Answer
+refused k = record { refusal = k; screen = 0; root = 0; height = 0; tasks = 0; main = 0 }
+
+-- the six numbers in 01's order
+abbrev pub numbersOf : Answer → List ℕ
+numbersOf a = a .refusal ∷ a .screen ∷ a .root ∷ a .height ∷ a .tasks ∷ a .main ∷ []
+
+-- what a call gives: the session and the answer
+pub record Outcome : Type 0 where
+  pub session : State ℕ
+  pub answer : Answer
+
+abbrev pub outcome : State ℕ → Answer → Outcome
+outcome s a = record { session = s; answer = a }
+
+-- a call with the refusal k (0 if none), the session before it and the session that it would make: "Session and
+-- buffers are unchanged" where it is refused
+abbrev pub settle : ℕ → State ℕ → State ℕ → Outcome
+settle zero s s′ = outcome s′ (lookAt s′)
+settle (suc k) s s′ = outcome s (refused (suc k))

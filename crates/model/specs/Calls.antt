@@ -1,0 +1,175 @@
+-- Document 01, "Calls" and "Refusals": each call, its checks, the session and the answer that it gives.
+use Prim.Native.Nat.{ℕ, zero, suc, pred}
+use mathlib.Core.Bool.{Bool, true, false, not, _&&_}
+use mathlib.Core.List.{List, [], _∷_, _++_, map}
+use lib.Dec.{leb, ltb, eqb}
+use lib.ListN.{length, getD, drop}
+use Rattle.model.specs.Lists.{isEmpty, isPlace, find, onFirst}
+use Rattle.model.specs.Refusals.{Check, check, refusal}
+use Rattle.model.specs.Table.{sizeOf, mainScreen, tableChecks}
+use Rattle.model.specs.Session.{Stack, State, stack, state, noStack, taskAt, front, height, count, mostTasks, mostHeight, sound}
+use Rattle.model.specs.Flags.{flagsOf, hasOtherBit}
+use Rattle.model.specs.Search.{placeOf}
+use Rattle.model.specs.Rules.{Choice, choose}
+use Rattle.model.specs.Deeds.{Deed, new, inFront, moveAnd, Change, keep, renew, clear, lift, push, deedOf, carryOut, close}
+use Rattle.model.specs.Answers.{Outcome, settle}
+use Rattle.model.specs.Image.{image, imageChecks, sessionIn}
+
+-- "with any screen, flag word or image bytes"
+pub data Call : Type 0 where
+  launch : Call
+  start finishingStart : ℕ → ℕ → Call
+  back look : Call
+  restore : List ℕ → Call
+
+-- ---- start
+
+-- the choice of a start of the screen b with the flag word w
+abbrev pub chosen : List ℕ → State ℕ → ℕ → ℕ → Choice
+chosen tb s b w = choose tb s b (flagsOf w)
+
+-- the choice carried out, on screens of any kind
+abbrev pub carryChoice : {A : Type 0} → (A → Bool) → ℕ → A → Choice → State A → State A
+carryChoice isB b newB c s = carryOut isB b newB (deedOf (c .rule)) (placeOf (c .found)) s
+
+-- "Start of B": "The first rule that fits is used."
+unfoldable pub started : List ℕ → State ℕ → ℕ → ℕ → State ℕ
+started tb s b w = carryChoice (eqb b) b b (chosen tb s b w) s
+
+-- ---- finishing start
+
+-- a screen with or without the mark. The mark is 01's own term.
+pub record Marked : Type 0 where
+  pub screen : ℕ
+  pub mark : Bool
+
+abbrev pub unmarked : ℕ → Marked
+unmarked x = record { screen = x; mark = false }
+
+abbrev pub markTop : List Marked → List Marked
+markTop xs = onFirst (λ x. record { screen = x .screen; mark = true }) xs
+
+module _ {A B : Type 0} (f : A → B) where
+  -- each screen replaced by what f makes of it
+  abbrev pub mapScreens : Stack A → Stack B
+  mapScreens t = stack (t .root) (map f (t .screens))
+
+  unfoldable pub mapState : State A → State B
+  mapState s = state (map mapScreens (s .tasks)) (s .main)
+
+-- "mark the front screen"
+unfoldable pub markFront : State ℕ → State Marked
+markFront s = state (onFirst (λ t. stack (t .root) (markTop (t .screens))) (mapState unmarked s .tasks)) (s .main)
+
+-- the task holds the marked screen
+abbrev pub holdsMark : Stack Marked → Bool
+holdsMark t = isPlace (find (λ x. x .mark) (t .screens))
+
+abbrev pub closeMarkAt : ℕ → State Marked → State Marked
+closeMarkAt zero s = s
+closeMarkAt (suc k) s = close k (pred (find (λ x. x .mark) (getD (s .tasks) k noStack .screens))) s
+
+-- "remove the marked screen if it still stands, as Back would in its task"
+unfoldable pub closeMarked : State Marked → State Marked
+closeMarked s = closeMarkAt (find holdsMark (s .tasks)) s
+
+-- "Finishing start: mark the front screen, start B, then remove the marked screen if it still stands, as Back would
+-- in its task. A mark travels with its screen; an emptied screen is gone, and the pushed B is unmarked."
+unfoldable pub finished : List ℕ → State ℕ → ℕ → ℕ → State ℕ
+finished tb s b w =
+    mapState (λ x. x .screen)
+    (closeMarked (carryChoice (λ x. eqb b (x .screen)) b (unmarked b) (chosen tb s b w) (markFront s)))
+
+-- ---- launch and Back
+
+-- "Launch: on an empty session, one task whose root and only screen is the main screen; m = 1."
+unfoldable pub launched : List ℕ → State ℕ
+launched tb = state (stack (mainScreen tb) (mainScreen tb ∷ []) ∷ []) 1
+
+-- "Back: removes the front screen; a task left empty goes, and m follows its task or becomes 0."
+unfoldable pub backed : State ℕ → State ℕ
+backed s = close 0 0 s
+
+-- ---- checks
+
+abbrev pub makesTask : Deed → Bool
+makesTask new = true
+makesTask (inFront c) = false
+makesTask (moveAnd c) = false
+
+abbrev pub isPush : Change → Bool
+isPush keep = false
+isPush renew = false
+isPush clear = false
+isPush lift = false
+isPush push = true
+
+-- a push "(not after empty)" onto a task of the greatest height; p is the place of the task found
+abbrev pub overfills : Deed → ℕ → State ℕ → Bool
+overfills new p s = false
+overfills (inFront c) p s = isPush c && eqb (height (front s)) mostHeight
+overfills (moveAnd c) p s = isPush c && eqb (height (taskAt (s .tasks) p)) mostHeight
+
+-- "23: a new task is needed and n = 16", "24: a push onto a task of 32 (not after empty)"
+abbrev pub roomChecks : Choice → State ℕ → List Check
+roomChecks c s =
+    check 23 (makesTask (deedOf (c .rule)) && eqb (count s) mostTasks)
+    ∷ check 24 (overfills (deedOf (c .rule)) (placeOf (c .found)) s)
+    ∷ []
+
+-- "Start checks 3, 4, 21, then 23 or 24." "3: start: B not below N", "4: start: a bit outside the six",
+-- "21: start, Back: empty"
+abbrev pub startChecks : List ℕ → State ℕ → ℕ → ℕ → List Check
+startChecks tb s b w =
+    check 3 (not (ltb b (sizeOf tb))) ∷ check 4 (hasOtherBit w) ∷ check 21 (isEmpty (s .tasks)) ∷ roomChecks (chosen tb s b w) s
+
+-- "those named for the call". "A finishing start has the same checks, made before the removal." "22: launch: not empty"
+unfoldable pub ownChecks : List ℕ → State ℕ → Call → List Check
+ownChecks tb s launch = check 22 (not (isEmpty (s .tasks))) ∷ []
+ownChecks tb s (start b w) = startChecks tb s b w
+ownChecks tb s (finishingStart b w) = startChecks tb s b w
+ownChecks tb s back = check 21 (isEmpty (s .tasks)) ∷ []
+ownChecks tb s look = []
+ownChecks tb s (restore bytes) = imageChecks tb bytes
+
+-- "The checks go in the order 1, 2, 20, then those named for the call." "20: the session is not sound under the table"
+abbrev pub checksIn : List ℕ → Bool → List Check → List Check
+checksIn tb isSound own = tableChecks tb ++ check 20 (not isSound) ∷ own
+
+-- ---- calls
+
+-- the session that a call makes where it is not refused. "Look: changes nothing."
+unfoldable pub done : List ℕ → State ℕ → Call → State ℕ
+done tb s launch = launched tb
+done tb s (start b w) = started tb s b w
+done tb s (finishingStart b w) = finished tb s b w
+done tb s back = backed s
+done tb s look = s
+done tb s (restore bytes) = sessionIn bytes
+
+unfoldable pub refusalOf : List ℕ → State ℕ → Call → ℕ
+refusalOf tb s c = refusal (checksIn tb (sound tb s) (ownChecks tb s c))
+
+-- the session and the answer that a call gives, refused or not
+unfoldable pub call : List ℕ → State ℕ → Call → Outcome
+call tb s c = settle (refusalOf tb s c) s (done tb s c)
+
+-- ---- save
+
+-- what save gives: "its number and length 0" or "0 and its length"; and the buffer
+pub record Saved : Type 0 where
+  pub refusal : ℕ
+  pub length : ℕ
+  pub buffer : List ℕ
+
+-- "8: save: buffer shorter than the image"
+abbrev pub saveChecks : State ℕ → List ℕ → List Check
+saveChecks s buffer = check 8 (ltb (length buffer) (length (image s))) ∷ []
+
+-- "Save writes it at the buffer's start, leaves the rest, and returns 0 and its length."
+abbrev pub settleSave : ℕ → State ℕ → List ℕ → Saved
+settleSave zero s buffer = record { refusal = 0; length = length (image s); buffer = image s ++ drop (length (image s)) buffer }
+settleSave (suc k) s buffer = record { refusal = suc k; length = 0; buffer = buffer }
+
+unfoldable pub save : List ℕ → State ℕ → List ℕ → Saved
+save tb s buffer = settleSave (refusal (checksIn tb (sound tb s) (saveChecks s buffer))) s buffer

@@ -1,0 +1,14 @@
+pub mod Lists
+pub mod Refusals
+pub mod Table
+pub mod Session
+pub mod Flags
+pub mod Search
+pub mod Rules
+pub mod Deeds
+pub mod Answers
+pub mod Image
+pub mod Calls
+pub mod Histories
+pub mod Player
+pub mod Promises

@@ -1,0 +1,100 @@
+-- Document 01, "Session": tasks, limits, soundness.
+-- A task is here a `Stack` and a session a `State`; `Task` and `Session` are the structs that store them.
+-- What stands in a task may be of any kind A: screens are numbers, and a finishing start puts marked ones there.
+use Prim.Native.Nat.{ℕ, pred}
+use mathlib.Core.Bool.{Bool, true, false, not, _&&_, _||_}
+use mathlib.Core.List.{List, [], _∷_}
+use lib.Dec.{leb, ltb, eqb}
+use lib.ListN.{length, getD}
+use Rattle.model.specs.Lists.{all, pairwise, if_then_else_}
+use Rattle.model.specs.Table.{sizeOf, mainScreen, isSingleInstance, rootsOnce}
+
+-- "The limits belong to the session: 16 tasks, 32 screens in a task."
+abbrev pub mostTasks : ℕ
+mostTasks = 16
+
+abbrev pub mostHeight : ℕ
+mostHeight = 32
+
+-- "A task has a root (the screen that created it; it never changes) and screens, top first."
+pub record Stack (A : Type 0) : Type 0 where
+  pub root : ℕ
+  pub screens : List A
+
+-- "A session is a list of n tasks, front first, and a main place m: the place (from 1) of the task made by launch, or
+-- 0 if that task is gone." The main place is 01's own term.
+pub record State (A : Type 0) : Type 0 where
+  pub tasks : List (Stack A)
+  pub main : ℕ
+
+module _ {A : Type 0} where
+  abbrev pub stack : ℕ → List A → Stack A
+  stack r xs = record { root = r; screens = xs }
+
+  abbrev pub state : List (Stack A) → ℕ → State A
+  state ts m = record { tasks = ts; main = m }
+
+  -- what is read where no task stands
+  abbrev pub noStack : Stack A
+  noStack = stack 0 []
+
+  -- the task at a place
+  abbrev pub taskAt : List (Stack A) → ℕ → Stack A
+  taskAt ts p = getD ts (pred p) noStack
+
+  abbrev pub front : State A → Stack A
+  front s = taskAt (s .tasks) 1
+
+  abbrev pub height : Stack A → ℕ
+  height t = length (t .screens)
+
+  -- n
+  abbrev pub count : State A → ℕ
+  count s = length (s .tasks)
+
+abbrev pub top : Stack ℕ → ℕ
+top t = getD (t .screens) 0 0
+
+-- "A is the front screen."
+abbrev pub frontScreen : State ℕ → ℕ
+frontScreen s = top (front s)
+
+-- "Fresh means empty and sound: n = 0, m = 0."
+abbrev pub fresh : State ℕ
+fresh = state [] 0
+
+-- that screen alone
+abbrev pub isAlone : ℕ → List ℕ → Bool
+isAlone r [] = false
+isAlone r (x ∷ []) = eqb x r
+isAlone r (x ∷ y ∷ ys) = false
+
+module _ (tb : List ℕ) where
+  -- "limits hold; .. every height is at least 1"
+  unfoldable pub heightFits : Stack ℕ → Bool
+  heightFits t = leb 1 (height t) && leb (height t) mostHeight
+
+  -- "every screen and root is below N"
+  unfoldable pub screensKnown : Stack ℕ → Bool
+  screensKnown t = ltb (t .root) (sizeOf tb) && all (λ x. ltb x (sizeOf tb)) (t .screens)
+
+  -- "a task with a single-instance root is that screen alone; such a screen stands nowhere else"
+  unfoldable pub instanceAlone : Stack ℕ → Bool
+  instanceAlone t =
+      if isSingleInstance tb (t .root) then isAlone (t .root) (t .screens) else all (λ x. not (isSingleInstance tb x)) (t .screens)
+
+  unfoldable pub taskSound : Stack ℕ → Bool
+  taskSound t = heightFits t && (screensKnown t && instanceAlone t)
+
+  -- "no single-task or single-instance screen is root of two tasks"
+  unfoldable pub rootsDiffer : Stack ℕ → Stack ℕ → Bool
+  rootsDiffer t u = not (rootsOnce tb (t .root) && eqb (t .root) (u .root))
+
+  -- "m ≤ n; and if m ≥ 1 its root is the main screen"
+  unfoldable pub mainSound : List (Stack ℕ) → ℕ → Bool
+  mainSound ts m = leb m (length ts) && (eqb m 0 || eqb (taskAt ts m .root) (mainScreen tb))
+
+  -- "A session is sound under a table when .."; what is said of storage is said where sessions are stored
+  unfoldable pub sound : State ℕ → Bool
+  sound s =
+      (leb (count s) mostTasks && all taskSound (s .tasks)) && (pairwise rootsDiffer (s .tasks) && mainSound (s .tasks) (s .main))
