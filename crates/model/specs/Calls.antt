@@ -4,14 +4,17 @@ use mathlib.Core.Bool.{Bool, true, false, not, _&&_}
 use mathlib.Core.List.{List, [], _∷_, _++_, map}
 use lib.Dec.{leb, ltb, eqb}
 use lib.ListN.{length, getD, drop}
+use Rattle.model.specs.declared.Choice.{Choice}
+use Rattle.model.specs.declared.Change.{Change}
+use Rattle.model.specs.declared.Deed.{Deed}
 use Rattle.model.specs.Lists.{isEmpty, isPlace, find, onFirst}
 use Rattle.model.specs.Refusals.{Check, check, refusal}
 use Rattle.model.specs.Table.{sizeOf, mainScreen, tableChecks}
 use Rattle.model.specs.Session.{Stack, State, stack, state, noStack, taskAt, front, height, count, mostTasks, mostHeight, sound}
 use Rattle.model.specs.Flags.{flagsOf, hasOtherBit}
 use Rattle.model.specs.Search.{placeOf}
-use Rattle.model.specs.Rules.{Choice, choose}
-use Rattle.model.specs.Deeds.{Deed, new, inFront, moveAnd, Change, keep, renew, clear, lift, push, deedOf, carryOut, close}
+use Rattle.model.specs.Rules.{choose}
+use Rattle.model.specs.Deeds.{deedOf, carryOut, close}
 use Rattle.model.specs.Answers.{Outcome, settle}
 use Rattle.model.specs.Image.{image, imageChecks, sessionIn}
 
@@ -93,22 +96,22 @@ backed s = close 0 0 s
 -- ---- checks
 
 abbrev pub makesTask : Deed → Bool
-makesTask new = true
-makesTask (inFront c) = false
-makesTask (moveAnd c) = false
+makesTask Deed.New = true
+makesTask (Deed.InFront c) = false
+makesTask (Deed.MoveAnd c) = false
 
 abbrev pub isPush : Change → Bool
-isPush keep = false
-isPush renew = false
-isPush clear = false
-isPush lift = false
-isPush push = true
+isPush Change.Keep = false
+isPush Change.Renew = false
+isPush Change.Clear = false
+isPush Change.Lift = false
+isPush Change.Push = true
 
 -- a push "(not after empty)" onto a task of the greatest height; p is the place of the task found
 abbrev pub overfills : Deed → ℕ → State ℕ → Bool
-overfills new p s = false
-overfills (inFront c) p s = isPush c && eqb (height (front s)) mostHeight
-overfills (moveAnd c) p s = isPush c && eqb (height (taskAt (s .tasks) p)) mostHeight
+overfills Deed.New p s = false
+overfills (Deed.InFront c) p s = isPush c && eqb (height (front s)) mostHeight
+overfills (Deed.MoveAnd c) p s = isPush c && eqb (height (taskAt (s .tasks) p)) mostHeight
 
 -- "23: a new task is needed and n = 16", "24: a push onto a task of 32 (not after empty)"
 abbrev pub roomChecks : Choice → State ℕ → List Check

@@ -5,39 +5,33 @@ use mathlib.Core.Bool.{Bool, true, false}
 use mathlib.Core.List.{List, [], _∷_}
 use lib.Dec.{eqb, ltb}
 use lib.ListN.{length, getD, drop}
+use Rattle.model.specs.declared.Rule.{Rule}
+use Rattle.model.specs.declared.Change.{Change}
+use Rattle.model.specs.declared.Deed.{Deed}
 use Rattle.model.specs.Lists.{if_then_else_, isEmpty, further, find, omit, toFront, onFirst}
 use Rattle.model.specs.Session.{Stack, State, stack, state, noStack}
-use Rattle.model.specs.Rules.{Rule, R1, R2, R3, R4, R5, R6, R7, R8, R9, R10, R11, R12, R13, R14, R15, R16, R17, R18}
 
--- what is done with the screens of the front task: nothing; "empty, push B"; "clear to B"; "lift"; "push B"
-pub data Change : Type 0 where
-  keep renew clear lift push : Change
-
--- what a rule does: "new"; a change of the front task; or "move" and a change of the task moved
-pub data Deed : Type 0 where
-  new : Deed
-  inFront moveAnd : Change → Deed
-
--- what 01 writes behind each rule's colon
+-- what 01 writes behind each rule's colon. A change is what is done with the screens of the front task: nothing
+-- (`Keep`), "empty, push B" (`Renew`), "clear to B", "lift" or "push B".
 unfoldable pub deedOf : Rule → Deed
-deedOf R1 = moveAnd keep
-deedOf R2 = new
-deedOf R3 = moveAnd renew
-deedOf R4 = moveAnd clear
-deedOf R5 = moveAnd push
-deedOf R6 = new
-deedOf R7 = inFront keep
-deedOf R8 = inFront clear
-deedOf R9 = inFront lift
-deedOf R10 = inFront push
-deedOf R11 = new
-deedOf R12 = moveAnd renew
-deedOf R13 = moveAnd clear
-deedOf R14 = moveAnd push
-deedOf R15 = moveAnd keep
-deedOf R16 = moveAnd keep
-deedOf R17 = moveAnd push
-deedOf R18 = new
+deedOf Rule.R1 = Deed.MoveAnd Change.Keep
+deedOf Rule.R2 = Deed.New
+deedOf Rule.R3 = Deed.MoveAnd Change.Renew
+deedOf Rule.R4 = Deed.MoveAnd Change.Clear
+deedOf Rule.R5 = Deed.MoveAnd Change.Push
+deedOf Rule.R6 = Deed.New
+deedOf Rule.R7 = Deed.InFront Change.Keep
+deedOf Rule.R8 = Deed.InFront Change.Clear
+deedOf Rule.R9 = Deed.InFront Change.Lift
+deedOf Rule.R10 = Deed.InFront Change.Push
+deedOf Rule.R11 = Deed.New
+deedOf Rule.R12 = Deed.MoveAnd Change.Renew
+deedOf Rule.R13 = Deed.MoveAnd Change.Clear
+deedOf Rule.R14 = Deed.MoveAnd Change.Push
+deedOf Rule.R15 = Deed.MoveAnd Change.Keep
+deedOf Rule.R16 = Deed.MoveAnd Change.Keep
+deedOf Rule.R17 = Deed.MoveAnd Change.Push
+deedOf Rule.R18 = Deed.New
 
 -- m when the task at place p comes to the front: "the others keeping their order, m following"
 unfoldable pub mainMoved : ℕ → ℕ → ℕ
@@ -55,11 +49,11 @@ module _ {A : Type 0} where
   -- "Clear to B removes all above the topmost B and keeps that B. Lift takes the topmost B to the top. .. Empty
   -- removes all screens of the moved task."
   unfoldable pub changed : (A → Bool) → A → Change → List A → List A
-  changed isB newB keep xs = xs
-  changed isB newB renew xs = newB ∷ []
-  changed isB newB clear xs = drop (pred (find isB xs)) xs
-  changed isB newB lift xs = toFront (pred (find isB xs)) xs
-  changed isB newB push xs = newB ∷ xs
+  changed isB newB Change.Keep xs = xs
+  changed isB newB Change.Renew xs = newB ∷ []
+  changed isB newB Change.Clear xs = drop (pred (find isB xs)) xs
+  changed isB newB Change.Lift xs = toFront (pred (find isB xs)) xs
+  changed isB newB Change.Push xs = newB ∷ xs
 
   unfoldable pub changeFront : (List A → List A) → State A → State A
   changeFront f s = state (onFirst (λ t. stack (t .root) (f (t .screens))) (s .tasks)) (s .main)
@@ -70,9 +64,9 @@ module _ {A : Type 0} where
 
   -- a deed carried out; p is the place of the task found
   unfoldable pub carryOut : (A → Bool) → ℕ → A → Deed → ℕ → State A → State A
-  carryOut isB b newB new p s = putNew b newB s
-  carryOut isB b newB (inFront c) p s = changeFront (changed isB newB c) s
-  carryOut isB b newB (moveAnd c) p s = changeFront (changed isB newB c) (move p s)
+  carryOut isB b newB Deed.New p s = putNew b newB s
+  carryOut isB b newB (Deed.InFront c) p s = changeFront (changed isB newB c) s
+  carryOut isB b newB (Deed.MoveAnd c) p s = changeFront (changed isB newB c) (move p s)
 
   -- the task behind k others loses the screen below i others; "a task left empty goes"
   unfoldable pub closeIn : ℕ → ℕ → List (Stack A) → List (Stack A)

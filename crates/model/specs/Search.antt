@@ -3,6 +3,7 @@ use Prim.Native.Nat.{ℕ}
 use mathlib.Core.Bool.{Bool, true, false, not, _&&_}
 use mathlib.Core.List.{List}
 use lib.Dec.{eqb}
+use Rattle.model.specs.declared.Found.{Found}
 use Rattle.model.specs.Lists.{if_then_else_, isPlace, find}
 use Rattle.model.specs.Table.{affinityOf, isSingleInstance}
 use Rattle.model.specs.Session.{Stack}
@@ -15,31 +16,27 @@ hasRoot b t = eqb (t .root) b
 unfoldable pub hasAffinity : List ℕ → ℕ → Stack ℕ → Bool
 hasAffinity tb b t = not (isSingleInstance tb (t .root)) && eqb (affinityOf tb (t .root)) (affinityOf tb b)
 
--- a task that was sought: none, or its place and how it was found
-pub data Found : Type 0 where
-  nowhere : Found
-  byRoot byAffinity : ℕ → Found
-
+-- a task that was sought is a `Found`: nowhere, or its place and how it was found
 abbrev pub placeOf : Found → ℕ
-placeOf nowhere = 0
-placeOf (byRoot p) = p
-placeOf (byAffinity p) = p
+placeOf Found.Nowhere = 0
+placeOf (Found.ByRoot p) = p
+placeOf (Found.ByAffinity p) = p
 
 abbrev pub isFound : Found → Bool
-isFound nowhere = false
-isFound (byRoot p) = true
-isFound (byAffinity p) = true
+isFound Found.Nowhere = false
+isFound (Found.ByRoot p) = true
+isFound (Found.ByAffinity p) = true
 
 abbrev pub isFoundByRoot : Found → Bool
-isFoundByRoot nowhere = false
-isFoundByRoot (byRoot p) = true
-isFoundByRoot (byAffinity p) = false
+isFoundByRoot Found.Nowhere = false
+isFoundByRoot (Found.ByRoot p) = true
+isFoundByRoot (Found.ByAffinity p) = false
 
 unfoldable pub seekRoot : ℕ → List (Stack ℕ) → Found
-seekRoot b ts = if isPlace (find (hasRoot b) ts) then byRoot (find (hasRoot b) ts) else nowhere
+seekRoot b ts = if isPlace (find (hasRoot b) ts) then Found.ByRoot (find (hasRoot b) ts) else Found.Nowhere
 
 unfoldable pub seekAffinity : List ℕ → ℕ → List (Stack ℕ) → Found
-seekAffinity tb b ts = if isPlace (find (hasAffinity tb b) ts) then byAffinity (find (hasAffinity tb b) ts) else nowhere
+seekAffinity tb b ts = if isPlace (find (hasAffinity tb b) ts) then Found.ByAffinity (find (hasAffinity tb b) ts) else Found.Nowhere
 
 -- "sought by root, then by affinity": all tasks by root first
 unfoldable pub seek : List ℕ → ℕ → List (Stack ℕ) → Found

@@ -22,3 +22,54 @@ pub struct Flags {
     pub rtf: bool,
     pub ctk: bool,
 }
+
+// The rules of a start.
+pub enum Rule {
+    R1,
+    R2,
+    R3,
+    R4,
+    R5,
+    R6,
+    R7,
+    R8,
+    R9,
+    R10,
+    R11,
+    R12,
+    R13,
+    R14,
+    R15,
+    R16,
+    R17,
+    R18,
+}
+
+// A task that was sought: none, or its place and how it was found.
+pub enum Found {
+    Nowhere,
+    ByRoot(u8),
+    ByAffinity(u8),
+}
+
+// The rule that a start uses, and the task that was found for it.
+pub struct Choice {
+    pub rule: Rule,
+    pub found: Found,
+}
+
+// What is done with the screens of a task: nothing; empty, push B; clear to B; lift; push B.
+pub enum Change {
+    Keep,
+    Renew,
+    Clear,
+    Lift,
+    Push,
+}
+
+// What a rule does: a new task; a change of the front task; or a move and a change of the task moved.
+pub enum Deed {
+    New,
+    InFront(Change),
+    MoveAnd(Change),
+}

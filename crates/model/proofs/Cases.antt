@@ -1,0 +1,131 @@
+-- Document 01, "Stacks to prove", in one table with one theorem; and the player's example, byte for byte.
+-- Both are proved by computing: every definition is unfolded.
+use Prim.Native.Nat.{ℕ, zero, suc, _+_}
+use Prim.Native.Char.{code}
+use Prim.Native.String.{String, [] as noText, _∷_ as moreText}
+use mathlib.Core.Path.{_≡_, refl}
+use mathlib.Core.List.{List, [], _∷_, _++_, map}
+use lib.ListN.{replicate}
+use Rattle.model.specs.Refusals.{refusal}
+use Rattle.model.specs.Table.{modeOf, affinityOf, isSingleTop, isSingleTask, isSingleInstance, rootsOnce, tableShaped, tableFilled}
+use Rattle.model.specs.Session.{State, stack, state, fresh, heightFits, screensKnown, instanceAlone, taskSound, rootsDiffer, mainSound, sound}
+use Rattle.model.specs.Flags.{NTK, STP, MTK, CTP, RTF, CTK, flagsOf, hasOtherBit}
+use Rattle.model.specs.Search.{hasRoot, hasAffinity, seekRoot, seekAffinity, seek, holds}
+use Rattle.model.specs.Rules.{rulesOf, isSingle, isApart, groupOf, soughtBy, fits, chooseIn, choose}
+use Rattle.model.specs.Deeds.{deedOf, mainMoved, mainWithout, move, changed, changeFront, putNew, carryOut, closeIn, close}
+use Rattle.model.specs.Answers.{lookAt}
+use Rattle.model.specs.Image.{image, imageShaped, readTasks, imageReadable, sessionIn}
+use Rattle.model.specs.Calls.{Call, start, finishingStart, started, mapState, markFront, closeMarked, finished, launched, backed, ownChecks, done, refusalOf, call, save}
+use Rattle.model.specs.Player.{decimal, lineText, lineOf, requestOf, recordsIn, reply, textOf, startsWithTable, playerText}
+
+unfoldable computing : Unit {0}
+unfolding refusal modeOf affinityOf isSingleTop isSingleTask isSingleInstance rootsOnce tableShaped tableFilled heightFits screensKnown instanceAlone taskSound rootsDiffer mainSound sound flagsOf hasOtherBit hasRoot hasAffinity seekRoot seekAffinity seek holds rulesOf isSingle isApart groupOf soughtBy fits chooseIn choose deedOf mainMoved mainWithout move changed changeFront putNew carryOut closeIn close lookAt image imageShaped readTasks imageReadable sessionIn started mapState markFront closeMarked finished launched backed ownChecks done refusalOf call save decimal lineText lineOf requestOf recordsIn reply textOf startsWithTable playerText
+computing = tt
+
+-- "Table T, hex: 06 00 00 01 00 01 01 01 02 02 03 01 00 02"
+abbrev T : List ℕ
+T = 0x06 ∷ 0x00 ∷ 0x00 ∷ 0x01 ∷ 0x00 ∷ 0x01 ∷ 0x01 ∷ 0x01 ∷ 0x02 ∷ 0x02 ∷ 0x03 ∷ 0x01 ∷ 0x00 ∷ 0x02 ∷ []
+
+-- what a case looks at: the refusal and the session after a call, or the bytes of an image
+data Result : Type 0 where
+  ends : ℕ → State ℕ → Result
+  bytes : List ℕ → Result
+
+-- one row of the table: what the definitions give, and what 01 says
+record Case : Type 0 where
+  got : Result
+  said : Result
+
+-- a call that is accepted; one that is refused and keeps the session; an image
+abbrev accepted : State ℕ → Call → State ℕ → Case
+accepted s c s′ = record { got = ends (call T s c .answer .refusal) (call T s c .session); said = ends 0 s′ }
+
+abbrev refusedWith : ℕ → State ℕ → Call → Case
+refusedWith k s c = record { got = ends (call T s c .answer .refusal) (call T s c .session); said = ends k s }
+
+abbrev hasImage : State ℕ → List ℕ → Case
+hasImage s l = record { got = bytes (image s); said = bytes l }
+
+-- 0:[2,1,0], m 1
+abbrev three : State ℕ
+three = state (stack 0 (2 ∷ 1 ∷ 0 ∷ []) ∷ []) 1
+
+-- 4:[4] 3:[3] 0:[1,0], m 3
+abbrev instanceInFront : State ℕ
+instanceInFront = state (stack 4 (4 ∷ []) ∷ stack 3 (3 ∷ []) ∷ stack 0 (1 ∷ 0 ∷ []) ∷ []) 3
+
+-- 5:[1,5] 0:[0], m 2
+abbrev rootInFront : State ℕ
+rootInFront = state (stack 5 (1 ∷ 5 ∷ []) ∷ stack 0 (0 ∷ []) ∷ []) 2
+
+-- 3:[3] 0:[0], m 2
+abbrev singleTaskInFront : State ℕ
+singleTaskInFront = state (stack 3 (3 ∷ []) ∷ stack 0 (0 ∷ []) ∷ []) 2
+
+-- 0:[0], m 1
+abbrev one : State ℕ
+one = state (stack 0 (0 ∷ []) ∷ []) 1
+
+-- a task whose root is the main screen 0, with screen 0 below n copies of screen 1
+abbrev tall : ℕ → State ℕ
+tall n = state (stack 0 (replicate n 1 ++ 0 ∷ []) ∷ []) 1
+
+-- 16 tasks of the standard screen 0
+abbrev crowd : ℕ → State ℕ
+crowd n = state (replicate n (stack 0 (0 ∷ []))) 0
+
+abbrev cases : List Case
+cases =
+    -- P1, P2 in both its forms, P3
+    accepted three (start 1 RTF) (state (stack 0 (1 ∷ 2 ∷ 0 ∷ []) ∷ []) 1)
+    ∷ accepted three (start 1 CTP) (state (stack 0 (1 ∷ 0 ∷ []) ∷ []) 1)
+    ∷ accepted three (start 1 (CTP + RTF)) (state (stack 0 (1 ∷ 0 ∷ []) ∷ []) 1)
+    ∷ accepted three (start 2 0) three
+    -- P4, P5
+    ∷ accepted instanceInFront (start 1 0) (state (stack 0 (1 ∷ 1 ∷ 0 ∷ []) ∷ stack 4 (4 ∷ []) ∷ stack 3 (3 ∷ []) ∷ []) 1)
+    ∷ accepted instanceInFront (start 1 STP) (state (stack 0 (1 ∷ 0 ∷ []) ∷ stack 4 (4 ∷ []) ∷ stack 3 (3 ∷ []) ∷ []) 1)
+    -- P6, P7
+    ∷ accepted rootInFront (start 5 NTK) rootInFront
+    ∷ accepted singleTaskInFront (start 3 (NTK + MTK)) singleTaskInFront
+    -- P8, P9
+    ∷ accepted one (finishingStart 0 (NTK + CTK)) one
+    ∷ accepted one (finishingStart 0 (NTK + STP)) fresh
+    -- P10
+    ∷ hasImage (state (stack 3 (3 ∷ []) ∷ stack 0 (1 ∷ 0 ∷ []) ∷ []) 2)
+    (0x03 ∷ 0x01 ∷ 0x03 ∷ 0x00 ∷ 0x02 ∷ 0x01 ∷ 0x00 ∷ 0x00 ∷ 0x07 ∷ 0x02 ∷ 0x02 ∷ 0x08 ∷ 0x42 ∷ [])
+    -- "A task of 31 takes a push, one of 32 gives 24. RTF on a screen inside a task of 32 is accepted."
+    ∷ accepted (tall 30) (start 1 0) (tall 31)
+    ∷ refusedWith 24 (tall 31) (start 1 0)
+    ∷ accepted (tall 31) (start 0 RTF) (state (stack 0 (0 ∷ replicate 31 1) ∷ []) 1)
+    -- "23: a new task is needed and n = 16": 15 tasks take one, 16 do not
+    ∷ accepted (crowd 15) (start 0 (NTK + MTK)) (crowd 16)
+    ∷ refusedWith 23 (crowd 16) (start 0 (NTK + MTK))
+    -- "testing in R15 for the main task by comparing the place found before the move with m after it": the task found
+    -- is at 2, the main task at 1
+    ∷ accepted (state (stack 0 (0 ∷ []) ∷ stack 5 (1 ∷ 5 ∷ []) ∷ []) 1) (start 5 NTK) rootInFront
+    ∷ []
+
+stacks : map (λ (c : Case). c .got) cases ≡ map (λ (c : Case). c .said) cases
+unfolding computing
+stacks = refl
+
+-- ---- the player's example
+
+-- the bytes of a text
+abbrev ascii : String → List ℕ
+ascii noText = []
+ascii (moreText c t) = code c ∷ ascii t
+
+-- "Records: 010000000000 020100000000 020300000000 030010000000, four of 040000000000."
+abbrev example : List ℕ
+example =
+    T
+    ++ (0x01 ∷ 0x00 ∷ 0x00 ∷ 0x00 ∷ 0x00 ∷ 0x00 ∷ 0x02 ∷ 0x01 ∷ 0x00 ∷ 0x00 ∷ 0x00 ∷ 0x00 ∷ [])
+    ++ (0x02 ∷ 0x03 ∷ 0x00 ∷ 0x00 ∷ 0x00 ∷ 0x00 ∷ 0x03 ∷ 0x00 ∷ 0x10 ∷ 0x00 ∷ 0x00 ∷ 0x00 ∷ [])
+    ++ (0x04 ∷ 0x00 ∷ 0x00 ∷ 0x00 ∷ 0x00 ∷ 0x00 ∷ 0x04 ∷ 0x00 ∷ 0x00 ∷ 0x00 ∷ 0x00 ∷ 0x00 ∷ [])
+    ++ (0x04 ∷ 0x00 ∷ 0x00 ∷ 0x00 ∷ 0x00 ∷ 0x00 ∷ 0x04 ∷ 0x00 ∷ 0x00 ∷ 0x00 ∷ 0x00 ∷ 0x00 ∷ [])
+
+played : playerText example
+    ≡ ascii "1 0 0 0 1 1 1\n2 0 1 0 2 1 1\n2 0 3 3 1 2 2\n3 0 0 0 3 1 1\n4 0 1 0 2 1 1\n4 0 0 0 1 1 1\n4 0 0 0 0 0 0\n4 21 0 0 0 0 0\n"
+unfolding computing
+played = refl
