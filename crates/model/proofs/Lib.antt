@@ -1,3 +1,5 @@
 pub mod Logic
 pub mod Sound
+pub mod ListLaws
+pub mod Marks
 pub mod Cases

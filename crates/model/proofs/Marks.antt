@@ -1,0 +1,280 @@
+-- The mark of a finishing start, followed as a position. `finished` runs the start on screens that carry a mark and
+-- closes the marked one; here that is shown to be the plain start, and then closing the screen at a position that is
+-- read off the deed: `finished-carry`. Code follows the position.
+use Prim.Native.Nat.{ℕ, zero, suc, _≤_, _<_, pred}
+use mathlib.Core.Path.{_≡_, refl, sym, _∙_, ap, ap₂}
+use mathlib.Core.Bool.{Bool, true, false, false≢true}
+use mathlib.Core.List.{List, [], _∷_, map}
+use native.Mathlib.Nat.{not-suc-le-zero, le-of-suc-le-suc}
+use native.Mathlib.Omega.{arith}
+use lib.Dec.{eqb, leb}
+use lib.ListN.{length, getD, drop, length-map, List·getD-map}
+use borrow.Author.Tests.{lt-leb}
+use Rattle.model.specs.declared.Change.{Change}
+use Rattle.model.specs.declared.Deed.{Deed}
+use Rattle.model.specs.Lists.{if_then_else_, isEmpty, isPlace, further, find, omit, putSecond, toFront, onFirst, All}
+use Rattle.model.specs.Session.{Stack, State, stack, state, noStack, front, count}
+use Rattle.model.specs.Search.{holds}
+use Rattle.model.specs.Deeds.{move, changed, changeFront, putNew, carryOut, closeIn, close, mainWithout}
+use Rattle.model.specs.Calls.{Marked, unmarked, markTop, mapScreens, mapState, markFront, holdsMark, closeMarkAt, closeMarked}
+use Rattle.model.proofs.Logic.{All-of}
+use Rattle.model.proofs.ListLaws.{toFront-length, All-drop, All-toFront, All-to-map, map-omit, map-toFront, map-drop, map-onFirst, find-map, isEmpty-map}
+
+-- ---- the position
+
+-- where the marked screen stands after the start: nowhere, or behind k tasks and below i screens
+pub data Mark : Type 0 where
+  gone : Mark
+  stands : ℕ → ℕ → Mark
+
+-- after a change of its own task; the test tells whether the marked screen is B
+abbrev pub markIn : Change → Bool → Mark
+markIn Change.Keep isB = stands 0 0
+markIn Change.Renew isB = gone
+markIn Change.Clear isB = if isB then stands 0 0 else gone
+markIn Change.Lift isB = if isB then stands 0 0 else stands 0 1
+markIn Change.Push isB = stands 0 1
+
+-- after a deed; p is the place of the task found
+abbrev pub markAfter : Deed → ℕ → Bool → Mark
+markAfter Deed.New p isB = stands 1 0
+markAfter (Deed.InFront c) p isB = markIn c isB
+markAfter (Deed.MoveAnd c) p isB = if leb p 1 then markIn c isB else stands 1 0
+
+abbrev pub closeAt : {A : Type 0} → Mark → State A → State A
+closeAt gone s = s
+closeAt (stands k i) s = close k i s
+
+-- ---- deeds and closing do not look at marks
+
+module _ {A B : Type 0} (f : A → B) where
+  map-close-in : (k i : ℕ) (ts : List (Stack A)) → map (mapScreens f) (closeIn k i ts) ≡ closeIn k i (map (mapScreens f) ts)
+  unfolding closeIn
+  map-close-in k i [] = refl
+  map-close-in zero i (t ∷ ts) =
+      rw (← (map-omit f i (t .screens)), isEmpty-map f (omit i (t .screens))) (go (isEmpty (omit i (t .screens))))
+    where
+      go : (b : Bool) → map (mapScreens f) (if b then ts else stack (t .root) (omit i (t .screens)) ∷ ts)
+          ≡ (if b then map (mapScreens f) ts else stack (t .root) (map f (omit i (t .screens))) ∷ map (mapScreens f) ts)
+      go true = refl
+      go false = refl
+  map-close-in (suc k) i (t ∷ ts) = ap (λ (us : List (Stack B)). mapScreens f t ∷ us) (map-close-in k i ts)
+
+  map-close : (k i : ℕ) (s : State A) → mapState f (close k i s) ≡ close k i (mapState f s)
+  unfolding mapState close
+  map-close k i s =
+      rw (
+        map-close-in k i (s .tasks),
+        List·getD-map (mapScreens f) (s .tasks) k noStack,
+        ← (map-omit f i (getD (s .tasks) k noStack .screens)),
+        isEmpty-map f (omit i (getD (s .tasks) k noStack .screens)),
+      )
+
+  map-close-at : (k : Mark) (s : State A) → mapState f (closeAt k s) ≡ closeAt k (mapState f s)
+  map-close-at gone s = refl
+  map-close-at (stands k i) s = map-close k i s
+
+  module _ (isB : B → Bool) (b : ℕ) (x : A) where
+    map-changed : (c : Change) (xs : List A) → map f (changed (λ y. isB (f y)) x c xs) ≡ changed isB (f x) c (map f xs)
+    unfolding changed
+    map-changed Change.Keep xs = refl
+    map-changed Change.Renew xs = refl
+    map-changed Change.Clear xs = rw (find-map f isB xs) (map-drop f (pred (find (λ y. isB (f y)) xs)) xs)
+    map-changed Change.Lift xs = rw (find-map f isB xs) (map-toFront f (pred (find (λ y. isB (f y)) xs)) xs)
+    map-changed Change.Push xs = refl
+
+    map-change-front : (c : Change) (s : State A)
+        → mapState f (changeFront (changed (λ y. isB (f y)) x c) s) ≡ changeFront (changed isB (f x) c) (mapState f s)
+    unfolding mapState changeFront
+    map-change-front c s =
+        ap (λ (ts : List (Stack B)). state ts (s .main))
+        (map-onFirst (mapScreens f) (λ t. stack (t .root) (changed (λ y. isB (f y)) x c (t .screens)))
+        (λ t. stack (t .root) (changed isB (f x) c (t .screens)))
+        (λ t. ap (stack (t .root)) (map-changed c (t .screens))) (s .tasks))
+
+    map-move : (p : ℕ) (s : State A) → mapState f (move p s) ≡ move p (mapState f s)
+    unfolding mapState move
+    map-move p s = rw (map-toFront (mapScreens f) (pred p) (s .tasks))
+
+    map-carry : (d : Deed) (p : ℕ) (s : State A) → mapState f (carryOut (λ y. isB (f y)) b x d p s) ≡ carryOut isB b (f x) d p (mapState f s)
+    unfolding carryOut mapState putNew
+    map-carry Deed.New p s = refl
+    map-carry (Deed.InFront c) p s = map-change-front c s
+    map-carry (Deed.MoveAnd c) p s = map-change-front c (move p s) ∙ ap (changeFront (changed isB (f x) c)) (map-move p s)
+
+-- ---- where the mark is found
+
+pub find-all-false : {A : Type 0} (q : A → Bool) (xs : List A) → All (λ x. q x ≡ false) xs → find q xs ≡ 0
+find-all-false q [] h = refl
+find-all-false q (x ∷ xs) h = rw (h .0, find-all-false q xs (h .1))
+
+abbrev isMarked : Marked → Bool
+isMarked y = y .mark
+
+abbrev Unmarked : List Marked → Type 0
+Unmarked ys = All (λ y. isMarked y ≡ false) ys
+
+unmarked-all : (xs : List ℕ) → Unmarked (map unmarked xs)
+unmarked-all xs = All-to-map unmarked (λ y. isMarked y ≡ false) xs (All-of (λ x. refl) xs)
+
+-- no task of the list holds the mark
+abbrev Unheld : List (Stack Marked) → Type 0
+Unheld ts = All (λ t. Unmarked (t .screens)) ts
+
+unheld-all : (ts : List (Stack ℕ)) → Unheld (map (mapScreens unmarked) ts)
+unheld-all ts = All-to-map (mapScreens unmarked) (λ t. Unmarked (t .screens)) ts (All-of (λ t. unmarked-all (t .screens)) ts)
+
+unheld-none : (ts : List (Stack Marked)) → Unheld ts → find holdsMark ts ≡ 0
+unheld-none [] h = refl
+unheld-none (t ∷ ts) h = rw (find-all-false isMarked (t .screens) (h .0), unheld-none ts (h .1))
+
+module _ (r m : ℕ) (ys : List Marked) (us : List (Stack Marked)) where
+  -- the mark is in the front task
+  marked-first : (i : ℕ) → find isMarked ys ≡ suc i → closeMarked (state (stack r ys ∷ us) m) ≡ close 0 i (state (stack r ys ∷ us) m)
+  unfolding closeMarked
+  marked-first i e = rw (e, e)
+
+  -- it is nowhere
+  marked-none : Unmarked ys → Unheld us → closeMarked (state (stack r ys ∷ us) m) ≡ state (stack r ys ∷ us) m
+  unfolding closeMarked
+  marked-none h k = rw (find-all-false isMarked ys h, unheld-none us k)
+
+-- it is on top of the second task
+marked-second : (m : ℕ) (t u : Stack Marked) (y : Marked) (ys : List Marked) (us : List (Stack Marked))
+    → Unmarked (t .screens) → u .screens ≡ y ∷ ys → isMarked y ≡ true
+    → closeMarked (state (t ∷ u ∷ us) m) ≡ close 1 0 (state (t ∷ u ∷ us) m)
+unfolding closeMarked
+marked-second m t u y ys us h e g = rw (find-all-false isMarked (t .screens) h, e, g)
+
+-- ---- the start carried out on marked screens
+
+-- what the change of the marked screen's own task needs: B stands there, where it is cleared to or lifted
+abbrev pub AbleIn : Change → ℕ → List ℕ → Type 0
+AbleIn Change.Keep b xs = Unit {0}
+AbleIn Change.Renew b xs = Unit {0}
+AbleIn Change.Clear b xs = holds b xs ≡ true
+AbleIn Change.Lift b xs = holds b xs ≡ true
+AbleIn Change.Push b xs = Unit {0}
+
+-- what a deed needs
+abbrev pub Able : Deed → ℕ → ℕ → State ℕ → Type 0
+Able Deed.New p b s = Unit {0}
+Able (Deed.InFront c) p b s = AbleIn c b (front s .screens)
+Able (Deed.MoveAnd c) p b s = (p ≤ count s) × (p ≤ 1 → AbleIn c b (front s .screens))
+
+-- a session whose front screen is x
+module _ (b r x m : ℕ) (xs : List ℕ) (ts : List (Stack ℕ)) where
+  abbrev before : State ℕ
+  before = state (stack r (x ∷ xs) ∷ ts) m
+
+  abbrev isBmarked : Marked → Bool
+  isBmarked y = eqb b (y .screen)
+
+  abbrev markedX : Marked
+  markedX = record { screen = x; mark = true }
+
+  abbrev below : List Marked
+  below = map unmarked xs
+
+  abbrev others : List (Stack Marked)
+  others = map (mapScreens unmarked) ts
+
+  -- a change keeps unmarked screens unmarked
+  changed-unmarked : (c : Change) (ys : List Marked) → Unmarked ys → Unmarked (changed isBmarked (unmarked b) c ys)
+  unfolding changed
+  changed-unmarked Change.Keep ys h = h
+  changed-unmarked Change.Renew ys h = (refl, tt)
+  changed-unmarked Change.Clear ys h = All-drop (λ y. isMarked y ≡ false) (pred (find isBmarked ys)) ys h
+  changed-unmarked Change.Lift ys h = All-toFront (λ y. isMarked y ≡ false) (pred (find isBmarked ys)) ys h
+  changed-unmarked Change.Push ys h = (refl, h)
+
+  -- B is another screen, and stands below
+  stands-below : eqb b x ≡ false → holds b (x ∷ xs) ≡ true → isPlace (find isBmarked below) ≡ true
+  unfolding holds
+  stands-below e h = go (find (eqb b) xs) (find-map unmarked isBmarked xs) (rw e at h)
+    where
+      go : (n : ℕ) → find isBmarked below ≡ n → isPlace (further n) ≡ true → isPlace (find isBmarked below) ≡ true
+      go zero f g = absurd (false≢true g)
+      go (suc n) f g = rw f
+
+  second-marked : (ys : List Marked) → 1 ≤ length ys → Unmarked ys → find isMarked (putSecond markedX ys) ≡ 2
+  second-marked [] l h = absurd (not-suc-le-zero l)
+  second-marked (y ∷ ys) l h = rw (h .0)
+
+  -- the mark after a change of the front task
+  front-mark : (m′ : ℕ) (c : Change) (same : Bool) → eqb b x ≡ same → AbleIn c b (x ∷ xs)
+      → closeMarked (state (stack r (changed isBmarked (unmarked b) c (markedX ∷ below)) ∷ others) m′)
+      ≡ closeAt (markIn c same) (state (stack r (changed isBmarked (unmarked b) c (markedX ∷ below)) ∷ others) m′)
+  unfolding changed
+  front-mark m′ Change.Keep same e h = marked-first r m′ (markedX ∷ below) others 0 refl
+  front-mark m′ Change.Renew same e h = marked-none r m′ (unmarked b ∷ []) others (refl, tt) (unheld-all ts)
+  front-mark m′ Change.Clear true e h = rw e (marked-first r m′ (markedX ∷ below) others 0 refl)
+  front-mark m′ Change.Clear false e h = rw e (go (find isBmarked below) (stands-below e h))
+    where
+      go : (n : ℕ) → isPlace n ≡ true
+          → closeMarked (state (stack r (drop (pred (further n)) (markedX ∷ below)) ∷ others) m′)
+          ≡ state (stack r (drop (pred (further n)) (markedX ∷ below)) ∷ others) m′
+      go zero g = absurd (false≢true g)
+      go (suc n) g = marked-none r m′ (drop n below) others (All-drop (λ y. isMarked y ≡ false) n below (unmarked-all xs)) (unheld-all ts)
+  front-mark m′ Change.Lift true e h = rw e (marked-first r m′ (markedX ∷ below) others 0 refl)
+  front-mark m′ Change.Lift false e h = rw e (go (find isBmarked below) refl (stands-below e h))
+    where
+      some : (ys : List Marked) → isPlace (find isBmarked ys) ≡ true → 1 ≤ length ys
+      some [] g = absurd (false≢true g)
+      some (y ∷ ys) g = omega arith
+
+      go : (n : ℕ) → find isBmarked below ≡ n → isPlace (find isBmarked below) ≡ true
+          → closeMarked (state (stack r (toFront (pred (further n)) (markedX ∷ below)) ∷ others) m′)
+          ≡ close 0 1 (state (stack r (toFront (pred (further n)) (markedX ∷ below)) ∷ others) m′)
+      go zero f g = absurd (false≢true (rw f at g))
+      go (suc n) f g =
+          marked-first r m′ (putSecond markedX (toFront n below)) others 1
+          (second-marked (toFront n below) (omega (arith, toFront-length n below, some below g))
+          (All-toFront (λ y. isMarked y ≡ false) n below (unmarked-all xs)))
+  front-mark m′ Change.Push same e h = marked-first r m′ (unmarked b ∷ markedX ∷ below) others 1 refl
+
+  -- a task comes before the marked one
+  moved-mark : (m′ : ℕ) (c : Change) (us : List (Stack Marked)) → 1 ≤ length us → Unheld us
+      → closeMarked (changeFront (changed isBmarked (unmarked b) c) (state (putSecond (stack r (markedX ∷ below)) us) m′))
+      ≡ close 1 0 (changeFront (changed isBmarked (unmarked b) c) (state (putSecond (stack r (markedX ∷ below)) us) m′))
+  unfolding changeFront
+  moved-mark m′ c [] l h = absurd (not-suc-le-zero l)
+  moved-mark m′ c (u ∷ us) l h =
+      marked-second m′ _ (stack r (markedX ∷ below)) markedX below us (changed-unmarked c (u .screens) (h .0)) refl refl
+
+  carry-mark : (d : Deed) (p : ℕ) (same : Bool) → eqb b x ≡ same → Able d p b before
+      → closeMarked (carryOut isBmarked b (unmarked b) d p (markFront before))
+      ≡ closeAt (markAfter d p same) (carryOut isBmarked b (unmarked b) d p (markFront before))
+  unfolding carryOut markFront mapState putNew changeFront move
+  carry-mark Deed.New p same e h = marked-second _ (stack b (unmarked b ∷ [])) (stack r (markedX ∷ below)) markedX below others (refl, tt) refl refl
+  carry-mark (Deed.InFront c) p same e h = front-mark m c same e h
+  carry-mark (Deed.MoveAnd c) zero same e h = front-mark _ c same e (h .1 (omega arith))
+  carry-mark (Deed.MoveAnd c) (suc zero) same e h = front-mark _ c same e (h .1 (omega arith))
+  carry-mark (Deed.MoveAnd c) (suc (suc k)) same e h =
+      rw (lt-leb (suc (suc k)) 1 (omega arith))
+      (moved-mark _ c (toFront k others) (omega (arith, toFront-length k others, length-map ts (mapScreens unmarked), h .0))
+      (All-toFront (λ t. Unmarked (t .screens)) k others (unheld-all ts)))
+
+  -- without its mark the marked session is the session itself
+  forget-mark : mapState (λ y. y .screen) (markFront before) ≡ before
+  unfolding mapState markFront
+  forget-mark =
+      ap₂ (λ (ys : List ℕ) (us : List (Stack ℕ)). state (stack r (x ∷ ys) ∷ us) m) (plain xs) (plains ts)
+    where
+      plain : (zs : List ℕ) → map (λ y. y .screen) (map unmarked zs) ≡ zs
+      plain [] = refl
+      plain (z ∷ zs) = ap (λ (l : List ℕ). z ∷ l) (plain zs)
+
+      plains : (us : List (Stack ℕ)) → map (mapScreens (λ y. y .screen)) (map (mapScreens unmarked) us) ≡ us
+      plains [] = refl
+      plains (u ∷ us) = ap₂ (λ (zs : List ℕ) (vs : List (Stack ℕ)). stack (u .root) zs ∷ vs) (plain (u .screens)) (plains us)
+
+  -- a finishing start is the start, and then the screen at the mark's position closes
+  pub finished-carry : (d : Deed) (p : ℕ) → Able d p b before
+      → mapState (λ y. y .screen) (closeMarked (carryOut isBmarked b (unmarked b) d p (markFront before)))
+      ≡ closeAt (markAfter d p (eqb b x)) (carryOut (eqb b) b b d p before)
+  finished-carry d p h =
+      ap (mapState (λ y. y .screen)) (carry-mark d p (eqb b x) refl h)
+      ∙ map-close-at (λ y. y .screen) (markAfter d p (eqb b x)) (carryOut isBmarked b (unmarked b) d p (markFront before))
+      ∙ ap (closeAt (markAfter d p (eqb b x)))
+      (map-carry (λ y. y .screen) (eqb b) b (unmarked b) d p (markFront before) ∙ ap (carryOut (eqb b) b b d p) forget-mark)
