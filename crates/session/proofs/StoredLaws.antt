@@ -12,6 +12,7 @@ use borrow.Author.Tests.{leb-true, eqb-true, le-leb}
 use Rattle.model.specs.Lists.{all, All}
 use Rattle.model.specs.Session.{Stack, State, stack, noStack, count, height, fresh, mostTasks, mostHeight, sound}
 use Rattle.model.proofs.Logic.{and-left, and-right, All-map, All-of, all-decides, eqb-decides}
+use Rattle.model.proofs.ListLaws.{All-take, All-drop, All-append, All-to-map}
 use Rattle.model.proofs.Sound.{Sound, sound-decides}
 use Rattle.session.specs.declared.Task.{Task}
 use Rattle.session.specs.declared.Session.{Session}
@@ -22,16 +23,6 @@ use Rattle.session.proofs.Padding.{pad-length, take-pad, drop-pad, pad-
 -- ---- lists of what is known of each element
 
 module _ {A : Type 0} where
-  All-take : (P : A → Type 0) (k : ℕ) (xs : List A) → All P xs → All P (take k xs)
-  All-take P zero xs h = tt
-  All-take P (suc k) [] h = tt
-  All-take P (suc k) (x ∷ xs) h = (h .0, All-take P k xs (h .1))
-
-  All-drop : (P : A → Type 0) (k : ℕ) (xs : List A) → All P xs → All P (drop k xs)
-  All-drop P zero xs h = h
-  All-drop P (suc k) [] h = tt
-  All-drop P (suc k) (x ∷ xs) h = All-drop P k xs (h .1)
-
   -- from a statement and a test that hold of each
   all-then : (P Q : A → Type 0) (p : A → Bool) → ((x : A) → P x → p x ≡ true → Q x) → (xs : List A) → All P xs → all p xs ≡ true → All Q xs
   all-then P Q p f [] h e = tt
@@ -41,6 +32,10 @@ module _ {A : Type 0} where
   all-replicate : (p : A → Bool) (z : A) (k : ℕ) → p z ≡ true → all p (replicate k z) ≡ true
   all-replicate p z zero e = refl
   all-replicate p z (suc k) e = rw (e, all-replicate p z k e)
+
+  All-replicate : (P : A → Type 0) (z : A) (k : ℕ) → P z → All P (replicate k z)
+  All-replicate P z zero h = tt
+  All-replicate P z (suc k) h = (h, All-replicate P z k h)
 
   -- a list of one value
   one-value : (z : A) (xs : List A) → All (λ x. z ≡ x) xs → xs ≡ replicate (length xs) z
@@ -149,6 +144,10 @@ pub record Fits (v : State ℕ) : Type 0 where
 pub sound-fits : (tb : List ℕ) (v : State ℕ) → Sound tb v → Fits v
 sound-fits tb v h = record { few = h .few; low = All-map (λ t k. k .low) (v .tasks) (h .each) }
 
+hold-screens : (t : Stack ℕ) → height t ≤ mostHeight → Screens32 (holdTask t)
+unfolding holdTask
+hold-screens t h = pad-length mostHeight 0 (reverse (t .screens)) (omega (arith, length-reverse (t .screens)))
+
 held-blank : (ts : List (Stack ℕ)) → All (λ t. height t ≤ mostHeight) ts → all blankAbove (map holdTask ts) ≡ true
 unfolding blankAbove holdTask
 held-blank [] h = refl
@@ -175,6 +174,18 @@ hold-blank v f =
       held-blank (v .tasks) (f .low),
     )
     (all-replicate isBlank blankTask (mostTasks - count v) blank-blank)
+
+pub hold-sized : (v : State ℕ) → Fits v → Sized (hold v)
+unfolding hold pad
+hold-sized v f =
+    let ts = map holdTask (v .tasks) in
+    let l : length ts ≤ mostTasks = omega (arith, length-map (v .tasks) holdTask, f .few) in
+    record {
+      tasks = pad-length mostTasks blankTask ts l;
+      each = All-append Screens32 ts (replicate (mostTasks - length ts) blankTask)
+          (All-to-map holdTask Screens32 (v .tasks) (All-map hold-screens (v .tasks) (f .low)))
+          (All-replicate Screens32 blankTask (mostTasks - length ts) refl);
+    }
 
 pub hold-sound : (tb : List ℕ) (v : State ℕ) → Sound tb v → soundStored tb (hold v) ≡ true
 unfolding soundStored
