@@ -99,3 +99,19 @@ module _ {A : Type 0} (n : ℕ) (z : A) where
       let ys = replicate (n - length xs) z in
       let l : k < length (xs ++ ys) = omega (arith, length-append xs ys) in
       rw (toFront-length k xs, toFront-omit z k (xs ++ ys) l, toFront-omit z k xs h, omit-append k xs ys h, List·getD-append xs ys z k h)
+
+  -- of the first h, the one behind m others goes to their end
+  pub pad-lift : (m h : ℕ) (ys : List A) → length ys ≡ h → m < h → h ≤ n
+      → pad n z ((take m ys ++ drop (suc m) ys) ++ (getD ys m z ∷ []))
+      ≡ take m (pad n z ys) ++ take (h - suc m) (drop (suc m) (pad n z ys)) ++ getD (pad n z ys) m z ∷ drop h (pad n z ys)
+  unfolding pad
+  pad-lift m h ys e l b =
+      let zs = replicate (n - length ys) z in
+      let c : length (take m ys ++ drop (suc m) ys) ≡ h - 1 =
+      omega (arith, length-append (take m ys) (drop (suc m) ys), length-take-le m ys (omega arith), length-drop (suc m) ys) in
+      let i : suc (h - 1) ≡ h = omega arith in
+      let t : take (h - suc m) (drop (suc m) (ys ++ zs)) ≡ drop (suc m) ys =
+      rw (drop-append-le (suc m) ys zs (omega arith)) (take-at (drop (suc m) ys) zs (h - suc m) (omega (arith, length-drop (suc m) ys))) in
+      pad-snoc (h - 1) (getD ys m z) (take m ys ++ drop (suc m) ys) c (omega arith)
+      ∙ sym (rw (t, take-append-le m ys zs (omega arith), List·getD-append ys zs z m (omega arith), drop-pad h ys e)
+      (ap (λ (j : ℕ). take m ys ++ drop (suc m) ys ++ getD ys m z ∷ replicate (n - j) z) (sym i)))
