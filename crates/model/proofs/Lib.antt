@@ -1,5 +1,6 @@
 pub mod Logic
 pub mod Sound
 pub mod ListLaws
+pub mod Close
 pub mod Marks
 pub mod Cases
