@@ -1,0 +1,65 @@
+-- A look at a stored session, by the bytes that it reads; and that sessions which hold a sound one can be looked at.
+use Prim.Native.Nat.{ℕ, zero, suc, _+_, _-_, _≤_, _<_}
+use mathlib.Core.Path.{_≡_, refl, sym, _∙_, ap}
+use mathlib.Core.List.{List, [], _∷_}
+use native.Mathlib.Nat.{not-suc-le-zero}
+use native.Mathlib.Omega.{arith}
+use lib.ListN.{length, getD}
+use Rattle.model.specs.declared.Answer.{Answer}
+use Rattle.model.specs.Lists.{All}
+use Rattle.model.specs.Session.{Stack, State, state, height, front, mostTasks, mostHeight}
+use Rattle.model.specs.Answers.{lookAt}
+use Rattle.model.proofs.Logic.{All-at}
+use Rattle.model.proofs.Sound.{TaskSound, Sound}
+use Rattle.session.specs.declared.Task.{Task}
+use Rattle.session.specs.declared.Session.{Session}
+use Rattle.session.specs.Stored.{view, viewTask, hold, holdTask, pad, noTask}
+use Rattle.session.proofs.Known.{Sized, Screens32}
+use Rattle.session.proofs.StoredLaws.{view-at, view-count}
+use Rattle.session.proofs.TaskLaws.{view-height, view-screen}
+use Rattle.answer.specs.Seen.{Seen}
+
+pub look-empty : (c : Session) → c .n ≡ 0 → lookAt (view c) ≡ record { refusal = 0; screen = 0; root = 0; height = 0; tasks = 0; main = c .main }
+unfolding view lookAt
+look-empty c e = rw e
+
+module _ (c : Session) (sizes : Sized c) (seen : Seen c) (some : 1 ≤ c .n) where
+  abbrev t : Task
+  t = getD (c .tasks) 0 noTask
+
+  pub look-filled : lookAt (view c) ≡ record {
+        refusal = 0;
+        screen = getD (t .screens) (t .height - 1) 0;
+        root = t .root;
+        height = t .height;
+        tasks = c .n;
+        main = c .main;
+      }
+  unfolding lookAt view viewTask
+  look-filled =
+      let l : length (t .screens) ≡ 32 = All-at Screens32 (c .tasks) 0 noTask (omega (arith, sizes .tasks)) (sizes .each) in
+      let low : t .height ≤ 32 = seen .low some in
+      let filled : 1 ≤ t .height = seen .filled some in
+      let e = view-at c 0 some in
+      let x = ap (λ (u : Stack ℕ). getD (u .screens) 0 0) e ∙ view-screen t (omega arith) (t .height - 1) 0 (omega arith) in
+      let r = ap (λ (u : Stack ℕ). u .root) e in
+      let h = ap (λ (u : Stack ℕ). height u) e ∙ view-height t (omega arith) in
+      let n = view-count c sizes (seen .few) in
+      λ i. record { refusal = 0; screen = x i; root = r i; height = h i; tasks = n i; main = c .main }
+
+-- a session that holds a sound one
+module _ (tb : List ℕ) where
+  front-fits : (ts : List (Stack ℕ)) (m : ℕ) → All (TaskSound tb) ts → 1 ≤ length ts
+      → (1 ≤ getD (hold (state ts m) .tasks) 0 noTask .height) × (getD (hold (state ts m) .tasks) 0 noTask .height ≤ mostHeight)
+  unfolding hold holdTask pad
+  front-fits [] m h p = absurd (not-suc-le-zero p)
+  front-fits (t ∷ ts) m h p = (h .0 .filled, h .0 .low)
+
+  pub sound-seen : (v : State ℕ) → Sound tb v → Seen (hold v)
+  unfolding hold
+  sound-seen v h =
+      record {
+        few = h .few;
+        filled = λ p. front-fits (v .tasks) (v .main) (h .each) p .0;
+        low = λ p. front-fits (v .tasks) (v .main) (h .each) p .1;
+      }
