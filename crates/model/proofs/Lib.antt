@@ -1,2 +1,4 @@
 pub mod Logic
 pub mod Sound
+pub mod Walks
+pub mod Tables
