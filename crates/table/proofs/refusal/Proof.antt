@@ -1,0 +1,78 @@
+-- Each return 1 contradicts the table's shape, each return 2 what fills it.
+use mathlib.Core.Path.{sym, _∙_}
+use native.Mathlib.Omega.{arith}
+use borrow.Author.Tests.{not-true, not-false}
+use Rattle.model.proofs.Logic.{contradiction}
+use Rattle.model.proofs.Tables.{refusal-0, refusal-1, refusal-2, modes-decides}
+use borrow.Author.Needs.{needs}
+use Rattle.table.proofs.refusal.Statement.{statement}
+use Rattle.table.proofs.refusal.Tie as tie
+
+returns : tie.Need-returns
+returns c = sym (refusal-1 (c .before .before .args .table .now) (λ s. omega arith))
+
+size-requires : tie.Need-size-requires
+size-requires c κs = search needs
+
+cast-if2 : tie.Need-cast-if2
+cast-if2 c = search needs
+
+mul-if2 : tie.Need-mul-if2
+mul-if2 c = search needs
+
+add-if2 : tie.Need-add-if2
+add-if2 c = search needs
+
+returns-2 : tie.Need-returns-2
+returns-2 c = sym (refusal-1 (c .before .before .before .before .args .table .now) (λ s. omega arith))
+
+returns-3 : tie.Need-returns-3
+returns-3 c = sym (refusal-1 (c .before .before .before .before .before .args .table .now) (λ s. omega arith))
+
+returns-4 : tie.Need-returns-4
+returns-4 c = sym (refusal-1 (c .before .before .before .before .before .before .args .table .now) (λ s. omega arith))
+
+main-screen-requires : tie.Need-main-screen-requires
+main-screen-requires c κs = search needs
+
+returns-5 : tie.Need-returns-5
+returns-5 c =
+    sym (refusal-2 (c .before .before .before .before .before .before .before .before .args .table .now) (record { long = omega arith; some = omega arith; most = omega arith }) (λ f. omega arith))
+
+modes-fit-requires : tie.Need-modes-fit-requires
+modes-fit-requires c κs = search needs
+
+returns-6 : tie.Need-returns-6
+returns-6 c =
+    let tb = c .before .before .before .before .before .before .before .before .before .before .args .table .now in
+    let fit = modes-decides tb (c .before .before .before .before .before .before .before .size .result) in
+    let bad = sym (c .before .modes-fit .ensures) ∙ not-true (c .before .modes-fit .result) (c .if6 .taken) in
+    sym
+    (refusal-2 tb (record { long = omega arith; some = omega arith; most = omega arith })
+    (λ f. contradiction (fit .shows (λ x l. f .modes x (omega arith))) bad))
+
+returns-7 : tie.Need-returns-7
+returns-7 c =
+    let tb = c .before .before .before .before .before .before .before .before .before .before .args .table .now in
+    let fit = modes-decides tb (c .before .before .before .before .before .before .before .size .result) .holds (sym (c .before .modes-fit .ensures) ∙ not-false (c .before .modes-fit .result) (c .if6 .left)) in
+    sym
+    (refusal-0 tb (record { long = omega arith; some = omega arith; most = omega arith })
+    (record { main = omega arith; modes = λ x l. fit x (omega arith) }))
+
+pub refusal-spec : {M : Type 1} → statement M
+refusal-spec =
+    tie.close
+    (tie.spec
+    returns
+    size-requires
+    cast-if2
+    mul-if2
+    add-if2
+    returns-2
+    returns-3
+    returns-4
+    main-screen-requires
+    returns-5
+    modes-fit-requires
+    returns-6
+    returns-7)

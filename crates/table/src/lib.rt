@@ -1,0 +1,82 @@
+// A screen table's bytes: its check, and what it says of a screen.
+
+ghost use Prim.Native.Nat.{ℕ, _+_, _*_, _<_, _≤_};
+ghost use mathlib.Core.Path.{_≡_};
+ghost use lib.Dec.{leb};
+ghost use lib.ListN.{length};
+ghost use Rattle.model.specs.Lists.{allBelow};
+ghost use Rattle.model.specs.Table.{sizeOf, mainScreen, modeOf, affinityOf, singleInstance, tableRefusal};
+
+// The number of screens.
+pub fn size(table: &[u8]) -> u8
+    requires { ⌜ 0 < length (now table) ⌝ }
+    ensures { λ r. ⌜ r ≡ sizeOf (now (table .entry)) ⌝ }
+{
+    table[0]
+}
+
+// The main screen.
+pub fn main_screen(table: &[u8]) -> u8
+    requires { ⌜ 1 < length (now table) ⌝ }
+    ensures { λ r. ⌜ r ≡ mainScreen (now (table .entry)) ⌝ }
+{
+    table[1]
+}
+
+// The mode of a screen.
+pub fn mode(table: &[u8], x: u8) -> u8
+    requires { ⌜ 2 + 2 * x < length (now table) ⌝ }
+    ensures { λ r. ⌜ r ≡ modeOf (now (table .entry)) x ⌝ }
+{
+    table[2 + 2 * (x as usize)]
+}
+
+// The affinity of a screen.
+pub fn affinity(table: &[u8], x: u8) -> u8
+    requires { ⌜ 3 + 2 * x < length (now table) ⌝ }
+    ensures { λ r. ⌜ r ≡ affinityOf (now (table .entry)) x ⌝ }
+{
+    table[3 + 2 * (x as usize)]
+}
+
+// Each of the n modes is one of the four.
+fn modes_fit(table: &[u8], n: u8) -> bool
+    requires { ⌜ 2 * n < length (now table) ⌝ }
+    ensures { λ r. ⌜ r ≡ allBelow n (λ x. leb (modeOf (now (table .entry)) x) singleInstance) ⌝ }
+{
+    let mut x: u8 = 0;
+    while x < n {
+        if mode(table, x) > 3 {
+            return false;
+        }
+        x += 1;
+    }
+    true
+}
+
+// 1 for a table whose length or number of screens is wrong, 2 for a wrong main screen or mode, 0 for a good table.
+pub fn refusal(table: &[u8]) -> u8
+    ensures { λ r. ⌜ r ≡ tableRefusal (now (table .entry)) ⌝ }
+{
+    let long = table.len();
+    if long < 2 {
+        return 1;
+    }
+    let n = size(table);
+    if long != 2 + 2 * (n as usize) {
+        return 1;
+    }
+    if n < 1 {
+        return 1;
+    }
+    if n > 64 {
+        return 1;
+    }
+    if main_screen(table) >= n {
+        return 2;
+    }
+    if !modes_fit(table, n) {
+        return 2;
+    }
+    0
+}
