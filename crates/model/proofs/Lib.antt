@@ -1,4 +1,7 @@
 pub mod Logic
 pub mod Sound
 pub mod ListLaws
+pub mod RefusalLaws
 pub mod Close
+pub mod Deeds
+pub mod Start

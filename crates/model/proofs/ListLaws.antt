@@ -8,6 +8,16 @@ use native.Mathlib.Omega.{arith}
 use lib.ListN.{length, getD, take, drop, set}
 use Rattle.model.specs.Lists.{if_then_else_, isEmpty, isPlace, further, find, omit, putSecond, toFront, onFirst, All, Pairwise}
 
+-- ---- places
+
+pub isPlace-true : (p : ℕ) → isPlace p ≡ true → suc (pred p) ≡ p
+isPlace-true zero e = absurd (false≢true e)
+isPlace-true (suc k) e = refl
+
+pub isPlace-false : (p : ℕ) → isPlace p ≡ false → p ≡ 0
+isPlace-false zero e = refl
+isPlace-false (suc k) e = absurd (true≢false e)
+
 module _ {A : Type 0} where
   pub isEmpty-length : (xs : List A) → isEmpty xs ≡ false → 1 ≤ length xs
   isEmpty-length [] e = absurd (true≢false e)
@@ -194,6 +204,9 @@ module _ {A : Type 0} where
         go ih true f n g e = absurd (omega arith)
         go ih false f zero g e = (f, ih g)
         go ih false f (suc n) g e = absurd (omega arith)
+
+    pub found-none : (xs : List A) → isPlace (find q xs) ≡ false → All (λ x. q x ≡ false) xs
+    found-none xs h = find-none xs (isPlace-false (find q xs) h)
 
     -- where something was found
     pub found-at : (xs : List A) → isPlace (find q xs) ≡ true → FoundAt xs (pred (find q xs))
