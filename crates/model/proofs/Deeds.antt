@@ -2,21 +2,21 @@
 -- them, where the limits leave room.
 use Prim.Native.Nat.{ℕ, zero, suc, _≤_, _<_, zero-le, suc-le-suc, pred}
 use mathlib.Core.Path.{_≡_, refl, sym, _∙_, ap}
-use mathlib.Core.Bool.{Bool, true, false, _&&_}
-use mathlib.Core.List.{List, [], _∷_, map}
+use mathlib.Core.Bool.{true, false, _&&_}
+use mathlib.Core.List.{List, [], _∷_}
 use native.Mathlib.Nat.{not-suc-le-zero, le-of-suc-le-suc}
 use native.Mathlib.Omega.{arith}
 use lib.Dec.{eqb, ltb}
-use lib.ListN.{length, getD, drop, length-drop}
+use lib.ListN.{length, drop, length-drop}
 use borrow.Author.Tests.{eqb-true, eqb-false, ltb-true, ltb-false}
-use Rattle.model.specs.Lists.{if_then_else_, further, find, toFront, onFirst, All, Pairwise}
-use Rattle.model.specs.Table.{sizeOf, isSingleInstance}
-use Rattle.model.specs.Session.{Stack, State, stack, state, noStack, taskAt, front, height, count, mostTasks, mostHeight}
+use Rattle.model.specs.Lists.{further, find, toFront, onFirst, All}
+use Rattle.model.specs.Table.{sizeOf}
+use Rattle.model.specs.Session.{Stack, State, stack, noStack, taskAt, front, height, count, mostTasks, mostHeight}
 use Rattle.model.specs.Search.{holds}
 use Rattle.model.specs.Deeds.{Deed, new, inFront, moveAnd, Change, keep, renew, clear, lift, push, mainMoved, move, changed, changeFront, putNew, carryOut}
 use Rattle.model.specs.Calls.{makesTask, isPush, overfills}
 use Rattle.model.proofs.Logic.{if-elim, contradiction, All-at}
-use Rattle.model.proofs.ListLaws.{toFront-length, toFront-first, toFront-before, toFront-behind, onFirst-length, map-onFirst, All-drop, All-toFront, All-onFirst, Pairwise-toFront, found-at}
+use Rattle.model.proofs.ListLaws.{toFront-length, toFront-first, toFront-before, toFront-behind, onFirst-length, All-drop, All-toFront, All-onFirst, Pairwise-toFront, found-at}
 use Rattle.model.proofs.Sound.{TaskSound, RootsDiffer, MainSound, Sound, Plain}
 use Rattle.model.proofs.Close.{rootsOf, same-roots-pairs, same-roots-main}
 
@@ -67,12 +67,14 @@ module _ (tb : List ℕ) where
     where
       n : length (toFront k ts) ≡ length ts
       n = toFront-length k ts
+
       first : m ≡ suc k → MainSound tb (toFront k ts) 1
       first e =
           record {
             most = omega (arith, n, l);
             root = λ x. ap (λ (t : Stack ℕ). t .root) (toFront-first noStack k ts l) ∙ (rw e at (h .root)) (suc-le-suc zero-le);
           }
+
       before : (m : ℕ) → (m ≡ 0 → ⊥) → m < suc k → MainSound tb ts m → MainSound tb (toFront k ts) (suc m)
       before zero o g h = absurd (o refl)
       before (suc j) o g h =
@@ -80,6 +82,7 @@ module _ (tb : List ℕ) where
             most = omega (arith, n, l, g);
             root = λ x. ap (λ (t : Stack ℕ). t .root) (toFront-before noStack k j ts l (le-of-suc-le-suc g)) ∙ h .root (suc-le-suc zero-le);
           }
+
       behind : (m : ℕ) → suc k < m → MainSound tb ts m → MainSound tb (toFront k ts) m
       behind zero g h = absurd (not-suc-le-zero g)
       behind (suc zero) g h = absurd (not-suc-le-zero (le-of-suc-le-suc g))
@@ -121,6 +124,7 @@ module _ (tb : List ℕ) where
     where
       change : Stack ℕ → Stack ℕ
       change t = stack (t .root) (f (t .screens))
+
       same : (ts : List (Stack ℕ)) → rootsOf ts ≡ rootsOf (onFirst change ts)
       same [] = refl
       same (t ∷ ts) = refl
@@ -131,7 +135,10 @@ module _ (tb : List ℕ) where
       refilled : (xs : List ℕ) → 1 ≤ length xs → length xs ≤ mostHeight → All (λ x. x < sizeOf tb) xs → All (Plain tb) xs → TaskSound tb (stack (t .root) xs)
       refilled xs filled low below plain =
           record {
-            filled = filled; low = low; known = k .known; below = below;
+            filled = filled;
+            low = low;
+            known = k .known;
+            below = below;
             lone = λ e. contradiction e (takes .plainRoot);
             plain = λ e. plain;
           }

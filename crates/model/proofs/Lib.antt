@@ -5,3 +5,4 @@ pub mod RefusalLaws
 pub mod Close
 pub mod Deeds
 pub mod Start
+pub mod Keeps

@@ -156,6 +156,11 @@ module _ {A : Type 0} where
     Pairwise-omit zero (x ∷ xs) h = h .1
     Pairwise-omit (suc i) (x ∷ xs) h = (All-omit (R x) i xs (h .0), Pairwise-omit i xs (h .1))
 
+    pub Pairwise-drop : (k : ℕ) (xs : List A) → Pairwise R xs → Pairwise R (drop k xs)
+    Pairwise-drop zero xs h = h
+    Pairwise-drop (suc k) [] h = h
+    Pairwise-drop (suc k) (x ∷ xs) h = Pairwise-drop k xs (h .1)
+
     module _ (flip : (x y : A) → R x y → R y x) where
       Pairwise-putSecond : (x : A) (xs : List A) → All (R x) xs → Pairwise R xs → Pairwise R (putSecond x xs)
       Pairwise-putSecond x [] a h = (tt, tt)

@@ -1,13 +1,13 @@
 -- Laws of lists of checks: the first that applies, two lists one after the other, and the checks that every call
 -- begins with.
-use Prim.Native.Nat.{ℕ, zero, suc, _≤_}
-use mathlib.Core.Path.{_≡_, refl, sym, _∙_, ap}
+use Prim.Native.Nat.{ℕ, suc, _≤_}
+use mathlib.Core.Path.{_≡_, refl, _∙_, ap}
 use mathlib.Core.Bool.{Bool, true, false, not}
 use mathlib.Core.List.{List, [], _∷_, _++_}
 use native.Mathlib.Omega.{arith}
 use Rattle.model.specs.Lists.{if_then_else_, first, All}
 use Rattle.model.specs.Refusals.{Check, check, accepted, refusal}
-use Rattle.model.specs.Table.{tableShaped, tableFilled, tableChecks, tableRefusal}
+use Rattle.model.specs.Table.{tableChecks, tableRefusal}
 use Rattle.model.specs.Calls.{checksIn}
 
 -- no check applies to what is not refused
