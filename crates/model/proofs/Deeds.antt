@@ -1,7 +1,7 @@
 -- A deed that is ready keeps a session sound: a move, a change of the front task's screens, a new task; then all of
 -- them, where the limits leave room.
 use Prim.Native.Nat.{ℕ, zero, suc, _≤_, _<_, zero-le, suc-le-suc, pred}
-use mathlib.Core.Path.{_≡_, refl, sym, _∙_, ap}
+use mathlib.Core.Path.{_≡_, refl, sym}
 use mathlib.Core.Bool.{true, false, _&&_}
 use mathlib.Core.List.{List, [], _∷_}
 use native.Mathlib.Nat.{not-suc-le-zero, le-of-suc-le-suc}
@@ -18,7 +18,7 @@ use Rattle.model.specs.Calls.{makesTask, isPush, overfills}
 use Rattle.model.proofs.Logic.{if-elim, contradiction, All-at}
 use Rattle.model.proofs.ListLaws.{toFront-length, toFront-first, toFront-before, toFront-behind, onFirst-length, All-drop, All-toFront, All-onFirst, Pairwise-toFront, found-at}
 use Rattle.model.proofs.Sound.{TaskSound, RootsDiffer, MainSound, Sound, Plain}
-use Rattle.model.proofs.Close.{rootsOf, same-roots-pairs, same-roots-main}
+use Rattle.model.proofs.Close.{rootsOf, no-main, follows-main, same-roots-pairs, same-roots-main}
 
 -- ---- what a deed needs, but for the limits
 
@@ -57,40 +57,33 @@ module _ (tb : List ℕ) where
   -- ---- move
 
   -- m follows its task
-  pub moved-main : (k m : ℕ) (ts : List (Stack ℕ)) → k < length ts → MainSound tb ts m → MainSound tb (toFront k ts) (mainMoved (suc k) m)
+  pub moved-main : (k m : ℕ) (ts : List (Stack ℕ)) → k < length ts
+      → MainSound tb ts m → MainSound tb (toFront k ts) (mainMoved (suc k) m)
   unfolding mainMoved
   moved-main k m ts l h =
-      if-elim (MainSound tb (toFront k ts)) (eqb m 0) _ _ (λ e. record { most = zero-le; root = λ x. absurd (not-suc-le-zero x) })
-      (λ e. if-elim (MainSound tb (toFront k ts)) (eqb m (suc k)) _ _ (λ f. first (eqb-true m (suc k) f))
+      if-elim (MainSound tb (toFront k ts)) (eqb m 0) _ _ (λ e. no-main tb (toFront k ts))
+      (λ e. if-elim (MainSound tb (toFront k ts)) (eqb m (suc k)) _ _ (λ f. itself (rw (eqb-true m (suc k) f) at h))
       (λ f. if-elim (MainSound tb (toFront k ts)) (ltb m (suc k)) _ _ (λ g. before m (eqb-false m 0 e) (ltb-true m (suc k) g) h)
       (λ g. behind m (omega (arith, eqb-false m (suc k) f, ltb-false m (suc k) g)) h)))
     where
       n : length (toFront k ts) ≡ length ts
       n = toFront-length k ts
 
-      first : m ≡ suc k → MainSound tb (toFront k ts) 1
-      first e =
-          record {
-            most = omega (arith, n, l);
-            root = λ x. ap (λ (t : Stack ℕ). t .root) (toFront-first noStack k ts l) ∙ (rw e at (h .root)) (suc-le-suc zero-le);
-          }
+      itself : MainSound tb ts (suc k) → MainSound tb (toFront k ts) 1
+      itself h = follows-main tb ts (toFront k ts) k 1 (omega (arith, n, l)) (toFront-first noStack k ts l) h
 
       before : (m : ℕ) → (m ≡ 0 → ⊥) → m < suc k → MainSound tb ts m → MainSound tb (toFront k ts) (suc m)
       before zero o g h = absurd (o refl)
       before (suc j) o g h =
-          record {
-            most = omega (arith, n, l, g);
-            root = λ x. ap (λ (t : Stack ℕ). t .root) (toFront-before noStack k j ts l (le-of-suc-le-suc g)) ∙ h .root (suc-le-suc zero-le);
-          }
+          follows-main tb ts (toFront k ts) j (suc (suc j)) (omega (arith, n, l, g))
+          (toFront-before noStack k j ts l (le-of-suc-le-suc g)) h
 
       behind : (m : ℕ) → suc k < m → MainSound tb ts m → MainSound tb (toFront k ts) m
       behind zero g h = absurd (not-suc-le-zero g)
       behind (suc zero) g h = absurd (not-suc-le-zero (le-of-suc-le-suc g))
       behind (suc (suc j)) g h =
-          record {
-            most = rw n (h .most);
-            root = λ x. ap (λ (t : Stack ℕ). t .root) (toFront-behind noStack k j ts l (omega (arith, g))) ∙ h .root (suc-le-suc zero-le);
-          }
+          follows-main tb ts (toFront k ts) (suc j) (suc (suc j)) (rw n (h .most))
+          (toFront-behind noStack k j ts l (omega (arith, g))) h
 
   pub move-sound : (p : ℕ) (s : State ℕ) → IsPlaceIn s p → Sound tb s → Sound tb (move p s)
   unfolding move
@@ -132,7 +125,8 @@ module _ (tb : List ℕ) where
   module _ (b : ℕ) (known : b < sizeOf tb) where
     module _ (t : Stack ℕ) (takes : Takes tb b t) (k : TaskSound tb t) where
       -- a task that takes b, with other screens
-      refilled : (xs : List ℕ) → 1 ≤ length xs → length xs ≤ mostHeight → All (λ x. x < sizeOf tb) xs → All (Plain tb) xs → TaskSound tb (stack (t .root) xs)
+      refilled : (xs : List ℕ) → 1 ≤ length xs → length xs ≤ mostHeight → All (λ x. x < sizeOf tb) xs → All (Plain tb) xs
+          → TaskSound tb (stack (t .root) xs)
       refilled xs filled low below plain =
           record {
             filled = filled;
@@ -178,8 +172,8 @@ module _ (tb : List ℕ) where
         record { filled = omega arith; low = omega arith; known = known; below = (known, tt); lone = λ e. refl; plain = λ e. (e, tt) }
 
     further-main : (t : Stack ℕ) (ts : List (Stack ℕ)) (m : ℕ) → MainSound tb ts m → MainSound tb (t ∷ ts) (further m)
-    further-main t ts zero h = record { most = zero-le; root = λ x. absurd (not-suc-le-zero x) }
-    further-main t ts (suc m) h = record { most = suc-le-suc (h .most); root = λ x. h .root (suc-le-suc zero-le) }
+    further-main t ts zero h = no-main tb (t ∷ ts)
+    further-main t ts (suc m) h = follows-main tb ts (t ∷ ts) m (suc (suc m)) (suc-le-suc (h .most)) refl h
 
     pub put-new-sound : (s : State ℕ) → RootFree tb b (s .tasks) → count s < mostTasks → Sound tb s → Sound tb (putNew b b s)
     unfolding putNew

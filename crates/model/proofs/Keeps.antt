@@ -3,7 +3,6 @@ use Prim.Native.Nat.{ℕ, zero, suc, _≤_, _<_, zero-le}
 use mathlib.Core.Path.{_≡_, refl, ap}
 use mathlib.Core.Bool.{true, not}
 use mathlib.Core.List.{List, [], _∷_}
-use native.Mathlib.Nat.{not-suc-le-zero}
 use native.Mathlib.Omega.{arith}
 use borrow.Author.Tests.{ltb-true, not-false}
 use Rattle.model.specs.Refusals.{refusal}
@@ -16,7 +15,7 @@ use Rattle.model.specs.Histories.{after}
 use Rattle.model.proofs.Logic.{and-left}
 use Rattle.model.proofs.RefusalLaws.{refusal-skip, checks-own}
 use Rattle.model.proofs.Sound.{Sound, sound-decides}
-use Rattle.model.proofs.Close.{backed-sound}
+use Rattle.model.proofs.Close.{no-main, backed-sound}
 use Rattle.model.proofs.Deeds.{new-task-sound}
 use Rattle.model.proofs.Start.{Finished, start-accepted, started-sound, finished-sound}
 
@@ -40,7 +39,8 @@ restored-sound tb bytes e =
 -- ---- settling
 
 -- on a sound session under a good table a call has its own checks only
-pub refusal-own : (tb : List ℕ) → tableRefusal tb ≡ 0 → (s : State ℕ) → Sound tb s → (c : Call) → refusalOf tb s c ≡ refusal (ownChecks tb s c)
+pub refusal-own : (tb : List ℕ) → tableRefusal tb ≡ 0 → (s : State ℕ) → Sound tb s → (c : Call)
+    → refusalOf tb s c ≡ refusal (ownChecks tb s c)
 unfolding refusalOf
 refusal-own tb ok s h c = rw (sound-decides tb s .shows h) (checks-own tb (ownChecks tb s c) ok)
 
@@ -52,7 +52,7 @@ settled tb ok s h c = ap (λ (k : ℕ). settle k s (done tb s c)) (refusal-own t
 -- ---- soundness
 
 pub fresh-sound : (tb : List ℕ) → Sound tb fresh
-fresh-sound tb = record { few = zero-le; each = tt; pairs = tt; place = record { most = zero-le; root = λ l. absurd (not-suc-le-zero l) } }
+fresh-sound tb = record { few = zero-le; each = tt; pairs = tt; place = no-main tb [] }
 
 pub launched-sound : (tb : List ℕ) → tableRefusal tb ≡ 0 → Sound tb (launched tb)
 unfolding launched

@@ -244,7 +244,8 @@ module _ {A B : Type 0} (f : A → B) where
   map-drop (suc k) (x ∷ xs) = map-drop k xs
 
   -- a change before the map is the other change after it
-  pub map-onFirst : (g : A → A) (h : B → B) → ((x : A) → f (g x) ≡ h (f x)) → (xs : List A) → map f (onFirst g xs) ≡ onFirst h (map f xs)
+  pub map-onFirst : (g : A → A) (h : B → B) → ((x : A) → f (g x) ≡ h (f x))
+      → (xs : List A) → map f (onFirst g xs) ≡ onFirst h (map f xs)
   map-onFirst g h e [] = refl
   map-onFirst g h e (x ∷ xs) = ap (λ (y : B). y ∷ map f xs) (e x)
 

@@ -51,7 +51,8 @@ refusal-append-passed (x ∷ xs) ys h e = go (x .applies) (refusal-append-passed
 -- ---- the checks 1, 2 and 20, which come first
 
 module _ (tb : List ℕ) where
-  pub checks-bad-table : (k : ℕ) (isSound : Bool) (own : List Check) → tableRefusal tb ≡ suc k → refusal (checksIn tb isSound own) ≡ suc k
+  pub checks-bad-table : (k : ℕ) (isSound : Bool) (own : List Check)
+      → tableRefusal tb ≡ suc k → refusal (checksIn tb isSound own) ≡ suc k
   unfolding tableRefusal
   checks-bad-table k isSound own e = refusal-append-refused k (tableChecks tb) (check 20 (not isSound) ∷ own) e
 

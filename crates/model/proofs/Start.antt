@@ -204,7 +204,8 @@ module _ (tb : List ℕ) (s : State ℕ) (b w : ℕ) where
     as-started : finished tb s b w ≡ started tb s b w → Finished
     closed : (k i : ℕ) → finished tb s b w ≡ close k i (started tb s b w) → Finished
 
-pub started-sound : (tb : List ℕ) (s : State ℕ) (b w : ℕ) → Sound tb s → refusal (startChecks tb s b w) ≡ 0 → Sound tb (started tb s b w)
+pub started-sound : (tb : List ℕ) (s : State ℕ) (b w : ℕ)
+    → Sound tb s → refusal (startChecks tb s b w) ≡ 0 → Sound tb (started tb s b w)
 unfolding started
 started-sound tb s b w h e =
     let a = start-accepted tb s b w e in
