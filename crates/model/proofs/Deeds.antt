@@ -22,9 +22,15 @@ use Rattle.model.proofs.Close.{rootsOf, no-main, follows-main, same-roo
 
 -- ---- what a deed needs, but for the limits
 
--- p is the place of a task
-abbrev pub IsPlaceIn : State ℕ → ℕ → Type 0
-IsPlaceIn s p = (1 ≤ p) × (p ≤ count s)
+module _ {A : Type 0} where
+  -- p is the place of a task
+  abbrev pub IsPlaceIn : State A → ℕ → Type 0
+  IsPlaceIn s p = (1 ≤ p) × (p ≤ count s)
+
+  pub moved-front : (p : ℕ) (s : State A) → IsPlaceIn s p → front (move p s) ≡ taskAt (s .tasks) p
+  unfolding move
+  moved-front zero s l = absurd (not-suc-le-zero (l .0))
+  moved-front (suc k) s l = toFront-first noStack k (s .tasks) (l .1)
 
 -- a task that takes the screen b: neither its root nor b is single-instance
 pub record Takes (tb : List ℕ) (b : ℕ) (t : Stack ℕ) : Type 0 where
@@ -96,11 +102,6 @@ module _ (tb : List ℕ) where
         place = moved-main k (s .main) (s .tasks) (l .1) (h .place);
       }
 
-  pub moved-front : (p : ℕ) (s : State ℕ) → IsPlaceIn s p → front (move p s) ≡ taskAt (s .tasks) p
-  unfolding move
-  moved-front zero s l = absurd (not-suc-le-zero (l .0))
-  moved-front (suc k) s l = toFront-first noStack k (s .tasks) (l .1)
-
   -- ---- a change of the front task's screens
 
   pub change-front-sound : (f : List ℕ → List ℕ) (s : State ℕ)
@@ -171,10 +172,6 @@ module _ (tb : List ℕ) where
     new-task-sound =
         record { filled = omega arith; low = omega arith; known = known; below = (known, tt); lone = λ e. refl; plain = λ e. (e, tt) }
 
-    further-main : (t : Stack ℕ) (ts : List (Stack ℕ)) (m : ℕ) → MainSound tb ts m → MainSound tb (t ∷ ts) (further m)
-    further-main t ts zero h = no-main tb (t ∷ ts)
-    further-main t ts (suc m) h = follows-main tb ts (t ∷ ts) m (suc (suc m)) (suc-le-suc (h .most)) refl h
-
     pub put-new-sound : (s : State ℕ) → RootFree tb b (s .tasks) → count s < mostTasks → Sound tb s → Sound tb (putNew b b s)
     unfolding putNew
     put-new-sound s r l h =
@@ -182,8 +179,12 @@ module _ (tb : List ℕ) where
           few = l;
           each = (new-task-sound, h .each);
           pairs = (r, h .pairs);
-          place = further-main (stack b (b ∷ [])) (s .tasks) (s .main) (h .place);
+          place = further-main (s .main) (h .place);
         }
+      where
+        further-main : (m : ℕ) → MainSound tb (s .tasks) m → MainSound tb (stack b (b ∷ []) ∷ s .tasks) (further m)
+        further-main zero k = no-main tb (stack b (b ∷ []) ∷ s .tasks)
+        further-main (suc m) k = follows-main tb (s .tasks) (stack b (b ∷ []) ∷ s .tasks) m (suc (suc m)) (suc-le-suc (k .most)) refl k
 
     -- ---- any deed
 

@@ -19,7 +19,7 @@ use Rattle.model.proofs.Close.{no-main, backed-sound}
 use Rattle.model.proofs.Deeds.{new-task-sound}
 use Rattle.model.proofs.Start.{Finished, start-accepted, started-sound, finished-sound}
 
--- ---- what is known of a good table and of an start-accepted image
+-- ---- what is known of a good table and of an accepted image
 
 pub main-known : (tb : List ℕ) → tableRefusal tb ≡ 0 → mainScreen tb < sizeOf tb
 unfolding tableRefusal tableFilled
@@ -64,27 +64,27 @@ launched-sound tb ok =
       place = record { most = omega arith; root = λ l. refl };
     }
 
-module _ (finished-is : (tb : List ℕ) (s : State ℕ) (b w : ℕ) → Sound tb s → 1 ≤ count s → Finished tb s b w) where
-  module _ (tb : List ℕ) (ok : tableRefusal tb ≡ 0) where
-    pub done-sound : (s : State ℕ) → Sound tb s → (c : Call) → refusal (ownChecks tb s c) ≡ 0 → Sound tb (done tb s c)
-    unfolding done ownChecks
-    done-sound s h launch e = launched-sound tb ok
-    done-sound s h (start b w) e = started-sound tb s b w h e
-    done-sound s h (finishingStart b w) e = finished-sound tb s b w (finished-is tb s b w h (start-accepted tb s b w e .some)) h e
-    done-sound s h back e = backed-sound tb s h
-    done-sound s h look e = h
-    done-sound s h (restore bytes) e = sound-decides tb (sessionIn bytes) .holds (restored-sound tb bytes e)
+module _ (finished-is : (tb : List ℕ) (s : State ℕ) (b w : ℕ) → Sound tb s → 1 ≤ count s → Finished tb s b w)
+    (tb : List ℕ) (ok : tableRefusal tb ≡ 0) where
+  pub done-sound : (s : State ℕ) → Sound tb s → (c : Call) → refusal (ownChecks tb s c) ≡ 0 → Sound tb (done tb s c)
+  unfolding done ownChecks
+  done-sound s h launch e = launched-sound tb ok
+  done-sound s h (start b w) e = started-sound tb s b w h e
+  done-sound s h (finishingStart b w) e = finished-sound tb s b w (finished-is tb s b w h (start-accepted tb s b w e .some)) h e
+  done-sound s h back e = backed-sound tb s h
+  done-sound s h look e = h
+  done-sound s h (restore bytes) e = sound-decides tb (sessionIn bytes) .holds (restored-sound tb bytes e)
 
-    -- every call keeps a session sound, refused or not
-    pub call-sound : (s : State ℕ) → Sound tb s → (c : Call) → Sound tb (call tb s c .session)
-    call-sound s h c = rw (settled tb ok s h c) (go (refusal (ownChecks tb s c)) refl)
-      where
-        go : (n : ℕ) → refusal (ownChecks tb s c) ≡ n → Sound tb (settle n s (done tb s c) .session)
-        go zero e = done-sound s h c e
-        go (suc k) e = h
+  -- every call keeps a session sound, refused or not
+  pub call-sound : (s : State ℕ) → Sound tb s → (c : Call) → Sound tb (call tb s c .session)
+  call-sound s h c = rw (settled tb ok s h c) (go (refusal (ownChecks tb s c)) refl)
+    where
+      go : (n : ℕ) → refusal (ownChecks tb s c) ≡ n → Sound tb (settle n s (done tb s c) .session)
+      go zero e = done-sound s h c e
+      go (suc k) e = h
 
-    -- and every list of calls does
-    pub after-sound : (s : State ℕ) → Sound tb s → (cs : List Call) → Sound tb (after tb s cs)
-    unfolding after
-    after-sound s h [] = h
-    after-sound s h (c ∷ cs) = after-sound (call tb s c .session) (call-sound s h c) cs
+  -- and every list of calls does
+  pub after-sound : (s : State ℕ) → Sound tb s → (cs : List Call) → Sound tb (after tb s cs)
+  unfolding after
+  after-sound s h [] = h
+  after-sound s h (c ∷ cs) = after-sound (call tb s c .session) (call-sound s h c) cs

@@ -76,7 +76,7 @@ module _ (tb : List ℕ) (s : State ℕ) (b : ℕ) where
 
 -- ---- the rule that is chosen
 
-module _ (tb : List ℕ) (s : State ℕ) (b : ℕ) (f : Flags) where
+module _ (tb : List ℕ) (s : State ℕ) (b : ℕ) where
   -- the rule can be carried out, where t was found
   abbrev pub RuleReady : Found → Rule → Type 0
   RuleReady t r = Ready tb b s (deedOf r) (placeOf t)
@@ -84,13 +84,14 @@ module _ (tb : List ℕ) (s : State ℕ) (b : ℕ) (f : Flags) where
   abbrev pub ChoiceReady : Choice → Type 0
   ChoiceReady c = RuleReady (c .found) (c .rule)
 
+module _ (tb : List ℕ) (s : State ℕ) (b : ℕ) (f : Flags) where
   abbrev FirstReady : Group → Found → Type 0
-  FirstReady g t = RuleReady t (first R18 (fits tb s b f t) (rulesOf g))
+  FirstReady g t = RuleReady tb s b t (first R18 (fits tb s b f t) (rulesOf g))
 
   instance-ready : (t : Found) → Sought tb s b t → FirstReady instanceGroup t
   unfolding fits rulesOf deedOf
   instance-ready t h =
-      first-elim (RuleReady t) R18 (fits tb s b f t) (rulesOf instanceGroup)
+      first-elim (RuleReady tb s b t) R18 (fits tb s b f t) (rulesOf instanceGroup)
       (λ x. (found-inside tb s b t x h, tt), λ x. (λ _. nowhere-free tb s b t x h, never))
 
   module _ (plain : Plain tb b) where
@@ -111,7 +112,7 @@ module _ (tb : List ℕ) (s : State ℕ) (b : ℕ) (f : Flags) where
       task-ready : FirstReady taskGroup t
       unfolding fits rulesOf deedOf
       task-ready =
-          first-elim (RuleReady t) R18 (fits tb s b f t) (rulesOf taskGroup) (
+          first-elim (RuleReady tb s b t) R18 (fits tb s b f t) (rulesOf taskGroup) (
             λ x. takes (and-left _ _ x),
             λ _. (λ x. takes-held (and-left _ _ x) (and-right (isFound t) _ x), λ _. (takes, λ x. (λ _. nowhere-free tb s b t x h, never))),
           )
@@ -119,7 +120,7 @@ module _ (tb : List ℕ) (s : State ℕ) (b : ℕ) (f : Flags) where
       apart-ready : RootFree tb b (s .tasks) → FirstReady apartGroup t
       unfolding fits rulesOf deedOf
       apart-ready free =
-          first-elim (RuleReady t) R18 (fits tb s b f t) (rulesOf apartGroup) (
+          first-elim (RuleReady tb s b t) R18 (fits tb s b f t) (rulesOf apartGroup) (
             λ _. free,
             λ _. (
               λ x. takes (and-left _ _ x),
@@ -156,21 +157,21 @@ module _ (tb : List ℕ) (s : State ℕ) (b : ℕ) (f : Flags) where
       unfolding fits rulesOf deedOf
       near-ready e =
           let k : Takes tb b (front s) = record { plainRoot = front-root e; plainScreen = plain } in
-          first-elim (RuleReady nowhere) R18 (fits tb s b f nowhere) (rulesOf nearGroup) (
+          first-elim (RuleReady tb s b nowhere) R18 (fits tb s b f nowhere) (rulesOf nearGroup) (
             λ _. (some, tt),
             λ _. (λ x. (some, (k, and-right (f .ctp) _ x)), λ _. (λ x. (some, (k, and-right (f .rtf) _ x)), λ _. (λ _. (some, k), never))),
           )
 
   -- the choice of a start in a sound session that is not empty can be carried out, but for the limits
-  pub choose-ready : Sound tb s → 1 ≤ count s → ChoiceReady (choose tb s b f)
+  pub choose-ready : Sound tb s → 1 ≤ count s → ChoiceReady tb s b (choose tb s b f)
   unfolding choose chooseIn groupOf soughtBy isApart rootsOnce
   choose-ready h some =
-      if-elim (λ g. ChoiceReady (chooseIn tb s b f g)) (isSingleInstance tb b) _ _ (λ e. instance-ready _ (seekRoot-sought tb s b))
-      (λ e. if-elim (λ g. ChoiceReady (chooseIn tb s b f g)) (isSingleTask tb b) _ _ (λ k. task-ready e _ (seek-sought tb s b))
-      (λ k. if-elim (λ g. ChoiceReady (chooseIn tb s b f g)) (isApart tb s b f) _ _ (λ _. apart e (standard-free tb s b (rw k e)))
+      if-elim (λ g. ChoiceReady tb s b (chooseIn tb s b f g)) (isSingleInstance tb b) _ _ (λ e. instance-ready _ (seekRoot-sought tb s b))
+      (λ e. if-elim (λ g. ChoiceReady tb s b (chooseIn tb s b f g)) (isSingleTask tb b) _ _ (λ k. task-ready e _ (seek-sought tb s b))
+      (λ k. if-elim (λ g. ChoiceReady tb s b (chooseIn tb s b f g)) (isApart tb s b f) _ _ (λ _. apart e (standard-free tb s b (rw k e)))
       (λ a. near-ready e h some (or-false-right (f .ntk) _ a))))
     where
-      apart : Plain tb b → RootFree tb b (s .tasks) → ChoiceReady (chooseIn tb s b f apartGroup)
+      apart : Plain tb b → RootFree tb b (s .tasks) → ChoiceReady tb s b (chooseIn tb s b f apartGroup)
       apart e free = apart-ready e _ (if-elim (Sought tb s b) (f .mtk) nowhere _ (λ _. free) (λ _. seek-sought tb s b)) free
 
 -- ---- start and finishing start
