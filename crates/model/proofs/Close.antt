@@ -11,7 +11,7 @@ use lib.Seq.{map-set-same}
 use borrow.Author.Tests.{eqb-false, ltb-true, ltb-false}
 use Rattle.model.specs.Lists.{if_then_else_, isEmpty, omit, Pairwise}
 use Rattle.model.specs.Table.{sizeOf, rootsOnce}
-use Rattle.model.specs.Session.{Stack, State, stack, state, noStack}
+use Rattle.model.specs.Session.{Stack, State, stack, state, noStack, taskAt}
 use Rattle.model.specs.Deeds.{mainWithout, closeIn, close}
 use Rattle.model.specs.Calls.{backed}
 use Rattle.model.proofs.Logic.{if-elim, All-at}
@@ -22,7 +22,8 @@ use Rattle.model.proofs.Sound.{TaskSound, RootsDiffer, MainSound, Sound
 
 module _ {A : Type 0} where
   -- the task loses its last screen, and goes
-  pub closeIn-emptied : (k i : ℕ) (ts : List (Stack A)) → isEmpty (omit i (getD ts k noStack .screens)) ≡ true → closeIn k i ts ≡ omit k ts
+  pub closeIn-emptied : (k i : ℕ) (ts : List (Stack A)) → isEmpty (omit i (getD ts k noStack .screens)) ≡ true
+      → closeIn k i ts ≡ omit k ts
   unfolding closeIn
   closeIn-emptied k i [] e = refl
   closeIn-emptied zero i (t ∷ ts) e = ap (λ (b : Bool). if b then ts else stack (t .root) (omit i (t .screens)) ∷ ts) e
@@ -61,6 +62,16 @@ module _ (tb : List ℕ) (ts us : List (Stack ℕ)) (e : rootsOf ts ≡ rootsOf 
             ∙ List·getD-map (λ t. t .root) ts (pred m) noStack ∙ h .root l;
       }
 
+-- ---- the main place
+
+pub no-main : (tb : List ℕ) (ts : List (Stack ℕ)) → MainSound tb ts 0
+no-main tb ts = record { most = zero-le; root = λ l. absurd (not-suc-le-zero l) }
+
+-- the main task stands behind m others in ts, and at the place n in us
+pub follows-main : (tb : List ℕ) (ts us : List (Stack ℕ)) (m n : ℕ) → n ≤ length us → taskAt us n ≡ taskAt ts (suc m)
+    → MainSound tb ts (suc m) → MainSound tb us n
+follows-main tb ts us m n l e h = record { most = l; root = λ x. ap (λ (t : Stack ℕ). t .root) e ∙ h .root (suc-le-suc zero-le) }
+
 -- ---- soundness
 
 omit-lone : (i r : ℕ) → isEmpty (omit i (r ∷ [])) ≡ false → omit i (r ∷ []) ≡ r ∷ []
@@ -68,7 +79,8 @@ omit-lone zero r e = absurd (true≢false e)
 omit-lone (suc i) r e = refl
 
 module _ (tb : List ℕ) where
-  shortened-sound : (t : Stack ℕ) (i : ℕ) → isEmpty (omit i (t .screens)) ≡ false → TaskSound tb t → TaskSound tb (stack (t .root) (omit i (t .screens)))
+  shortened-sound : (t : Stack ℕ) (i : ℕ) → isEmpty (omit i (t .screens)) ≡ false
+      → TaskSound tb t → TaskSound tb (stack (t .root) (omit i (t .screens)))
   shortened-sound t i e k =
       record {
         filled = isEmpty-length (omit i (t .screens)) e;
@@ -83,30 +95,20 @@ module _ (tb : List ℕ) where
   pub without-main : (k m : ℕ) (ts : List (Stack ℕ)) → MainSound tb ts m → MainSound tb (omit k ts) (mainWithout (suc k) m)
   unfolding mainWithout
   without-main k m ts h =
-      if-elim (MainSound tb (omit k ts)) (eqb m (suc k)) _ _ (λ e. record { most = zero-le; root = λ l. absurd (not-suc-le-zero l) })
+      if-elim (MainSound tb (omit k ts)) (eqb m (suc k)) _ _ (λ e. no-main tb (omit k ts))
       (λ e. if-elim (MainSound tb (omit k ts)) (ltb (suc k) m) _ _ (λ f. behind m (ltb-true (suc k) m f) h)
-      (λ f. before (omega (arith, eqb-false m (suc k) e, ltb-false (suc k) m f))))
+      (λ f. before m (omega (arith, eqb-false m (suc k) e, ltb-false (suc k) m f)) h))
     where
       behind : (n : ℕ) → suc k < n → MainSound tb ts n → MainSound tb (omit k ts) (pred n)
       behind zero l h = absurd (not-suc-le-zero l)
       behind (suc zero) l h = absurd (not-suc-le-zero (le-of-suc-le-suc l))
       behind (suc (suc n)) l h =
           let o : suc (length (omit k ts)) ≡ length ts = omit-length k ts (omega (arith, l, h .most)) in
-          record {
-            most = omega (arith, o, h .most);
-            root = λ x. ap (λ (t : Stack ℕ). t .root) (omit-behind noStack k n ts (omega (arith, l))) ∙ h .root (suc-le-suc zero-le);
-          }
+          follows-main tb ts (omit k ts) (suc n) (suc n) (omega (arith, o, h .most)) (omit-behind noStack k n ts (omega (arith, l))) h
 
-      before : m ≤ k → MainSound tb (omit k ts) m
-      before l =
-          record {
-            most = omit-inside k m ts l (h .most);
-            root = λ x. ap (λ (t : Stack ℕ). t .root) (omit-before noStack k (pred m) ts (at m x l)) ∙ h .root x;
-          }
-        where
-          at : (n : ℕ) → 1 ≤ n → n ≤ k → pred n < k
-          at zero x l = absurd (not-suc-le-zero x)
-          at (suc n) x l = l
+      before : (n : ℕ) → n ≤ k → MainSound tb ts n → MainSound tb (omit k ts) n
+      before zero l h = no-main tb (omit k ts)
+      before (suc n) l h = follows-main tb ts (omit k ts) n (suc n) (omit-inside k (suc n) ts l (h .most)) (omit-before noStack k n ts l) h
 
   module _ (k i : ℕ) (s : State ℕ) (h : Sound tb s) where
     emptied-sound : Sound tb (state (omit k (s .tasks)) (mainWithout (suc k) (s .main)))
@@ -118,7 +120,8 @@ module _ (tb : List ℕ) where
           place = without-main k (s .main) (s .tasks) (h .place);
         }
 
-    kept-sound : isEmpty (omit i (getD (s .tasks) k noStack .screens)) ≡ false → Sound tb (state (set (s .tasks) k (shortened k i (s .tasks))) (s .main))
+    kept-sound : isEmpty (omit i (getD (s .tasks) k noStack .screens)) ≡ false
+        → Sound tb (state (set (s .tasks) k (shortened k i (s .tasks))) (s .main))
     kept-sound e =
         record {
           few = rw (length-set (s .tasks) k (shortened k i (s .tasks))) (h .few);

@@ -1,8 +1,12 @@
 pub mod Logic
 pub mod ListLaws
 pub mod Walks
+pub mod RefusalLaws
 pub mod Tables
 pub mod Sound
 pub mod Close
+pub mod Deeds
 pub mod Marks
+pub mod Start
+pub mod Keeps
 pub mod Cases

@@ -8,6 +8,16 @@ use native.Mathlib.Omega.{arith}
 use lib.ListN.{length, getD, take, drop, set}
 use Rattle.model.specs.Lists.{if_then_else_, isEmpty, isPlace, further, find, omit, putSecond, toFront, onFirst, All, Pairwise}
 
+-- ---- places
+
+pub isPlace-true : (p : ℕ) → isPlace p ≡ true → suc (pred p) ≡ p
+isPlace-true zero e = absurd (false≢true e)
+isPlace-true (suc k) e = refl
+
+pub isPlace-false : (p : ℕ) → isPlace p ≡ false → p ≡ 0
+isPlace-false zero e = refl
+isPlace-false (suc k) e = absurd (true≢false e)
+
 module _ {A : Type 0} where
   pub isEmpty-length : (xs : List A) → isEmpty xs ≡ false → 1 ≤ length xs
   isEmpty-length [] e = absurd (true≢false e)
@@ -146,6 +156,11 @@ module _ {A : Type 0} where
     Pairwise-omit zero (x ∷ xs) h = h .1
     Pairwise-omit (suc i) (x ∷ xs) h = (All-omit (R x) i xs (h .0), Pairwise-omit i xs (h .1))
 
+    pub Pairwise-drop : (k : ℕ) (xs : List A) → Pairwise R xs → Pairwise R (drop k xs)
+    Pairwise-drop zero xs h = h
+    Pairwise-drop (suc k) [] h = h
+    Pairwise-drop (suc k) (x ∷ xs) h = Pairwise-drop k xs (h .1)
+
     module _ (flip : (x y : A) → R x y → R y x) where
       Pairwise-putSecond : (x : A) (xs : List A) → All (R x) xs → Pairwise R xs → Pairwise R (putSecond x xs)
       Pairwise-putSecond x [] a h = (tt, tt)
@@ -195,6 +210,9 @@ module _ {A : Type 0} where
         go ih false f zero g e = (f, ih g)
         go ih false f (suc n) g e = absurd (omega arith)
 
+    pub found-none : (xs : List A) → isPlace (find q xs) ≡ false → All (λ x. q x ≡ false) xs
+    found-none xs h = find-none xs (isPlace-false (find q xs) h)
+
     -- where something was found
     pub found-at : (xs : List A) → isPlace (find q xs) ≡ true → FoundAt xs (pred (find q xs))
     found-at xs h = go (find q xs) refl h
@@ -226,7 +244,8 @@ module _ {A B : Type 0} (f : A → B) where
   map-drop (suc k) (x ∷ xs) = map-drop k xs
 
   -- a change before the map is the other change after it
-  pub map-onFirst : (g : A → A) (h : B → B) → ((x : A) → f (g x) ≡ h (f x)) → (xs : List A) → map f (onFirst g xs) ≡ onFirst h (map f xs)
+  pub map-onFirst : (g : A → A) (h : B → B) → ((x : A) → f (g x) ≡ h (f x))
+      → (xs : List A) → map f (onFirst g xs) ≡ onFirst h (map f xs)
   map-onFirst g h e [] = refl
   map-onFirst g h e (x ∷ xs) = ap (λ (y : B). y ∷ map f xs) (e x)
 
