@@ -28,13 +28,13 @@ module _ (c : Session) (sizes : Sized c) (seen : Seen c) (some : 1 ≤ c .n) whe
   t = getD (c .tasks) 0 noTask
 
   pub look-filled : lookAt (view c) ≡ record {
-        refusal = 0;
-        screen = getD (t .screens) (t .height - 1) 0;
-        root = t .root;
-        height = t .height;
-        tasks = c .n;
-        main = c .main;
-      }
+    refusal = 0;
+    screen = getD (t .screens) (t .height - 1) 0;
+    root = t .root;
+    height = t .height;
+    tasks = c .n;
+    main = c .main;
+  }
   unfolding lookAt view viewTask
   look-filled =
       let l : length (t .screens) ≡ 32 = All-at Screens32 (c .tasks) 0 noTask (omega (arith, sizes .tasks)) (sizes .each) in

@@ -13,16 +13,37 @@ pub fn look_at(s: Session) -> Answer
     ensures { λ r. ⌜ r ≡ lookAt (view s) ⌝ }
 {
     if s.n == 0 {
-        return Answer { refusal: 0, screen: 0, root: 0, height: 0, tasks: 0, main: s.main };
+        return Answer {
+            refusal: 0,
+            screen: 0,
+            root: 0,
+            height: 0,
+            tasks: 0,
+            main: s.main,
+        };
     }
     let t = s.tasks[0];
     let h = (t.height - 1) as usize;
-    Answer { refusal: 0, screen: t.screens[h], root: t.root, height: t.height, tasks: s.n, main: s.main }
+    Answer {
+        refusal: 0,
+        screen: t.screens[h],
+        root: t.root,
+        height: t.height,
+        tasks: s.n,
+        main: s.main,
+    }
 }
 
 // The answer of a refused call: its number and zeros.
 pub fn refused(number: u8) -> Answer
     ensures { λ r. ⌜ r ≡ refusedAnswer number ⌝ }
 {
-    Answer { refusal: number, screen: 0, root: 0, height: 0, tasks: 0, main: 0 }
+    Answer {
+        refusal: number,
+        screen: 0,
+        root: 0,
+        height: 0,
+        tasks: 0,
+        main: 0,
+    }
 }

@@ -17,7 +17,8 @@ use Rattle.model.proofs.RefusalLaws.{refusal-skip, checks-own}
 use Rattle.model.proofs.Sound.{Sound, sound-decides}
 use Rattle.model.proofs.Close.{no-main, backed-sound}
 use Rattle.model.proofs.Deeds.{new-task-sound}
-use Rattle.model.proofs.Start.{Finished, start-accepted, started-sound, finished-sound}
+use Rattle.model.proofs.Start.{started-sound}
+use Rattle.model.proofs.Finish.{finished-sound}
 
 -- ---- what is known of a good table and of an accepted image
 
@@ -64,13 +65,12 @@ launched-sound tb ok =
       place = record { most = omega arith; root = λ l. refl };
     }
 
-module _ (finished-is : (tb : List ℕ) (s : State ℕ) (b w : ℕ) → Sound tb s → 1 ≤ count s → Finished tb s b w)
-    (tb : List ℕ) (ok : tableRefusal tb ≡ 0) where
+module _ (tb : List ℕ) (ok : tableRefusal tb ≡ 0) where
   pub done-sound : (s : State ℕ) → Sound tb s → (c : Call) → refusal (ownChecks tb s c) ≡ 0 → Sound tb (done tb s c)
   unfolding done ownChecks
   done-sound s h launch e = launched-sound tb ok
   done-sound s h (start b w) e = started-sound tb s b w h e
-  done-sound s h (finishingStart b w) e = finished-sound tb s b w (finished-is tb s b w h (start-accepted tb s b w e .some)) h e
+  done-sound s h (finishingStart b w) e = finished-sound tb b w s h e
   done-sound s h back e = backed-sound tb s h
   done-sound s h look e = h
   done-sound s h (restore bytes) e = sound-decides tb (sessionIn bytes) .holds (restored-sound tb bytes e)

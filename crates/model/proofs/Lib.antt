@@ -8,5 +8,6 @@ pub mod Close
 pub mod Deeds
 pub mod Marks
 pub mod Start
+pub mod Finish
 pub mod Keeps
 pub mod Cases

@@ -17,13 +17,12 @@ use Rattle.model.specs.Search.{placeOf, isFound, isFoundByRoot, hasRoot,
 use Rattle.model.specs.declared.Rule.{Rule}
 use Rattle.model.specs.declared.Choice.{Choice}
 use Rattle.model.specs.Rules.{Group, instanceGroup, taskGroup, nearGroup, apartGroup, rulesOf, isApart, groupOf, soughtBy, taskFound, fits, chooseIn, choose}
-use Rattle.model.specs.Deeds.{deedOf, close}
-use Rattle.model.specs.Calls.{chosen, started, finished, startChecks, makesTask, overfills}
+use Rattle.model.specs.Deeds.{deedOf}
+use Rattle.model.specs.Calls.{chosen, started, startChecks, makesTask, overfills}
 use Rattle.model.proofs.Logic.{All-map, All-of, All-at, if-elim, first-elim, never, contradiction, and-left, and-right, or-false-right}
 use Rattle.model.proofs.ListLaws.{found-at, found-none, isEmpty-length}
 use Rattle.model.proofs.RefusalLaws.{refusal-skip}
 use Rattle.model.proofs.Sound.{TaskSound, Sound, Plain}
-use Rattle.model.proofs.Close.{close-sound}
 use Rattle.model.proofs.Deeds.{IsPlaceIn, Takes, RootFree, Ready, carry-sound}
 
 -- ---- what a search tells
@@ -203,11 +202,6 @@ module _ (tb : List ℕ) (s : State ℕ) (b w : ℕ) where
         screenFits = c₂₄ .0;
       }
 
-  -- a finishing start makes the session that the start makes, or closes one screen of it
-  pub data Finished : Type 0 where
-    as-started : finished tb s b w ≡ started tb s b w → Finished
-    closed : (k i : ℕ) → finished tb s b w ≡ close k i (started tb s b w) → Finished
-
 pub started-sound : (tb : List ℕ) (s : State ℕ) (b w : ℕ)
     → Sound tb s → refusal (startChecks tb s b w) ≡ 0 → Sound tb (started tb s b w)
 unfolding started
@@ -215,8 +209,3 @@ started-sound tb s b w h e =
     let a = start-accepted tb s b w e in
     carry-sound tb b (a .known) (deedOf (chosen tb s b w .rule)) (placeOf (chosen tb s b w .found)) s
     (choose-ready tb s b (flagsOf w) h (a .some)) (a .taskFits) (a .screenFits) h
-
-pub finished-sound : (tb : List ℕ) (s : State ℕ) (b w : ℕ) → Finished tb s b w
-    → Sound tb s → refusal (startChecks tb s b w) ≡ 0 → Sound tb (finished tb s b w)
-finished-sound tb s b w (as-started f) h e = rw f (started-sound tb s b w h e)
-finished-sound tb s b w (closed k i f) h e = rw f (close-sound tb k i (started tb s b w) (started-sound tb s b w h e))
