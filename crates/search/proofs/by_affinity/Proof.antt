@@ -1,67 +1,142 @@
+-- `search::by_affinity` meets its contract. The loop's invariant: the place sought is the place in what is left, counted
+-- behind the tasks that were passed.
+use Prim.Native.Nat.{ℕ, _+_, _-_, _*_, _≤_, _<_}
+use mathlib.Core.Path.{_≡_, sym, _∙_, ap}
+use mathlib.Core.Bool.{Bool, true, false, not, _&&_}
+use mathlib.Core.List.{List}
+use native.Mathlib.Omega.{arith}
+use borrow.Author.Needs.{needs}
+use lib.ListN.{length, drop, getD}
+use lib.Dec.{eqb}
+use Rattle.model.specs.Lists.{find}
+use Rattle.model.specs.Table.{sizeOf, modeOf, affinityOf, isSingleInstance}
+use Rattle.model.specs.Session.{Stack, noStack, count}
+use Rattle.model.specs.Search.{hasAffinity}
+use Rattle.model.proofs.Tables.{good-shaped}
+use Rattle.session.specs.Stored.{view, noTask}
+use Rattle.session.proofs.Known.{Sized, sized, long}
+use Rattle.session.proofs.StoredLaws.{view-count, view-root, sound-blank, blank-few}
+use Rattle.search.specs.Ready.{ReadyFor}
+use Rattle.search.proofs.Roots.{root-known, affinity-test}
+use Rattle.search.proofs.Steps.{behind, find-begin, find-end, find-here, find-next}
 use Rattle.search.proofs.by_affinity.Statement.{statement}
 use Rattle.search.proofs.by_affinity.Tie as tie
-use Rattle.search.proofs.by_affinity.Reads as reads
-use Rattle.search.proofs.by_affinity.Lts as lts
-use Rattle.table.proofs.affinity.Reads as affinity-reads
-use Rattle.table.proofs.mode.Reads as mode-reads
 
 abbrev Inv-loop : tie.InvT-loop
-Inv-loop table b s affinity i₀ i = ?
+Inv-loop table b s affinity i₀ i =
+    (i ≤ s .n) × (find (hasAffinity table b) (view s .tasks) ≡ behind i (find (hasAffinity table b) (drop i (view s .tasks))))
 
 abbrev μ-loop : tie.MeasureT-loop
-μ-loop table b s affinity i₀ i = ?
+μ-loop table b s affinity i₀ i = s .n - i
 
--- src/lib.rt:37:9
 affinity-requires : tie.Need-affinity-requires Inv-loop μ-loop
-affinity-requires c κs = ?
+affinity-requires c κs =
+    let g = good-shaped (c .before .args .table .now) (c .before .pre .ready .good) in
+    let k = c .before .pre .known in
+    omega arith
 
--- src/lib.rt:39:5
 loop-holds : tie.Need-loop-holds Inv-loop μ-loop
-loop-holds c = ?
+loop-holds c =
+    let a = c .before .before .args in
+    (search needs, find-begin (hasAffinity (a .table .now) (a .b)) (view (a .t2) .tasks))
 
--- src/lib.rt:43:17
 cast-k : tie.Need-cast-k Inv-loop μ-loop
-cast-k c = ?
+cast-k c =
+    let start = c .before .before .before .before in
+    let f = blank-few (start .args .t2) (sound-blank _ _ (start .pre .ready .sound)) in
+    omega arith
 
--- src/lib.rt:44:17
 mul-t : tie.Need-mul-t Inv-loop μ-loop
-mul-t c = ?
+mul-t c =
+    let start = c .before .before .before .before in
+    let f = blank-few (start .args .t2) (sound-blank _ _ (start .pre .ready .sound)) in
+    omega arith
 
--- src/lib.rt:44:17
 element-copy-out-t : tie.Need-element-copy-out-t Inv-loop μ-loop
-element-copy-out-t c = ?
+element-copy-out-t c =
+    let start = c .before .before .before .before in
+    let f = blank-few (start .args .t2) (sound-blank _ _ (start .pre .ready .sound)) in
+    let z = sized (start .args .t2) _ (start .good .1 .0) .tasks in
+    omega arith
 
--- src/lib.rt:45:13
+-- the table has the row of the root at i
+row : (c : tie.After-t Inv-loop μ-loop)
+    → 3 + 2 * (getD (c .before .before .before .before .before .args .t2 .tasks) (c .before .before .loop .i) noTask .root)
+    < length (c .before .before .before .before .before .args .table .now)
+row c =
+    let start = c .before .before .before .before .before in
+    let a = start .args in
+    let g = good-shaped (a .table .now) (start .pre .ready .good) in
+    let i = c .before .before .loop .i in
+    let lt : i < a .t2 .n = omega arith in
+    let k = root-known (a .table .now) (a .t2) (sized (a .t2) _ (start .good .1 .0)) (start .pre .ready .sound) i lt in
+    omega arith
+
 mode-requires : tie.Need-mode-requires Inv-loop μ-loop
-mode-requires c κs = ?
+mode-requires c κs = omega (arith, row c)
 
--- src/lib.rt:45:49
 affinity-requires-2 : tie.Need-affinity-requires-2 Inv-loop μ-loop
-affinity-requires-2 c κs = ?
+affinity-requires-2 c κs = omega (arith, row (c .before))
 
--- src/lib.rt:46:19
 add-result : tie.Need-add-result Inv-loop μ-loop
-add-result c = ?
+add-result c =
+    let start = c .before .before .before .before .before .before .before .before in
+    let f = blank-few (start .args .t2) (sound-blank _ _ (start .pre .ready .sound)) in
+    omega arith
 
--- src/lib.rt:48:9
 add-i : tie.Need-add-i Inv-loop μ-loop
-add-i c = ?
+add-i c =
+    let start = c .before .before .before .before .before .before .before .before in
+    let f = blank-few (start .args .t2) (sound-blank _ _ (start .pre .ready .sound)) in
+    omega arith
 
--- src/lib.rt:39:5
 loop-less : tie.Need-loop-less Inv-loop μ-loop
-loop-less c = ?
+loop-less c = search needs
 
--- src/lib.rt:39:5
+-- the test of the task at i is the code's
+tested : (c : tie.After-affinity2 Inv-loop μ-loop)
+    → hasAffinity (c .before .before .before .before .before .before .before .args .table .now) (c .before .before .before .before .before .before .before .args .b)
+    (getD (view (c .before .before .before .before .before .before .before .args .t2) .tasks) (c .before .before .before .before .loop .i) noStack)
+    ≡ (not (eqb (c .before .mode .result) 3) && eqb (c .affinity2 .result) (c .before .before .before .before .before .affinity .result))
+tested c =
+    let start = c .before .before .before .before .before .before .before in
+    let a = start .args in
+    let i = c .before .before .before .before .loop .i in
+    let lt : i < a .t2 .n = omega arith in
+    affinity-test (a .table .now) (a .b) (a .t2) i lt
+    (c .before .mode .ensures) (c .affinity2 .ensures) (c .before .before .before .before .before .affinity .ensures)
+
+counted : (c : tie.Start Inv-loop μ-loop) → count (view (c .args .t2)) ≡ c .args .t2 .n
+counted c = view-count (c .args .t2) (sized (c .args .t2) _ (c .good .1 .0)) (blank-few (c .args .t2) (sound-blank _ _ (c .pre .ready .sound)))
+
 loop-again : tie.Need-loop-again Inv-loop μ-loop
-loop-again c = ?
+loop-again c =
+    let here = c .before .before .before .before .before in
+    let start = here .before .before .before in
+    let a = start .args in
+    let i = here .loop .i in
+    let n = counted start in (
+      omega arith,
+      here .loop .inv .1 ∙ find-next (hasAffinity (a .table .now) (a .b)) (view (a .t2) .tasks) i noStack (omega arith)
+          (tested (c .before) ∙ c .if2 .left),
+    )
 
--- src/lib.rt:33:1
 returns : tie.Need-returns Inv-loop μ-loop
-returns c = ?
+returns c =
+    let start = c .before .before .before .before in
+    let a = start .args in
+    let n = counted start in
+    sym (c .before .loop .inv .1 ∙ find-end (hasAffinity (a .table .now) (a .b)) (view (a .t2) .tasks) (c .before .loop .i) (omega arith))
 
--- src/lib.rt:33:1
 returns-2 : tie.Need-returns-2 Inv-loop μ-loop
-returns-2 c = ?
+returns-2 c =
+    let here = c .before .before .before .before .before in
+    let start = here .before .before .before in
+    let a = start .args in
+    let i = here .loop .i in
+    let n = counted start in
+    sym (here .loop .inv .1 ∙ find-here (hasAffinity (a .table .now) (a .b)) (view (a .t2) .tasks) i noStack (omega arith)
+    (tested (c .before) ∙ c .if2 .taken))
 
 pub by-affinity-spec : {M : Type 1} → statement M
 by-affinity-spec =

@@ -1,0 +1,23 @@
+-- `search::seek_root` meets its contract: the place by root, or none.
+use mathlib.Core.Path.{sym}
+use borrow.Author.Needs.{needs}
+use Rattle.session.specs.Stored.{view}
+use Rattle.search.proofs.Seeking.{root-none, root-found}
+use Rattle.search.proofs.seek_root.Statement.{statement}
+use Rattle.search.proofs.seek_root.Tie as tie
+
+by-root-requires : tie.Need-by-root-requires
+by-root-requires c κs = search needs
+
+returns : tie.Need-returns
+returns c =
+    let a = c .before .before .args in
+    sym (root-none (a .b) (view (a .s) .tasks) (c .before .by-root .ensures) (c .if1 .taken))
+
+returns-2 : tie.Need-returns-2
+returns-2 c =
+    let a = c .before .before .args in
+    sym (root-found (a .b) (view (a .s) .tasks) (c .before .by-root .result) (c .before .by-root .ensures) (c .if1 .left))
+
+pub seek-root-spec : {M : Type 1} → statement M
+seek-root-spec = tie.close (tie.spec by-root-requires returns returns-2)
