@@ -1,16 +1,20 @@
 // The flag word of a start: its six flags, and whether a bit outside them is set.
 
 use model::Flags;
-
 ghost use mathlib.Core.Path.{_≡_};
 ghost use Rattle.model.specs.Flags.{flagsOf, hasOtherBit};
 
 // The six, in hex as Android publishes them: new task, single top, multiple task, clear top, reorder to front, clear task.
 const NTK: u32 = 0x10000000;
+
 const STP: u32 = 0x20000000;
+
 const MTK: u32 = 0x08000000;
+
 const CTP: u32 = 0x04000000;
+
 const RTF: u32 = 0x00020000;
+
 const CTK: u32 = 0x00008000;
 
 // Any of the six may be set together.
