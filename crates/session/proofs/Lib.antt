@@ -2,3 +2,4 @@ pub mod Known
 pub mod Padding
 pub mod StoredLaws
 pub mod TaskLaws
+pub mod SessionLaws

@@ -1,20 +1,26 @@
 -- Lists filled up to a fixed length, as arrays hold them: what was filled up and the filling come back, and each change
 -- of a list is a change of the array.
 use Prim.Native.Nat.{ℕ, suc, _+_, _-_, _≤_, _<_}
-use mathlib.Core.Path.{_≡_, refl, sym, _∙_, ap}
+use mathlib.Core.Path.{_≡_, sym, _∙_, ap}
 use mathlib.Core.List.{List, [], _∷_, _++_, append-assoc}
 use native.Mathlib.Omega.{arith}
-use lib.ListN.{length, getD, set, take, drop, replicate, List·getD-append, length-append, length-replicate, replicate-append-replicate, length-drop, take-append-drop}
-use lib.Seq.{take-at, drop-at, set-at, append-snoc, take-append-le, drop-append-le, length-take-le}
+use lib.ListN.{length, getD, set, take, drop, replicate, List·getD-append, length-append, length-set, length-replicate, replicate-append-replicate, length-drop, take-append-drop}
+use lib.Seq.{take-at, drop-at, set-at, set-append-left, append-snoc, take-append-le, drop-append-le, length-take-le}
 use Rattle.model.specs.Lists.{omit, toFront}
 use Rattle.model.proofs.ListLaws.{omit-length, omit-split, toFront-length, toFront-omit}
 use Rattle.session.specs.Stored.{pad}
+
+omit-append : {A : Type 0} (i : ℕ) (xs ys : List A) → i < length xs → omit i (xs ++ ys) ≡ omit i xs ++ ys
+omit-append i xs ys h =
+    rw (omit-split i (xs ++ ys), omit-split i xs, take-append-le i xs ys (omega arith), drop-append-le (suc i) xs ys h)
+    (sym (append-assoc (take i xs) (drop (suc i) xs) ys))
 
 module _ {A : Type 0} (n : ℕ) (z : A) where
   pub pad-length : (xs : List A) → length xs ≤ n → length (pad n z xs) ≡ n
   unfolding pad
   pad-length xs h = simp (length-append, length-replicate) (omega arith)
 
+  -- a filling by its length
   same : {a b : ℕ} → a ≡ b → replicate a z ≡ replicate b z
   same e = ap (λ (m : ℕ). replicate m z) e
 
@@ -79,10 +85,10 @@ module _ {A : Type 0} (n : ℕ) (z : A) where
       let g : n - length (take k xs) ≡ n - k = omega (arith, length-take-le k xs h) in
       rw (take-append-le k xs (replicate (n - length xs) z) h) (ap (λ (l : List A). take k xs ++ l) (same g))
 
-  omit-append : (i : ℕ) (xs ys : List A) → i < length xs → omit i (xs ++ ys) ≡ omit i xs ++ ys
-  omit-append i xs ys h =
-      rw (omit-split i (xs ++ ys), omit-split i xs, take-append-le i xs ys (omega arith), drop-append-le (suc i) xs ys h)
-      (sym (append-assoc (take i xs) (drop (suc i) xs) ys))
+  -- one changed
+  pub pad-set : (k : ℕ) (x : A) (xs : List A) → k < length xs → pad n z (set xs k x) ≡ set (pad n z xs) k x
+  unfolding pad
+  pad-set k x xs h = rw (length-set xs k x) (sym (set-append-left xs (replicate (n - length xs) z) k x h))
 
   -- one gone
   pub pad-omit : (i : ℕ) (xs : List A) → i < length xs → length xs ≤ n → pad n z (omit i xs) ≡ omit i (pad n z xs) ++ (z ∷ [])

@@ -5,13 +5,13 @@ use mathlib.Core.Path.{_≡_, refl, sym, _∙_, ap, ap₂}
 use mathlib.Core.Bool.{Bool, true, _&&_}
 use mathlib.Core.List.{List, [], _∷_, map, reverse, reverse-reverse}
 use native.Mathlib.Omega.{arith}
-use lib.ListN.{length, getD, take, drop, replicate, length-map, length-reverse, List·getD-map}
+use lib.ListN.{length, getD, take, drop, replicate, length-map, length-take, length-reverse, List·getD-map}
 use lib.Seq.{length-take-le, getD-take}
 use lib.Dec.{leb, eqb}
 use borrow.Author.Tests.{leb-true, eqb-true, le-leb}
 use Rattle.model.specs.Lists.{all, All}
 use Rattle.model.specs.Session.{Stack, State, stack, noStack, count, height, fresh, mostTasks, mostHeight, sound}
-use Rattle.model.proofs.Logic.{and-left, and-right, All-map, All-of, all-decides, eqb-decides}
+use Rattle.model.proofs.Logic.{and-left, and-right, All-at, All-map, All-of, all-decides, eqb-decides}
 use Rattle.model.proofs.ListLaws.{All-take, All-drop, All-append, All-to-map}
 use Rattle.model.proofs.Sound.{Sound, sound-decides}
 use Rattle.session.specs.declared.Task.{Task}
@@ -96,25 +96,39 @@ blank-is t l e =
     zeros (t .screens) (and-right (eqb (t .height) 0) (all (eqb 0) (t .screens)) rest) ∙ ap (λ (n : ℕ). replicate n 0) l in
     λ i. record { root = sym r i; height = sym h i; screens = sym s i }
 
+-- what the test of storage says
+module _ (c : Session) (e : storageBlank c ≡ true) where
+  pub blank-few : c .n ≤ mostTasks
+  unfolding storageBlank
+  blank-few = leb-true (c .n) mostTasks (and-left (leb (c .n) mostTasks) (all blankAbove (take (c .n) (c .tasks)) && all isBlank (drop (c .n) (c .tasks))) e)
+
+  blank-rest : (all blankAbove (take (c .n) (c .tasks)) && all isBlank (drop (c .n) (c .tasks))) ≡ true
+  unfolding storageBlank
+  blank-rest = and-right (leb (c .n) mostTasks) (all blankAbove (take (c .n) (c .tasks)) && all isBlank (drop (c .n) (c .tasks))) e
+
+  module _ (z : Sized c) where
+    tasks-held : All (λ t. holdTask (viewTask t) ≡ t) (take (c .n) (c .tasks))
+    tasks-held =
+        all-then Screens32 (λ t. holdTask (viewTask t) ≡ t) blankAbove hold-viewTask (take (c .n) (c .tasks))
+        (All-take Screens32 (c .n) (c .tasks) (z .each))
+        (and-left (all blankAbove (take (c .n) (c .tasks))) (all isBlank (drop (c .n) (c .tasks))) blank-rest)
+
+    beyond-blank : All (λ t. blankTask ≡ t) (drop (c .n) (c .tasks))
+    beyond-blank =
+        all-then Screens32 (λ t. blankTask ≡ t) isBlank blank-is (drop (c .n) (c .tasks))
+        (All-drop Screens32 (c .n) (c .tasks) (z .each))
+        (and-right (all blankAbove (take (c .n) (c .tasks))) (all isBlank (drop (c .n) (c .tasks))) blank-rest)
+
 -- only the storage is needed, not the rest of soundness
 pub held : (c : Session) → Sized c → storageBlank c ≡ true → hold (view c) ≡ c
-unfolding hold view storageBlank
+unfolding hold view
 held c z e =
     let ts = take (c .n) (c .tasks) in
-    let us = drop (c .n) (c .tasks) in
-    let both = and-right (leb (c .n) mostTasks) (all blankAbove ts && all isBlank us) e in
-    let low = leb-true (c .n) mostTasks (and-left (leb (c .n) mostTasks) (all blankAbove ts && all isBlank us) e) in
+    let low = blank-few c e in
     let n : length (map viewTask ts) ≡ c .n = length-map ts viewTask ∙ length-take-le (c .n) (c .tasks) (omega (arith, z .tasks)) in
-    let stand : map holdTask (map viewTask ts) ≡ ts =
-    map-undone viewTask holdTask ts
-    (all-then Screens32 (λ t. holdTask (viewTask t) ≡ t) blankAbove hold-viewTask ts (All-take Screens32 (c .n) (c .tasks) (z .each))
-    (and-left (all blankAbove ts) (all isBlank us) both)) in
-    let beyond : us ≡ replicate (length us) blankTask =
-    one-value blankTask us
-    (all-then Screens32 (λ t. blankTask ≡ t) isBlank blank-is us (All-drop Screens32 (c .n) (c .tasks) (z .each))
-    (and-right (all blankAbove ts) (all isBlank us) both)) in
+    let beyond = one-value blankTask (drop (c .n) (c .tasks)) (beyond-blank c e z) in
     λ i. record {
-      tasks = (ap (pad mostTasks blankTask) stand ∙ pad-take mostTasks blankTask (c .n) (c .tasks) (z .tasks) low beyond) i;
+      tasks = (ap (pad mostTasks blankTask) (map-undone viewTask holdTask ts (tasks-held c e z)) ∙ pad-take mostTasks blankTask (c .n) (c .tasks) (z .tasks) low beyond) i;
       n = n i;
       main = c .main;
     }
@@ -130,12 +144,6 @@ module _ (tb : List ℕ) where
   unfolding soundStored
   sound-view c e = sound-decides tb (view c) .holds (and-right (storageBlank c) (sound tb (view c)) e)
 
-pub blank-few : (c : Session) → storageBlank c ≡ true → c .n ≤ mostTasks
-unfolding storageBlank
-blank-few c e =
-    leb-true (c .n) mostTasks
-    (and-left (leb (c .n) mostTasks) (all blankAbove (take (c .n) (c .tasks)) && all isBlank (drop (c .n) (c .tasks))) e)
-
 -- a state that the storage has room for
 pub record Fits (v : State ℕ) : Type 0 where
   pub few : count v ≤ mostTasks
@@ -144,7 +152,7 @@ pub record Fits (v : State ℕ) : Type 0 where
 pub sound-fits : (tb : List ℕ) (v : State ℕ) → Sound tb v → Fits v
 sound-fits tb v h = record { few = h .few; low = All-map (λ t k. k .low) (v .tasks) (h .each) }
 
-hold-screens : (t : Stack ℕ) → height t ≤ mostHeight → Screens32 (holdTask t)
+pub hold-screens : (t : Stack ℕ) → height t ≤ mostHeight → Screens32 (holdTask t)
 unfolding holdTask
 hold-screens t h = pad-length mostHeight 0 (reverse (t .screens)) (omega (arith, length-reverse (t .screens)))
 
@@ -193,10 +201,9 @@ hold-sound tb v h = rw (hold-blank v (sound-fits tb v h)) (ap (sound tb) (view-h
 
 -- ---- the parts of a view
 
-module _ (c : Session) (z : Sized c) (few : c .n ≤ mostTasks) where
-  pub view-count : count (view c) ≡ c .n
-  unfolding view
-  view-count = length-map (take (c .n) (c .tasks)) viewTask ∙ length-take-le (c .n) (c .tasks) (omega (arith, z .tasks))
+pub view-count : (c : Session) → Sized c → c .n ≤ mostTasks → count (view c) ≡ c .n
+unfolding view
+view-count c z few = length-map (take (c .n) (c .tasks)) viewTask ∙ length-take-le (c .n) (c .tasks) (omega (arith, z .tasks))
 
 pub view-at : (c : Session) (i : ℕ) → i < c .n → getD (view c .tasks) i noStack ≡ viewTask (getD (c .tasks) i noTask)
 unfolding view viewTask
@@ -205,3 +212,26 @@ view-at c i h = List·getD-map viewTask (take (c .n) (c .tasks)) i noTask ∙ ap
 pub view-root : (c : Session) (i : ℕ) → i < c .n → getD (view c .tasks) i noStack .root ≡ getD (c .tasks) i noTask .root
 unfolding viewTask
 view-root c i h = ap (λ (t : Stack ℕ). t .root) (view-at c i h)
+
+-- ---- a task that is stored
+
+pub sized-at : (c : Session) → Sized c → (i : ℕ) → i < mostTasks → Screens32 (getD (c .tasks) i noTask)
+sized-at c z i h = All-at Screens32 (c .tasks) i noTask (omega (arith, z .tasks)) (z .each)
+
+module _ (c : Session) (z : Sized c) (e : storageBlank c ≡ true) (i : ℕ) (h : i < c .n) where
+  pub stored-at : holdTask (getD (view c .tasks) i noStack) ≡ getD (c .tasks) i noTask
+  stored-at =
+      let few = blank-few c e in
+      let l : length (take (c .n) (c .tasks)) ≡ c .n = length-take-le (c .n) (c .tasks) (omega (arith, z .tasks)) in
+      let k = All-at (λ t. holdTask (viewTask t) ≡ t) (take (c .n) (c .tasks)) i noTask (omega arith) (tasks-held c e z) in
+      ap holdTask (view-at c i h) ∙ (rw (getD-take (c .n) (c .tasks) i noTask h) at k)
+
+  pub stored-height : getD (c .tasks) i noTask .height ≤ mostHeight
+  unfolding holdTask viewTask
+  stored-height =
+      let few = blank-few c e in
+      let t = getD (c .tasks) i noTask in
+      let l : length (t .screens) ≡ mostHeight = sized-at c z i (omega arith) in
+      let k : length (reverse (take (t .height) (t .screens))) ≡ t .height =
+      ap (λ (s : Task). s .height) (sym (ap holdTask (view-at c i h)) ∙ stored-at) in
+      omega (arith, length-reverse (take (t .height) (t .screens)), length-take (t .height) (t .screens))

@@ -1,14 +1,14 @@
 -- A task's screens are stored bottom first, and the model has them top first: push, pop, clear and lift of the stored
 -- bytes are those of the list.
 use Prim.Native.Nat.{ℕ, zero, suc, _+_, _-_, _≤_, _<_}
-use mathlib.Core.Path.{_≡_, refl, sym, _∙_, ap, ap₂}
+use mathlib.Core.Path.{_≡_, sym, _∙_, ap, ap₂}
 use mathlib.Core.List.{List, [], _∷_, _++_, reverse, reverse-cons, reverse-append}
 use native.Mathlib.Omega.{arith}
 use native.Mathlib.Numerals.{add-one}
 use lib.ListN.{length, getD, set, take, drop, replicate, length-reverse, length-drop, take-append-drop, List·getD-append}
 use lib.Seq.{take-at, drop-at, getD-at, getD-take, length-take-le, take-suc-set, take-suc, take-set-le, set-at, drop-cons, paste, length-paste-head}
 use Rattle.model.specs.Lists.{toFront}
-use Rattle.model.specs.Session.{Stack, stack, height, mostHeight}
+use Rattle.model.specs.Session.{stack, height, mostHeight}
 use Rattle.model.proofs.ListLaws.{toFront-length, toFront-split}
 use Rattle.session.specs.declared.Task.{Task}
 use Rattle.session.specs.Stored.{viewTask, holdTask, pad, pushed, popped}

@@ -1,0 +1,42 @@
+// The flag word of a start: its six flags, and whether a bit outside them is set.
+
+use model::Flags;
+ghost use mathlib.Core.Path.{_≡_};
+ghost use Rattle.model.specs.Flags.{flagsOf, hasOtherBit};
+
+// The six, in hex as Android publishes them: new task, single top, multiple task, clear top, reorder to front, clear task.
+const NTK: u32 = 0x10000000;
+
+const STP: u32 = 0x20000000;
+
+const MTK: u32 = 0x08000000;
+
+const CTP: u32 = 0x04000000;
+
+const RTF: u32 = 0x00020000;
+
+const CTK: u32 = 0x00008000;
+
+// Any of the six may be set together.
+const SIX: u32 = NTK | STP | MTK | CTP | RTF | CTK;
+
+// The six flags of a word.
+pub fn read(word: u32) -> Flags
+    ensures { λ r. ⌜ r ≡ flagsOf word ⌝ }
+{
+    Flags {
+        ntk: word & NTK != 0,
+        stp: word & STP != 0,
+        mtk: word & MTK != 0,
+        ctp: word & CTP != 0,
+        rtf: word & RTF != 0,
+        ctk: word & CTK != 0,
+    }
+}
+
+// A bit outside the six is set.
+pub fn has_other_bit(word: u32) -> bool
+    ensures { λ r. ⌜ r ≡ hasOtherBit word ⌝ }
+{
+    word & !SIX != 0
+}
