@@ -1,2 +1,4 @@
 pub mod Logic
 pub mod Sound
+pub mod SearchLaws
+pub mod RuleLaws
