@@ -2,3 +2,5 @@ pub mod Logic
 pub mod Sound
 pub mod SearchLaws
 pub mod RuleLaws
+pub mod ImageLaws
+pub mod RoomLaws

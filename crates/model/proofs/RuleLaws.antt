@@ -109,20 +109,20 @@ refusal-first cs k = (λ e. rw e at (given (first accepted (λ c. c .applies) cs
     is n (passed h) = ap (λ (c : Check). c .number) (first-exact accepted (λ c. c .applies) cs accepted .1 (noneFits h))
     is n (refusedBy c f) = ap (λ (x : Check). x .number) (first-exact accepted (λ c. c .applies) cs c .1 (firstFits f))
 
-abbrev pub numbersOf : List Check → List ℕ
-numbersOf cs = map (λ c. c .number) cs
+abbrev pub checkNumbers : List Check → List ℕ
+checkNumbers cs = map (λ c. c .number) cs
 
 -- no two checks of the list have the same number, and none has 0
 abbrev pub numbersDiffer : List Check → Bool
-numbersDiffer cs = pairwise (λ m n. not (eqb m n)) (0 ∷ numbersOf cs)
+numbersDiffer cs = pairwise (λ m n. not (eqb m n)) (0 ∷ checkNumbers cs)
 
 abbrev Differ : ℕ → ℕ → Type 0
 Differ m n = m ≡ n → ⊥
 
-differ-holds : (cs : List Check) → numbersDiffer cs ≡ true → Pairwise Differ (0 ∷ numbersOf cs)
-differ-holds cs e = pairwise-decides (λ m n. not-decides (eqb-decides m n)) (0 ∷ numbersOf cs) .holds e
+differ-holds : (cs : List Check) → numbersDiffer cs ≡ true → Pairwise Differ (0 ∷ checkNumbers cs)
+differ-holds cs e = pairwise-decides (λ m n. not-decides (eqb-decides m n)) (0 ∷ checkNumbers cs) .holds e
 
-not-given : (k : ℕ) (cs : List Check) → Differ 0 k → All (Differ k) (numbersOf cs) → refusal cs ≡ k → ⊥
+not-given : (k : ℕ) (cs : List Check) → Differ 0 k → All (Differ k) (checkNumbers cs) → refusal cs ≡ k → ⊥
 unfolding refusal
 not-given k [] z h = z
 not-given k (c ∷ cs) z h = go (c .applies) (not-given k cs z (h .1))
@@ -132,11 +132,11 @@ not-given k (c ∷ cs) z h = go (c .applies) (not-given k cs z (h .1))
     go false n e = n e
 
 number-differs : (k : ℕ) (before : List Check) (c : Check) (behind : List Check)
-    → All (Differ k) (numbersOf (before ++ c ∷ behind)) → Differ k (c .number)
+    → All (Differ k) (checkNumbers (before ++ c ∷ behind)) → Differ k (c .number)
 number-differs k [] c behind h = h .0
 number-differs k (x ∷ xs) c behind h = number-differs k xs c behind (h .1)
 
-given-at : (before : List Check) (c : Check) (behind : List Check) → Pairwise Differ (0 ∷ numbersOf (before ++ c ∷ behind))
+given-at : (before : List Check) (c : Check) (behind : List Check) → Pairwise Differ (0 ∷ checkNumbers (before ++ c ∷ behind))
     → refusal (before ++ c ∷ behind) ≡ c .number → All Passes before × (c .applies ≡ true)
 unfolding refusal
 given-at [] c behind h = go (c .applies) refl
@@ -170,6 +170,12 @@ refusal-none cs differ = (λ e. go 0 (refusal-first cs 0 .0 e) refl, λ h. refus
     go k (refusedBy c f) e =
         absurd (number-differs 0 (f .before) c (f .behind) (rw (f .stands) at (differ-holds cs differ .0)) (sym e))
 
+-- checks that let pass leave the rest to decide
+pub refusal-skip : (before behind : List Check) → All Passes before → refusal (before ++ behind) ≡ refusal behind
+unfolding refusal
+refusal-skip [] behind h = refl
+refusal-skip (c ∷ cs) behind h = rw (h .0) (refusal-skip cs behind (h .1))
+
 -- ---- the order of the checks
 
 -- "The checks go in the order 1, 2, 20, then those named for the call."
@@ -187,7 +193,7 @@ module _ (tb : List ℕ) (s : State ℕ) where
   checksOf c = checksIn tb (sound tb s) (ownChecks tb s c)
 
   -- their numbers stand in 01's order
-  pub check-order : (c : Call) → numbersOf (checksOf c) ≡ checkOrder c
+  pub check-order : (c : Call) → checkNumbers (checksOf c) ≡ checkOrder c
   unfolding ownChecks
   check-order launch = refl
   check-order (start b w) = refl
@@ -196,7 +202,7 @@ module _ (tb : List ℕ) (s : State ℕ) where
   check-order look = refl
   check-order (restore bytes) = refl
 
-  pub save-order : (buffer : List ℕ) → numbersOf (checksIn tb (sound tb s) (saveChecks s buffer)) ≡ 1 ∷ 2 ∷ 20 ∷ 8 ∷ []
+  pub save-order : (buffer : List ℕ) → checkNumbers (checksIn tb (sound tb s) (saveChecks s buffer)) ≡ 1 ∷ 2 ∷ 20 ∷ 8 ∷ []
   save-order buffer = refl
 
   checks-differ : (c : Call) → numbersDiffer (checksOf c) ≡ true
