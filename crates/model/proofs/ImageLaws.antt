@@ -16,19 +16,21 @@ use Rattle.model.specs.Session.{Stack, State, stack, state, height, coun
 use Rattle.model.specs.Image.{bodyOf, trailer, image, bodyIn, trailerIn, lengthIn, countIn, mainIn, imageShaped, Reading, unreadable, readAs, readMore, readTasks, isReadable, tasksRead, imageReadable, sessionIn, imageChecks}
 use Rattle.model.specs.Promises.{IsByte, ImagesExact}
 use Rattle.model.proofs.Logic.{and-decides, leb-decides, eqb-decides, and-right}
+use Rattle.model.proofs.ListLaws.{All-drop}
 use Rattle.model.proofs.Sound.{TaskSound, Sound, sound-decides}
 use Rattle.model.proofs.RuleLaws.{refusal-none}
 
 -- the three checks of a restore, passed
-pub record Accepted (tb bytes : List ℕ) : Type 0 where
+pub record ImageAccepted (tb bytes : List ℕ) : Type 0 where
   pub shaped : imageShaped bytes ≡ true
   pub readable : imageReadable bytes ≡ true
   pub soundly : sound tb (sessionIn bytes) ≡ true
 
-checks-passed : (tb bytes : List ℕ) → (refusal (imageChecks tb bytes) ≡ 0) ↔ Accepted tb bytes
-checks-passed tb bytes =
-    (λ e. let h = c .0 e in record { shaped = not-false _ (h .0); readable = not-false _ (h .1 .0); soundly = not-false _ (h .1 .1 .0) },
-    λ a. c .1 (rw (a .shaped), (rw (a .readable), (rw (a .soundly), tt))))
+checks-passed : (tb bytes : List ℕ) → (refusal (imageChecks tb bytes) ≡ 0) ↔ ImageAccepted tb bytes
+checks-passed tb bytes = (
+  λ e. let h = c .0 e in record { shaped = not-false _ (h .0); readable = not-false _ (h .1 .0); soundly = not-false _ (h .1 .1 .0) },
+  λ a. c .1 (rw (a .shaped), (rw (a .readable), (rw (a .soundly), tt))),
+)
   where
     c : (refusal (imageChecks tb bytes) ≡ 0) ↔ All (λ x. x .applies ≡ false) (imageChecks tb bytes)
     c = refusal-none (imageChecks tb bytes) refl
@@ -137,11 +139,6 @@ byte-at [] h i = omega arith
 byte-at (x ∷ l) h zero = h .0
 byte-at (x ∷ l) h (suc i) = byte-at l (h .1) i
 
-bytes-drop : (k : ℕ) (l : List ℕ) → All IsByte l → All IsByte (drop k l)
-bytes-drop zero l h = h
-bytes-drop (suc k) [] h = h
-bytes-drop (suc k) (x ∷ l) h = bytes-drop k l (h .1)
-
 module _ (bytes : List ℕ) (small : All IsByte bytes) (shaped : imageShaped bytes ≡ true) (readable : imageReadable bytes ≡ true) where
   shape : (6 ≤ length bytes) × (((getD (trailerIn bytes) 4 0 ≡ 0x08) × (getD (trailerIn bytes) 5 0 ≡ 0x42)) × (length bytes ≡ lengthIn bytes + 6))
   unfolding imageShaped
@@ -161,7 +158,7 @@ module _ (bytes : List ℕ) (small : All IsByte bytes) (shaped : imageShaped byt
       let named : lengthIn bytes ≡ length (bodyIn bytes) = omega (arith, length-take-le (length bytes - 6) bytes short, shape .1 .1) in
       let six : length (trailerIn bytes) ≡ 6 = omega (arith, length-drop (length bytes - 6) bytes, shape .0) in
       trailer-is (trailerIn bytes) (length (bodyIn bytes)) six (shape .1 .0 .0) (shape .1 .0 .1) named
-      (byte-at (trailerIn bytes) (bytes-drop (length bytes - 6) bytes small) 1)
+      (byte-at (trailerIn bytes) (All-drop IsByte (length bytes - 6) bytes small) 1)
 
   main-read : sessionIn bytes .main ≡ mainIn bytes
   unfolding sessionIn
@@ -197,9 +194,10 @@ module _ (tb : List ℕ) where
   -- "Restore .. accepts exactly the images of sound sessions"
   pub accepts-exactly : (bytes : List ℕ) → All IsByte bytes
       → (refusal (imageChecks tb bytes) ≡ 0) ↔ ((s : State ℕ) × (sound tb s ≡ true) × (image s ≡ bytes))
-  accepts-exactly bytes small =
-      (λ e. (sessionIn bytes, images-exact .soundOnly bytes e, images-exact .imagesOnly bytes small e),
-      λ (s, h, e). rw (← e) (images-exact .accepts s h))
+  accepts-exactly bytes small = (
+    λ e. (sessionIn bytes, images-exact .soundOnly bytes e, images-exact .imagesOnly bytes small e),
+    λ (s, h, e). rw (← e) (images-exact .accepts s h),
+  )
 
   -- "a session's only image": two sound sessions with equal images are equal
   pub image-injective : (s t : State ℕ) → Sound tb s → Sound tb t → image s ≡ image t → s ≡ t

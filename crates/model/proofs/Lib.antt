@@ -1,6 +1,14 @@
 pub mod Logic
 pub mod Sound
+pub mod ListLaws
+pub mod RefusalLaws
+pub mod Close
+pub mod Deeds
+pub mod Start
+pub mod Keeps
 pub mod SearchLaws
 pub mod RuleLaws
-pub mod ImageLaws
 pub mod RoomLaws
+pub mod ImageLaws
+pub mod Same
+pub mod Promise3

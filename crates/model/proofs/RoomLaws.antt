@@ -10,15 +10,16 @@ use lib.Dec.{ltb, eqb}
 use borrow.Author.Tests.{lt-ltb}
 use Rattle.model.specs.Lists.{if_then_else_, isEmpty, All}
 use Rattle.model.specs.Refusals.{check, refusal}
-use Rattle.model.specs.Table.{sizeOf, tableShaped, tableFilled, tableChecks, tableRefusal}
+use Rattle.model.specs.Table.{sizeOf, tableRefusal}
 use Rattle.model.specs.Session.{Stack, State, taskAt, front, height, count, mostTasks, mostHeight, sound}
 use Rattle.model.specs.Flags.{hasOtherBit}
 use Rattle.model.specs.Search.{placeOf}
 use Rattle.model.specs.Rules.{Rule, R1, R2, R3, R4, R5, R6, R7, R8, R9, R10, R11, R12, R13, R14, R15, R16, R17, R18, Choice}
 use Rattle.model.specs.Deeds.{Deed, new, inFront, moveAnd, Change, keep, renew, clear, lift, push, deedOf}
-use Rattle.model.specs.Calls.{makesTask, isPush, overfills, roomChecks, chosen, ownChecks, start, finishingStart, refusalOf}
+use Rattle.model.specs.Calls.{makesTask, isPush, overfills, roomChecks, chosen, startChecks, ownChecks, start, finishingStart, refusalOf}
 use Rattle.model.proofs.Logic.{Decides, and-decides, eqb-decides}
-use Rattle.model.proofs.RuleLaws.{refusal-at, refusal-none, refusal-skip}
+use Rattle.model.proofs.RefusalLaws.{refusal-passes, checks-own}
+use Rattle.model.proofs.RuleLaws.{refusal-at}
 
 -- ---- which rules
 
@@ -108,9 +109,10 @@ module _ (c : Choice) (s : State ℕ) where
 
   -- "24: a push onto a task of 32 (not after empty)"
   pub room-24 : (refusal (roomChecks c s) ≡ 24) ↔ Overfills (deedOf (c .rule)) (placeOf (c .found)) s
-  room-24 =
-      (λ e. d .holds (r .0 e .1),
-      λ h. r .1 ((makes-none (deedOf (c .rule)) (placeOf (c .found)) s (eqb (count s) mostTasks) (d .shows h), tt), d .shows h))
+  room-24 = (
+    λ e. d .holds (r .0 e .1),
+    λ h. r .1 ((makes-none (deedOf (c .rule)) (placeOf (c .found)) s (eqb (count s) mostTasks) (d .shows h), tt), d .shows h),
+  )
     where
       d : Decides (overfills (deedOf (c .rule)) (placeOf (c .found)) s) (Overfills (deedOf (c .rule)) (placeOf (c .found)) s)
       d = overfills-decides (deedOf (c .rule)) (placeOf (c .found)) s
@@ -127,13 +129,12 @@ module _ (c : Choice) (s : State ℕ) where
 module _ (tb : List ℕ) (s : State ℕ) (b w : ℕ) (good : tableRefusal tb ≡ 0) (isSound : sound tb s ≡ true)
     (known : b < sizeOf tb) (six : hasOtherBit w ≡ false) (some : isEmpty (s .tasks) ≡ false) where
   pub start-room : refusalOf tb s (start b w) ≡ refusal (roomChecks (chosen tb s b w) s)
-  unfolding refusalOf ownChecks tableRefusal
+  unfolding refusalOf ownChecks
   start-room =
-      let h = refusal-none (tableChecks tb) refl .0 good in
-      refusal-skip
-      (tableChecks tb ++ check 20 (not (sound tb s)) ∷ check 3 (not (ltb b (sizeOf tb))) ∷ check 4 (hasOtherBit w) ∷ check 21 (isEmpty (s .tasks)) ∷ [])
-      (roomChecks (chosen tb s b w) s)
-      (h .0, (h .1 .0, (rw isSound, (rw (lt-ltb b (sizeOf tb) known), (six, (some, tt))))))
+      rw isSound (checks-own tb (startChecks tb s b w) good)
+      ∙ refusal-passes 3 (not (ltb b (sizeOf tb))) _ (rw (lt-ltb b (sizeOf tb) known))
+      ∙ refusal-passes 4 (hasOtherBit w) _ six
+      ∙ refusal-passes 21 (isEmpty (s .tasks)) _ some
 
   -- "23: a new task is needed and n = 16": the rule that is used makes a task, and 16 stand
   pub start-23 : (refusalOf tb s (start b w) ≡ 23) ↔ ((deedOf (chosen tb s b w .rule) ≡ new) × (count s ≡ mostTasks))

@@ -40,7 +40,11 @@ module _ {A : Type 0} (d : A) (test : A → Bool) where
       further e y (noneFits h) = noneFits (e, h)
       further e y (firstFits f) =
           firstFits (record {
-            before = x ∷ f .before; behind = f .behind; stands = ap (λ (l : List A). x ∷ l) (f .stands); fails = (e, f .fails); fits = f .fits
+            before = x ∷ f .before;
+            behind = f .behind;
+            stands = ap (λ (l : List A). x ∷ l) (f .stands);
+            fails = (e, f .fails);
+            fits = f .fits;
           })
 
       go : (b : Bool) → test x ≡ b → First d test xs (first d test xs) → First d test (x ∷ xs) (if b then x else first d test xs)
@@ -155,11 +159,12 @@ given-at (x ∷ xs) c behind h = go (given-at xs c behind (h .0 .1, h .1 .1)) (x
 -- where the numbers differ, a check's number is given exactly where the checks before it let pass and it applies
 pub refusal-at : (before : List Check) (c : Check) (behind : List Check) → numbersDiffer (before ++ c ∷ behind) ≡ true
     → (refusal (before ++ c ∷ behind) ≡ c .number) ↔ (All Passes before × (c .applies ≡ true))
-refusal-at before c behind differ =
-    (given-at before c behind (differ-holds (before ++ c ∷ behind) differ),
-    λ h.
-        refusal-first (before ++ c ∷ behind) (c .number) .1
-        (refusedBy c (record { before = before; behind = behind; stands = refl; fails = h .0; fits = h .1 })))
+refusal-at before c behind differ = (
+  given-at before c behind (differ-holds (before ++ c ∷ behind) differ),
+  λ h.
+      refusal-first (before ++ c ∷ behind) (c .number) .1
+      (refusedBy c (record { before = before; behind = behind; stands = refl; fails = h .0; fits = h .1 })),
+)
 
 -- and 0 exactly where all checks let pass
 pub refusal-none : (cs : List Check) → numbersDiffer cs ≡ true → (refusal cs ≡ 0) ↔ All Passes cs
@@ -169,12 +174,6 @@ refusal-none cs differ = (λ e. go 0 (refusal-first cs 0 .0 e) refl, λ h. refus
     go k (passed h) e = h
     go k (refusedBy c f) e =
         absurd (number-differs 0 (f .before) c (f .behind) (rw (f .stands) at (differ-holds cs differ .0)) (sym e))
-
--- checks that let pass leave the rest to decide
-pub refusal-skip : (before behind : List Check) → All Passes before → refusal (before ++ behind) ≡ refusal behind
-unfolding refusal
-refusal-skip [] behind h = refl
-refusal-skip (c ∷ cs) behind h = rw (h .0) (refusal-skip cs behind (h .1))
 
 -- ---- the order of the checks
 

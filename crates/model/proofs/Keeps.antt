@@ -1,0 +1,90 @@
+-- Every call keeps a session sound, and so does every list of calls.
+use Prim.Native.Nat.{ℕ, zero, suc, _≤_, _<_, zero-le}
+use mathlib.Core.Path.{_≡_, refl, ap}
+use mathlib.Core.Bool.{true, not}
+use mathlib.Core.List.{List, [], _∷_}
+use native.Mathlib.Omega.{arith}
+use borrow.Author.Tests.{ltb-true, not-false}
+use Rattle.model.specs.Refusals.{refusal}
+use Rattle.model.specs.Table.{sizeOf, mainScreen, tableShaped, tableFilled, tableRefusal}
+use Rattle.model.specs.Session.{State, count, fresh, sound}
+use Rattle.model.specs.Answers.{settle}
+use Rattle.model.specs.Image.{imageShaped, imageReadable, imageChecks, sessionIn}
+use Rattle.model.specs.Calls.{Call, launch, start, finishingStart, back, look, restore, launched, ownChecks, done, refusalOf, call}
+use Rattle.model.specs.Histories.{after}
+use Rattle.model.proofs.Logic.{and-left}
+use Rattle.model.proofs.RefusalLaws.{refusal-skip, checks-own}
+use Rattle.model.proofs.Sound.{Sound, sound-decides}
+use Rattle.model.proofs.Close.{no-main, backed-sound}
+use Rattle.model.proofs.Deeds.{new-task-sound}
+use Rattle.model.proofs.Start.{Finished, start-accepted, started-sound, finished-sound}
+
+-- ---- what is known of a good table and of an accepted image
+
+pub main-known : (tb : List ℕ) → tableRefusal tb ≡ 0 → mainScreen tb < sizeOf tb
+unfolding tableRefusal tableFilled
+main-known tb ok =
+    let c₁ = refusal-skip 0 (not (tableShaped tb)) _ ok in
+    let c₂ = refusal-skip 1 (not (tableFilled tb)) _ (c₁ .1) in
+    ltb-true (mainScreen tb) (sizeOf tb) (and-left _ _ (not-false _ (c₂ .0)))
+
+-- what a restore accepts reads as a sound session
+pub restored-sound : (tb bytes : List ℕ) → refusal (imageChecks tb bytes) ≡ 0 → sound tb (sessionIn bytes) ≡ true
+restored-sound tb bytes e =
+    let c₅ = refusal-skip 4 (not (imageShaped bytes)) _ e in
+    let c₆ = refusal-skip 5 (not (imageReadable bytes)) _ (c₅ .1) in
+    let c₇ = refusal-skip 6 (not (sound tb (sessionIn bytes))) _ (c₆ .1) in
+    not-false _ (c₇ .0)
+
+-- ---- settling
+
+-- on a sound session under a good table a call has its own checks only
+pub refusal-own : (tb : List ℕ) → tableRefusal tb ≡ 0 → (s : State ℕ) → Sound tb s → (c : Call)
+    → refusalOf tb s c ≡ refusal (ownChecks tb s c)
+unfolding refusalOf
+refusal-own tb ok s h c = rw (sound-decides tb s .shows h) (checks-own tb (ownChecks tb s c) ok)
+
+pub settled : (tb : List ℕ) → tableRefusal tb ≡ 0 → (s : State ℕ) → Sound tb s → (c : Call)
+    → call tb s c ≡ settle (refusal (ownChecks tb s c)) s (done tb s c)
+unfolding call
+settled tb ok s h c = ap (λ (k : ℕ). settle k s (done tb s c)) (refusal-own tb ok s h c)
+
+-- ---- soundness
+
+pub fresh-sound : (tb : List ℕ) → Sound tb fresh
+fresh-sound tb = record { few = zero-le; each = tt; pairs = tt; place = no-main tb [] }
+
+pub launched-sound : (tb : List ℕ) → tableRefusal tb ≡ 0 → Sound tb (launched tb)
+unfolding launched
+launched-sound tb ok =
+    record {
+      few = omega arith;
+      each = (new-task-sound tb (mainScreen tb) (main-known tb ok), tt);
+      pairs = (tt, tt);
+      place = record { most = omega arith; root = λ l. refl };
+    }
+
+module _ (finished-is : (tb : List ℕ) (s : State ℕ) (b w : ℕ) → Sound tb s → 1 ≤ count s → Finished tb s b w)
+    (tb : List ℕ) (ok : tableRefusal tb ≡ 0) where
+  pub done-sound : (s : State ℕ) → Sound tb s → (c : Call) → refusal (ownChecks tb s c) ≡ 0 → Sound tb (done tb s c)
+  unfolding done ownChecks
+  done-sound s h launch e = launched-sound tb ok
+  done-sound s h (start b w) e = started-sound tb s b w h e
+  done-sound s h (finishingStart b w) e = finished-sound tb s b w (finished-is tb s b w h (start-accepted tb s b w e .some)) h e
+  done-sound s h back e = backed-sound tb s h
+  done-sound s h look e = h
+  done-sound s h (restore bytes) e = sound-decides tb (sessionIn bytes) .holds (restored-sound tb bytes e)
+
+  -- every call keeps a session sound, refused or not
+  pub call-sound : (s : State ℕ) → Sound tb s → (c : Call) → Sound tb (call tb s c .session)
+  call-sound s h c = rw (settled tb ok s h c) (go (refusal (ownChecks tb s c)) refl)
+    where
+      go : (n : ℕ) → refusal (ownChecks tb s c) ≡ n → Sound tb (settle n s (done tb s c) .session)
+      go zero e = done-sound s h c e
+      go (suc k) e = h
+
+  -- and every list of calls does
+  pub after-sound : (s : State ℕ) → Sound tb s → (cs : List Call) → Sound tb (after tb s cs)
+  unfolding after
+  after-sound s h [] = h
+  after-sound s h (c ∷ cs) = after-sound (call tb s c .session) (call-sound s h c) cs

@@ -1,0 +1,219 @@
+-- The first rule that fits is ready to be carried out; so a start keeps a session sound.
+use Prim.Native.Nat.{ℕ, zero, suc, _≤_, _<_, zero-le, suc-le-suc, pred}
+use mathlib.Core.Path.{_≡_, refl, sym, _∙_, ap}
+use mathlib.Core.Bool.{Bool, true, false, not, _&&_, false≢true}
+use mathlib.Core.List.{List}
+use lib.Dec.{eqb, ltb}
+use lib.ListN.{getD}
+use borrow.Author.Tests.{eqb-true, eqb-false, not-true, not-false, ltb-true}
+use Rattle.model.specs.declared.Flags.{Flags}
+use Rattle.model.specs.Lists.{isEmpty, isPlace, find, first}
+use Rattle.model.specs.Refusals.{refusal}
+use Rattle.model.specs.Table.{sizeOf, isSingleTask, isSingleInstance, rootsOnce}
+use Rattle.model.specs.Session.{Stack, State, noStack, taskAt, front, frontScreen, count, mostTasks}
+use Rattle.model.specs.Flags.{flagsOf, hasOtherBit}
+use Rattle.model.specs.Search.{Found, nowhere, byRoot, byAffinity, placeOf, isFound, isFoundByRoot, hasRoot, hasAffinity, seekRoot, seekAffinity, seek, holds}
+use Rattle.model.specs.Rules.{Rule, R18, Group, instanceGroup, taskGroup, nearGroup, apartGroup, rulesOf, Choice, isApart, groupOf, soughtBy, taskFound, fits, chooseIn, choose}
+use Rattle.model.specs.Deeds.{deedOf, close}
+use Rattle.model.specs.Calls.{chosen, started, finished, startChecks, makesTask, overfills}
+use Rattle.model.proofs.Logic.{All-map, All-of, All-at, if-elim, first-elim, never, contradiction, and-left, and-right, or-false-right}
+use Rattle.model.proofs.ListLaws.{found-at, found-none, isEmpty-length}
+use Rattle.model.proofs.RefusalLaws.{refusal-skip}
+use Rattle.model.proofs.Sound.{TaskSound, Sound, Plain}
+use Rattle.model.proofs.Close.{close-sound}
+use Rattle.model.proofs.Deeds.{IsPlaceIn, Takes, RootFree, Ready, carry-sound}
+
+-- ---- what a search tells
+
+module _ (tb : List ℕ) (s : State ℕ) (b : ℕ) where
+  abbrev pub Sought : Found → Type 0
+  Sought nowhere = RootFree tb b (s .tasks)
+  Sought (byRoot p) = IsPlaceIn s p × (taskAt (s .tasks) p .root ≡ b)
+  Sought (byAffinity p) = IsPlaceIn s p × Plain tb (taskAt (s .tasks) p .root)
+
+  -- the place of a task that was found
+  found-place : (q : Stack ℕ → Bool) → isPlace (find q (s .tasks)) ≡ true → IsPlaceIn s (find q (s .tasks))
+  found-place q e = at (find q (s .tasks)) e (found-at q noStack (s .tasks) e .inside)
+    where
+      at : (p : ℕ) → isPlace p ≡ true → pred p < count s → IsPlaceIn s p
+      at zero e l = absurd (false≢true e)
+      at (suc k) e l = (suc-le-suc zero-le, l)
+
+  pub seekRoot-sought : Sought (seekRoot b (s .tasks))
+  unfolding seekRoot hasRoot
+  seekRoot-sought =
+      if-elim Sought (isPlace (find (hasRoot b) (s .tasks))) _ nowhere
+      (λ e. (found-place (hasRoot b) e, eqb-true _ b (found-at (hasRoot b) noStack (s .tasks) e .fits)))
+      (λ e. All-map (λ t f q r. eqb-false (t .root) b f (sym r)) (s .tasks) (found-none (hasRoot b) noStack (s .tasks) e))
+
+  seekAffinity-sought : RootFree tb b (s .tasks) → Sought (seekAffinity tb b (s .tasks))
+  unfolding seekAffinity hasAffinity
+  seekAffinity-sought h =
+      if-elim Sought (isPlace (find (hasAffinity tb b) (s .tasks))) _ nowhere
+      (λ e. (found-place (hasAffinity tb b) e, not-true _ (and-left _ _ (found-at (hasAffinity tb b) noStack (s .tasks) e .fits))))
+      (λ e. h)
+
+  -- nothing found: a new task of b clashes with none
+  nowhere-free : (t : Found) → isFound t ≡ false → Sought t → RootFree tb b (s .tasks)
+  nowhere-free nowhere e h = h
+  nowhere-free (byRoot p) e h = never e
+  nowhere-free (byAffinity p) e h = never e
+
+  pub seek-sought : Sought (seek tb b (s .tasks))
+  unfolding seek
+  seek-sought =
+      if-elim Sought (isFound (seekRoot b (s .tasks))) _ _ (λ e. seekRoot-sought)
+      (λ e. seekAffinity-sought (nowhere-free (seekRoot b (s .tasks)) e seekRoot-sought))
+
+  found-inside : (t : Found) → isFound t ≡ true → Sought t → IsPlaceIn s (placeOf t)
+  found-inside nowhere e h = absurd (false≢true e)
+  found-inside (byRoot p) e h = h .0
+  found-inside (byAffinity p) e h = h .0
+
+  -- a screen that is neither single-task nor single-instance may be the root of many tasks
+  standard-free : rootsOnce tb b ≡ false → RootFree tb b (s .tasks)
+  standard-free f = All-of (λ t q r. contradiction q f) (s .tasks)
+
+-- ---- the rule that is chosen
+
+module _ (tb : List ℕ) (s : State ℕ) (b : ℕ) where
+  -- the rule can be carried out, where t was found
+  abbrev pub RuleReady : Found → Rule → Type 0
+  RuleReady t r = Ready tb b s (deedOf r) (placeOf t)
+
+  abbrev pub ChoiceReady : Choice → Type 0
+  ChoiceReady c = RuleReady (c .found) (c .rule)
+
+module _ (tb : List ℕ) (s : State ℕ) (b : ℕ) (f : Flags) where
+  abbrev FirstReady : Group → Found → Type 0
+  FirstReady g t = RuleReady tb s b t (first R18 (fits tb s b f t) (rulesOf g))
+
+  instance-ready : (t : Found) → Sought tb s b t → FirstReady instanceGroup t
+  unfolding fits rulesOf deedOf
+  instance-ready t h =
+      first-elim (RuleReady tb s b t) R18 (fits tb s b f t) (rulesOf instanceGroup)
+      (λ x. (found-inside tb s b t x h, tt), λ x. (λ _. nowhere-free tb s b t x h, never))
+
+  module _ (plain : Plain tb b) where
+    found-takes : (t : Found) → isFound t ≡ true → Sought tb s b t → Takes tb b (taskFound tb s b f t)
+    found-takes nowhere e h = absurd (false≢true e)
+    found-takes (byRoot p) e h = record { plainRoot = rw (h .1) plain; plainScreen = plain }
+    found-takes (byAffinity p) e h = record { plainRoot = h .1; plainScreen = plain }
+
+    module _ (t : Found) (h : Sought tb s b t) where
+      -- the task found takes b; and holds it
+      takes : isFound t ≡ true → IsPlaceIn s (placeOf t) × Takes tb b (taskFound tb s b f t)
+      takes e = (found-inside tb s b t e h, found-takes t e h)
+
+      takes-held : isFound t ≡ true → holds b (taskFound tb s b f t .screens) ≡ true
+          → IsPlaceIn s (placeOf t) × (Takes tb b (taskFound tb s b f t) × (holds b (taskFound tb s b f t .screens) ≡ true))
+      takes-held e k = (found-inside tb s b t e h, (found-takes t e h, k))
+
+      task-ready : FirstReady taskGroup t
+      unfolding fits rulesOf deedOf
+      task-ready =
+          first-elim (RuleReady tb s b t) R18 (fits tb s b f t) (rulesOf taskGroup) (
+            λ x. takes (and-left _ _ x),
+            λ _. (λ x. takes-held (and-left _ _ x) (and-right (isFound t) _ x), λ _. (takes, λ x. (λ _. nowhere-free tb s b t x h, never))),
+          )
+
+      apart-ready : RootFree tb b (s .tasks) → FirstReady apartGroup t
+      unfolding fits rulesOf deedOf
+      apart-ready free =
+          first-elim (RuleReady tb s b t) R18 (fits tb s b f t) (rulesOf apartGroup) (
+            λ _. free,
+            λ _. (
+              λ x. takes (and-left _ _ x),
+              λ _. (
+                λ x. takes-held (and-left _ _ x) (and-right (f .ctp) _ (and-right (isFound t) _ x)),
+                λ _. (
+                  λ x. takes (and-left _ _ x),
+                  λ _. (
+                    λ x. (found-inside tb s b t (root-found t (and-left (isFoundByRoot t) _ x)) h, tt),
+                    λ _. (λ x. (found-inside tb s b t (and-left _ _ x) h, tt), λ _. (takes, λ _. (λ _. free, never))),
+                  ),
+                ),
+              ),
+            ),
+          )
+        where
+          root-found : (u : Found) → isFoundByRoot u ≡ true → isFound u ≡ true
+          root-found nowhere e = e
+          root-found (byRoot p) e = refl
+          root-found (byAffinity p) e = refl
+
+    module _ (h : Sound tb s) (some : 1 ≤ count s) where
+      -- the front task takes b where its top is not single-instance
+      front-root : Plain tb (frontScreen s) → Plain tb (front s .root)
+      front-root e = go (isSingleInstance tb (front s .root)) refl
+        where
+          go : (x : Bool) → isSingleInstance tb (front s .root) ≡ x → x ≡ false
+          go true q =
+              let k : TaskSound tb (front s) = All-at (TaskSound tb) (s .tasks) 0 noStack some (h .each) in
+              sym q ∙ ap (isSingleInstance tb) (sym (ap (λ (l : List ℕ). getD l 0 0) (k .lone q))) ∙ e
+          go false q = refl
+
+      near-ready : Plain tb (frontScreen s) → FirstReady nearGroup nowhere
+      unfolding fits rulesOf deedOf
+      near-ready e =
+          let k : Takes tb b (front s) = record { plainRoot = front-root e; plainScreen = plain } in
+          first-elim (RuleReady tb s b nowhere) R18 (fits tb s b f nowhere) (rulesOf nearGroup) (
+            λ _. (some, tt),
+            λ _. (λ x. (some, (k, and-right (f .ctp) _ x)), λ _. (λ x. (some, (k, and-right (f .rtf) _ x)), λ _. (λ _. (some, k), never))),
+          )
+
+  -- the choice of a start in a sound session that is not empty can be carried out, but for the limits
+  pub choose-ready : Sound tb s → 1 ≤ count s → ChoiceReady tb s b (choose tb s b f)
+  unfolding choose chooseIn groupOf soughtBy isApart rootsOnce
+  choose-ready h some =
+      if-elim (λ g. ChoiceReady tb s b (chooseIn tb s b f g)) (isSingleInstance tb b) _ _ (λ e. instance-ready _ (seekRoot-sought tb s b))
+      (λ e. if-elim (λ g. ChoiceReady tb s b (chooseIn tb s b f g)) (isSingleTask tb b) _ _ (λ k. task-ready e _ (seek-sought tb s b))
+      (λ k. if-elim (λ g. ChoiceReady tb s b (chooseIn tb s b f g)) (isApart tb s b f) _ _ (λ _. apart e (standard-free tb s b (rw k e)))
+      (λ a. near-ready e h some (or-false-right (f .ntk) _ a))))
+    where
+      apart : Plain tb b → RootFree tb b (s .tasks) → ChoiceReady tb s b (chooseIn tb s b f apartGroup)
+      apart e free = apart-ready e _ (if-elim (Sought tb s b) (f .mtk) nowhere _ (λ _. free) (λ _. seek-sought tb s b)) free
+
+-- ---- start and finishing start
+
+module _ (tb : List ℕ) (s : State ℕ) (b w : ℕ) where
+  -- what is known of a start that is not refused
+  pub record Accepted : Type 0 where
+    pub known : b < sizeOf tb
+    pub sixOnly : hasOtherBit w ≡ false
+    pub some : 1 ≤ count s
+    pub taskFits : (makesTask (deedOf (chosen tb s b w .rule)) && eqb (count s) mostTasks) ≡ false
+    pub screenFits : overfills (deedOf (chosen tb s b w .rule)) (placeOf (chosen tb s b w .found)) s ≡ false
+
+  pub start-accepted : refusal (startChecks tb s b w) ≡ 0 → Accepted
+  start-accepted e =
+      let c₃ = refusal-skip 2 (not (ltb b (sizeOf tb))) _ e in
+      let c₄ = refusal-skip 3 (hasOtherBit w) _ (c₃ .1) in
+      let c₂₁ = refusal-skip 20 (isEmpty (s .tasks)) _ (c₄ .1) in
+      let c₂₃ = refusal-skip 22 _ _ (c₂₁ .1) in
+      let c₂₄ = refusal-skip 23 _ _ (c₂₃ .1) in
+      record {
+        known = ltb-true b (sizeOf tb) (not-false _ (c₃ .0));
+        sixOnly = c₄ .0;
+        some = isEmpty-length (s .tasks) (c₂₁ .0);
+        taskFits = c₂₃ .0;
+        screenFits = c₂₄ .0;
+      }
+
+  -- a finishing start makes the session that the start makes, or closes one screen of it
+  pub data Finished : Type 0 where
+    as-started : finished tb s b w ≡ started tb s b w → Finished
+    closed : (k i : ℕ) → finished tb s b w ≡ close k i (started tb s b w) → Finished
+
+pub started-sound : (tb : List ℕ) (s : State ℕ) (b w : ℕ)
+    → Sound tb s → refusal (startChecks tb s b w) ≡ 0 → Sound tb (started tb s b w)
+unfolding started
+started-sound tb s b w h e =
+    let a = start-accepted tb s b w e in
+    carry-sound tb b (a .known) (deedOf (chosen tb s b w .rule)) (placeOf (chosen tb s b w .found)) s
+    (choose-ready tb s b (flagsOf w) h (a .some)) (a .taskFits) (a .screenFits) h
+
+pub finished-sound : (tb : List ℕ) (s : State ℕ) (b w : ℕ) → Finished tb s b w
+    → Sound tb s → refusal (startChecks tb s b w) ≡ 0 → Sound tb (finished tb s b w)
+finished-sound tb s b w (as-started f) h e = rw f (started-sound tb s b w h e)
+finished-sound tb s b w (closed k i f) h e = rw f (close-sound tb k i (started tb s b w) (started-sound tb s b w h e))
