@@ -4,10 +4,16 @@ pub mod Walks
 pub mod RefusalLaws
 pub mod Tables
 pub mod Sound
+pub mod SearchLaws
+pub mod RuleLaws
+pub mod RoomLaws
 pub mod Close
 pub mod Deeds
 pub mod Marks
 pub mod Start
 pub mod Finish
 pub mod Keeps
+pub mod ImageLaws
+pub mod Same
+pub mod Promise3
 pub mod Cases
