@@ -15,10 +15,11 @@ use Rattle.model.specs.Flags.{flagsOf}
 use Rattle.model.specs.Search.{placeOf}
 use Rattle.model.specs.Deeds.{deedOf}
 use Rattle.model.specs.Calls.{chosen, started, finished, startChecks}
+use Rattle.model.specs.Marks.{Mark, gone, stands, markAfter, closeAt}
 use Rattle.model.proofs.Sound.{Sound}
 use Rattle.model.proofs.Close.{close-sound}
 use Rattle.model.proofs.Deeds.{Suits, Ready}
-use Rattle.model.proofs.Marks.{Mark, gone, stands, markAfter, closeAt, AbleIn, Able, finished-carry}
+use Rattle.model.proofs.Marks.{AbleIn, Able, finished-carry}
 use Rattle.model.proofs.Start.{Accepted, choose-ready, start-accepted, started-sound}
 
 module _ (tb : List ℕ) (b : ℕ) where

@@ -17,33 +17,9 @@ use Rattle.model.specs.Session.{Stack, State, stack, state, noStack, fro
 use Rattle.model.specs.Search.{holds}
 use Rattle.model.specs.Deeds.{move, changed, changeFront, putNew, carryOut, closeIn, close, mainWithout}
 use Rattle.model.specs.Calls.{Marked, unmarked, markTop, mapScreens, mapState, markFront, holdsMark, closeMarkAt, closeMarked}
+use Rattle.model.specs.Marks.{Mark, gone, stands, markIn, markAfter, closeAt}
 use Rattle.model.proofs.Logic.{All-of}
 use Rattle.model.proofs.ListLaws.{toFront-length, All-drop, All-toFront, All-to-map, map-omit, map-toFront, map-drop, map-onFirst, find-map, isEmpty-map}
-
--- ---- the position
-
--- where the marked screen stands after the start: nowhere, or behind k tasks and below i screens
-pub data Mark : Type 0 where
-  gone : Mark
-  stands : ℕ → ℕ → Mark
-
--- after a change of its own task; the test tells whether the marked screen is B
-abbrev pub markIn : Change → Bool → Mark
-markIn Change.Keep isB = stands 0 0
-markIn Change.Renew isB = gone
-markIn Change.Clear isB = if isB then stands 0 0 else gone
-markIn Change.Lift isB = if isB then stands 0 0 else stands 0 1
-markIn Change.Push isB = stands 0 1
-
--- after a deed; p is the place of the task found
-abbrev pub markAfter : Deed → ℕ → Bool → Mark
-markAfter Deed.New p isB = stands 1 0
-markAfter (Deed.InFront c) p isB = markIn c isB
-markAfter (Deed.MoveAnd c) p isB = if leb p 1 then markIn c isB else stands 1 0
-
-abbrev pub closeAt : {A : Type 0} → Mark → State A → State A
-closeAt gone s = s
-closeAt (stands k i) s = close k i s
 
 -- ---- deeds and closing do not look at marks
 

@@ -35,9 +35,12 @@ chosen tb s b w = choose tb s b (flagsOf w)
 abbrev pub carryChoice : {A : Type 0} → (A → Bool) → ℕ → A → Choice → State A → State A
 carryChoice isB b newB c s = carryOut isB b newB (deedOf (c .rule)) (placeOf (c .found)) s
 
+abbrev pub startedBy : Choice → ℕ → State ℕ → State ℕ
+startedBy c b s = carryChoice (eqb b) b b c s
+
 -- "Start of B": "The first rule that fits is used."
 unfoldable pub started : List ℕ → State ℕ → ℕ → ℕ → State ℕ
-started tb s b w = carryChoice (eqb b) b b (chosen tb s b w) s
+started tb s b w = startedBy (chosen tb s b w) b s
 
 -- ---- finishing start
 
@@ -78,10 +81,11 @@ closeMarked s = closeMarkAt (find holdsMark (s .tasks)) s
 
 -- "Finishing start: mark the front screen, start B, then remove the marked screen if it still stands, as Back would
 -- in its task. A mark travels with its screen; an emptied screen is gone, and the pushed B is unmarked."
+abbrev pub finishedBy : Choice → ℕ → State ℕ → State ℕ
+finishedBy c b s = mapState (λ x. x .screen) (closeMarked (carryChoice (λ x. eqb b (x .screen)) b (unmarked b) c (markFront s)))
+
 unfoldable pub finished : List ℕ → State ℕ → ℕ → ℕ → State ℕ
-finished tb s b w =
-    mapState (λ x. x .screen)
-    (closeMarked (carryChoice (λ x. eqb b (x .screen)) b (unmarked b) (chosen tb s b w) (markFront s)))
+finished tb s b w = finishedBy (chosen tb s b w) b s
 
 -- ---- launch and Back
 

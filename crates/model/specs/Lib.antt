@@ -9,6 +9,7 @@ pub mod Deeds
 pub mod Answers
 pub mod Image
 pub mod Calls
+pub mod Marks
 pub mod Histories
 pub mod Player
 pub mod Promises

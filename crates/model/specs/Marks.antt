@@ -1,0 +1,33 @@
+-- The mark of a finishing start as a position, read off the deed: the shorter way that code takes.
+-- proofs/Marks.antt shows that it is the position of the screen whose mark travels (specs/Calls.antt).
+use Prim.Native.Nat.{ℕ}
+use mathlib.Core.Bool.{Bool}
+use lib.Dec.{leb}
+use Rattle.model.specs.declared.Change.{Change}
+use Rattle.model.specs.declared.Deed.{Deed}
+use Rattle.model.specs.Lists.{if_then_else_}
+use Rattle.model.specs.Session.{State}
+use Rattle.model.specs.Deeds.{close}
+
+-- where the marked screen stands after the start: nowhere, or behind k tasks and below i screens
+pub data Mark : Type 0 where
+  gone : Mark
+  stands : ℕ → ℕ → Mark
+
+-- after a change of its own task; the test tells whether the marked screen is B
+abbrev pub markIn : Change → Bool → Mark
+markIn Change.Keep isB = stands 0 0
+markIn Change.Renew isB = gone
+markIn Change.Clear isB = if isB then stands 0 0 else gone
+markIn Change.Lift isB = if isB then stands 0 0 else stands 0 1
+markIn Change.Push isB = stands 0 1
+
+-- after a deed; p is the place of the task found
+abbrev pub markAfter : Deed → ℕ → Bool → Mark
+markAfter Deed.New p isB = stands 1 0
+markAfter (Deed.InFront c) p isB = markIn c isB
+markAfter (Deed.MoveAnd c) p isB = if leb p 1 then markIn c isB else stands 1 0
+
+abbrev pub closeAt : {A : Type 0} → Mark → State A → State A
+closeAt gone s = s
+closeAt (stands k i) s = close k i s
