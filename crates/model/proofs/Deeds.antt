@@ -9,12 +9,12 @@ use native.Mathlib.Omega.{arith}
 use lib.Dec.{eqb, ltb}
 use lib.ListN.{length, drop, length-drop}
 use borrow.Author.Tests.{eqb-true, eqb-false, ltb-true, ltb-false}
+use Rattle.model.specs.declared.Change.{Change}
+use Rattle.model.specs.declared.Deed.{Deed}
 use Rattle.model.specs.Lists.{further, find, toFront, onFirst, All}
 use Rattle.model.specs.Table.{sizeOf}
 use Rattle.model.specs.Session.{Stack, State, stack, noStack, taskAt, front, height, count, mostTasks, mostHeight}
 use Rattle.model.specs.Search.{holds}
-use Rattle.model.specs.declared.Change.{Change}
-use Rattle.model.specs.declared.Deed.{Deed}
 use Rattle.model.specs.Deeds.{mainMoved, move, changed, changeFront, putNew, carryOut}
 use Rattle.model.specs.Calls.{makesTask, isPush, overfills}
 use Rattle.model.proofs.Logic.{if-elim, contradiction, All-at}

@@ -1,30 +1,31 @@
 -- Promise 2: a session's image is read back as that session, and what a restore accepts is the image of the sound session
 -- that is read from it. So two sound sessions with one image are one session.
-use Prim.Native.Nat.{ℕ, zero, suc, _+_, _-_, _*_, _/_, _%_, _≤_, _<_}
-use mathlib.Core.Path.{_≡_, refl, sym, _∙_, ap, ap₂}
+use Prim.Native.Nat.{ℕ, zero, suc, _+_, _-_, _*_, _/_, _%_, _≤_}
+use mathlib.Core.Path.{_≡_, refl, sym, _∙_, ap}
 use mathlib.Core.Logic.{_↔_}
-use mathlib.Core.Bool.{Bool, true, false, not, _&&_, false≢true}
+use mathlib.Core.Bool.{Bool, true, false, _&&_, false≢true}
 use mathlib.Core.List.{List, [], _∷_, _++_}
 use native.Mathlib.Omega.{arith}
-use lib.Dec.{leb, eqb}
+use lib.Dec.{leb}
 use lib.ListN.{length, getD, take, drop, length-append, length-drop, take-append-drop}
 use lib.Seq.{take-at, drop-at, take-append-seam, drop-append-seam, length-take-le}
-use borrow.Author.Tests.{le-leb, eq-eqb, not-false}
+use borrow.Author.Tests.{le-leb, not-false}
 use Rattle.model.specs.Lists.{if_then_else_, All}
 use Rattle.model.specs.Refusals.{refusal}
-use Rattle.model.specs.Session.{Stack, State, stack, state, height, count, mostTasks, mostHeight, sound}
+use Rattle.model.specs.Table.{sizeOf, mostScreens, tableShaped, tableChecks, tableRefusal}
+use Rattle.model.specs.Session.{Stack, State, stack, height, count, mostTasks, mostHeight, sound}
 use Rattle.model.specs.Image.{bodyOf, trailer, image, bodyIn, trailerIn, lengthIn, countIn, mainIn, imageShaped, Reading, unreadable, readAs, readMore, readTasks, isReadable, tasksRead, imageReadable, sessionIn, imageChecks}
 use Rattle.model.specs.Promises.{IsByte, ImagesExact}
-use Rattle.model.proofs.Logic.{and-decides, leb-decides, eqb-decides, and-right}
-use Rattle.model.proofs.ListLaws.{All-drop}
+use Rattle.model.proofs.Logic.{and-decides, leb-decides, eqb-decides, and-right, All-map}
+use Rattle.model.proofs.ListLaws.{All-append, All-drop}
 use Rattle.model.proofs.Sound.{TaskSound, Sound, sound-decides}
 use Rattle.model.proofs.RuleLaws.{refusal-none}
 
--- the three checks of a restore, passed
-pub record ImageAccepted (tb bytes : List ℕ) : Type 0 where
-  pub shaped : imageShaped bytes ≡ true
-  pub readable : imageReadable bytes ≡ true
-  pub soundly : sound tb (sessionIn bytes) ≡ true
+-- what 5, 6 and 7 leave
+record ImageAccepted (tb bytes : List ℕ) : Type 0 where
+  shaped : imageShaped bytes ≡ true
+  readable : imageReadable bytes ≡ true
+  soundly : sound tb (sessionIn bytes) ≡ true
 
 checks-passed : (tb bytes : List ℕ) → (refusal (imageChecks tb bytes) ≡ 0) ↔ ImageAccepted tb bytes
 checks-passed tb bytes = (
@@ -37,7 +38,7 @@ checks-passed tb bytes = (
 
 -- ---- an image is read as its session
 
--- a body is read as its tasks, whatever tasks of height 1 to 32 they are
+-- a body is read as its tasks
 read-body : (tb : List ℕ) (ts : List (Stack ℕ)) → All (TaskSound tb) ts → readTasks (length ts) (bodyOf ts) ≡ readAs ts
 unfolding readTasks
 read-body tb [] h = refl
@@ -103,7 +104,8 @@ body-read zero [] e = (refl, refl)
 body-read zero (x ∷ xs) e = absurd (false≢true e)
 body-read (suc n) [] e = absurd (false≢true e)
 body-read (suc n) (r ∷ []) e = absurd (false≢true e)
-body-read (suc n) (r ∷ h ∷ l) e = go (leb 1 h && (leb h mostHeight && leb h (length l))) refl (readTasks n (drop h l)) (body-read n (drop h l)) e
+body-read (suc n) (r ∷ h ∷ l) e =
+    go (leb 1 h && (leb h mostHeight && leb h (length l))) refl (readTasks n (drop h l)) (body-read n (drop h l)) e
   where
     go : (b : Bool) → (leb 1 h && (leb h mostHeight && leb h (length l))) ≡ b → (q : Reading)
         → (isReadable q ≡ true → (bodyOf (tasksRead q) ≡ drop h l) × (length (tasksRead q) ≡ n))
@@ -112,7 +114,8 @@ body-read (suc n) (r ∷ h ∷ l) e = go (leb 1 h && (leb h mostHeight && leb h 
         × (length (tasksRead (if b then readMore (stack r (take h l)) q else unreadable)) ≡ suc n)
     go true f unreadable ih e = absurd (false≢true e)
     go true f (readAs ts) ih e =
-        let fits : h ≤ length l = and-decides (leb-decides 1 h) (and-decides (leb-decides h mostHeight) (leb-decides h (length l))) .holds f .1 .1 in
+        let d = and-decides (leb-decides 1 h) (and-decides (leb-decides h mostHeight) (leb-decides h (length l))) in
+        let fits : h ≤ length l = d .holds f .1 .1 in
         (rw (ih refl .0, length-take-le h l fits, take-append-drop) refl, ap suc (ih refl .1))
     go false f q ih e = absurd (false≢true e)
 
@@ -126,9 +129,9 @@ six (a ∷ b ∷ c ∷ d ∷ e ∷ []) h = absurd (omega arith)
 six (a ∷ b ∷ c ∷ d ∷ e ∷ f ∷ []) h = refl
 six (a ∷ b ∷ c ∷ d ∷ e ∷ f ∷ g ∷ l) h = absurd (omega arith)
 
--- six bytes that end as a trailer does and name the length n are the trailer for n
-trailer-is : (t : List ℕ) (n : ℕ) → length t ≡ 6 → getD t 4 0 ≡ 0x08 → getD t 5 0 ≡ 0x42 → 256 * getD t 0 0 + getD t 1 0 ≡ n → IsByte (getD t 1 0)
-    → trailer n (getD t 2 0) (getD t 3 0) ≡ t
+-- six numbers that close as a trailer does and name the length n are the trailer for n, if the low one of the two is a byte
+trailer-is : (t : List ℕ) (n : ℕ) → length t ≡ 6 → getD t 4 0 ≡ 0x08 → getD t 5 0 ≡ 0x42
+    → 256 * getD t 0 0 + getD t 1 0 ≡ n → IsByte (getD t 1 0) → trailer n (getD t 2 0) (getD t 3 0) ≡ t
 trailer-is t n l e f g small =
     let p : n / 256 ≡ getD t 0 0 = omega arith in
     let q : n % 256 ≡ getD t 1 0 = omega arith in
@@ -140,7 +143,8 @@ byte-at (x ∷ l) h zero = h .0
 byte-at (x ∷ l) h (suc i) = byte-at l (h .1) i
 
 module _ (bytes : List ℕ) (small : All IsByte bytes) (shaped : imageShaped bytes ≡ true) (readable : imageReadable bytes ≡ true) where
-  shape : (6 ≤ length bytes) × (((getD (trailerIn bytes) 4 0 ≡ 0x08) × (getD (trailerIn bytes) 5 0 ≡ 0x42)) × (length bytes ≡ lengthIn bytes + 6))
+  shape : (6 ≤ length bytes)
+      × (((getD (trailerIn bytes) 4 0 ≡ 0x08) × (getD (trailerIn bytes) 5 0 ≡ 0x42)) × (length bytes ≡ lengthIn bytes + 6))
   unfolding imageShaped
   shape =
       and-decides (leb-decides 6 (length bytes))
@@ -150,14 +154,16 @@ module _ (bytes : List ℕ) (small : All IsByte bytes) (shaped : imageShaped byt
 
   tasks-read : (bodyOf (sessionIn bytes .tasks) ≡ bodyIn bytes) × (count (sessionIn bytes) ≡ countIn bytes)
   unfolding imageReadable sessionIn
-  tasks-read = body-read (countIn bytes) (bodyIn bytes) (and-right (leb (countIn bytes) mostTasks) (isReadable (readTasks (countIn bytes) (bodyIn bytes))) readable)
+  tasks-read =
+      body-read (countIn bytes) (bodyIn bytes)
+      (and-right (leb (countIn bytes) mostTasks) (isReadable (readTasks (countIn bytes) (bodyIn bytes))) readable)
 
   trailer-read : trailer (length (bodyIn bytes)) (countIn bytes) (mainIn bytes) ≡ trailerIn bytes
   trailer-read =
       let short : length bytes - 6 ≤ length bytes = omega arith in
       let named : lengthIn bytes ≡ length (bodyIn bytes) = omega (arith, length-take-le (length bytes - 6) bytes short, shape .1 .1) in
-      let six : length (trailerIn bytes) ≡ 6 = omega (arith, length-drop (length bytes - 6) bytes, shape .0) in
-      trailer-is (trailerIn bytes) (length (bodyIn bytes)) six (shape .1 .0 .0) (shape .1 .0 .1) named
+      let whole : length (trailerIn bytes) ≡ 6 = omega (arith, length-drop (length bytes - 6) bytes, shape .0) in
+      trailer-is (trailerIn bytes) (length (bodyIn bytes)) whole (shape .1 .0 .0) (shape .1 .0 .1) named
       (byte-at (trailerIn bytes) (All-drop IsByte (length bytes - 6) bytes small) 1)
 
   main-read : sessionIn bytes .main ≡ mainIn bytes
@@ -173,6 +179,7 @@ module _ (bytes : List ℕ) (small : All IsByte bytes) (shaped : imageShaped byt
 -- ---- promise 2
 
 module _ (tb : List ℕ) where
+  -- images of sound sessions are accepted and read as those sessions, and nothing else is accepted
   pub images-exact : ImagesExact tb
   images-exact =
       record {
@@ -202,3 +209,42 @@ module _ (tb : List ℕ) where
   -- "a session's only image": two sound sessions with equal images are equal
   pub image-injective : (s t : State ℕ) → Sound tb s → Sound tb t → image s ≡ image t → s ≡ t
   image-injective s t h k e = sym (image-session s tb h) ∙ ap sessionIn e ∙ image-session t tb k
+
+-- ---- how long an image is, and that it is bytes
+
+body-short : (tb : List ℕ) (ts : List (Stack ℕ)) → All (TaskSound tb) ts → length (bodyOf ts) ≤ 34 * length ts
+body-short tb [] h = omega arith
+body-short tb (t ∷ ts) h = simp length-append (omega (arith, h .0 .low, body-short tb ts (h .1)))
+
+-- 16 tasks of 32 screens, each with a root and a height, and six bytes more
+pub image-short : (tb : List ℕ) (s : State ℕ) → Sound tb s → length (image s) ≤ 550
+image-short tb s h = omega (arith, image-length s, body-short tb (s .tasks) (h .each), h .few)
+
+few-screens : (tb : List ℕ) → tableRefusal tb ≡ 0 → sizeOf tb ≤ mostScreens
+unfolding tableRefusal tableShaped
+few-screens tb ok =
+    and-decides (eqb-decides (length tb) (2 + 2 * sizeOf tb))
+    (and-decides (leb-decides 1 (sizeOf tb)) (leb-decides (sizeOf tb) mostScreens))
+    .holds (not-false _ (refusal-none (tableChecks tb) refl .0 ok .0)) .1 .1
+
+body-bytes : (tb : List ℕ) → sizeOf tb ≤ mostScreens → (ts : List (Stack ℕ)) → All (TaskSound tb) ts → All IsByte (bodyOf ts)
+body-bytes tb few [] h = tt
+body-bytes tb few (t ∷ ts) h = (
+  omega (arith, h .0 .known),
+  (
+    omega (arith, h .0 .low),
+    All-append IsByte (t .screens) (bodyOf ts) (All-map (λ x l. omega arith) (t .screens) (h .0 .below)) (body-bytes tb few ts (h .1)),
+  ),
+)
+
+-- the image of a sound session under a good table is bytes
+pub image-bytes : (tb : List ℕ) → tableRefusal tb ≡ 0 → (s : State ℕ) → Sound tb s → All IsByte (image s)
+unfolding image
+image-bytes tb ok s h =
+    let l = image-short tb s h in
+    let high : IsByte (length (body s) / 256) = omega (arith, length-append (body s) (end s)) in
+    let low : IsByte (length (body s) % 256) = omega arith in
+    let n : IsByte (count s) = omega (arith, h .few) in
+    let m : IsByte (s .main) = omega (arith, h .few, h .place .most) in
+    All-append IsByte (body s) (end s) (body-bytes tb (few-screens tb ok) (s .tasks) (h .each))
+    (high, (low, (n, (m, (omega arith, (omega arith, tt))))))

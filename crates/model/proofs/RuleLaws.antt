@@ -1,18 +1,16 @@
--- "The first rule that fits is used", and a call is refused by the first of its checks that applies: one law about `first` serves both.
--- The numbers of each call's checks stand in 01's order.
-use Prim.Native.Nat.{ℕ, zero, suc, _≤_}
+-- "The first rule that fits is used", and a call is refused by the first of its checks that applies: one law about
+-- `first` serves both. The numbers of each call's checks stand in 01's order.
+use Prim.Native.Nat.{ℕ}
 use mathlib.Core.Path.{_≡_, refl, sym, _∙_, ap}
 use mathlib.Core.Logic.{_↔_}
-use mathlib.Core.Bool.{Bool, true, false, not, _&&_, true≢false, false≢true}
+use mathlib.Core.Bool.{Bool, true, false, not, true≢false}
 use mathlib.Core.List.{List, [], _∷_, _++_, map}
-use native.Mathlib.Omega.{arith}
 use lib.Dec.{eqb}
 use Rattle.model.specs.declared.Flags.{Flags}
-use Rattle.model.specs.Lists.{if_then_else_, first, pairwise, All, Pairwise}
-use Rattle.model.specs.Refusals.{Check, check, accepted, refusal}
-use Rattle.model.specs.Table.{tableChecks, tableShaped, tableFilled}
-use Rattle.model.specs.Session.{State, sound}
 use Rattle.model.specs.declared.Rule.{Rule}
+use Rattle.model.specs.Lists.{if_then_else_, first, pairwise, All, Pairwise}
+use Rattle.model.specs.Refusals.{Check, accepted, refusal}
+use Rattle.model.specs.Session.{State, sound}
 use Rattle.model.specs.Rules.{Group, instanceGroup, taskGroup, nearGroup, apartGroup, rulesOf, groupOf, soughtBy, fits, chooseIn, choose}
 use Rattle.model.specs.Calls.{Call, launch, start, finishingStart, back, look, restore, ownChecks, checksIn, saveChecks, refusalOf}
 use Rattle.model.proofs.Logic.{not-decides, eqb-decides, pairwise-decides}
@@ -33,7 +31,7 @@ pub data First {A : Type 0} (default : A) (test : A → Bool) (xs : List A) : A 
   firstFits : {x : A} → FirstFit test xs x → First default test xs x
 
 module _ {A : Type 0} (d : A) (test : A → Bool) where
-  pub first-first : (xs : List A) → First d test xs (first d test xs)
+  first-first : (xs : List A) → First d test xs (first d test xs)
   first-first [] = noneFits tt
   first-first (x ∷ xs) = go (test x) refl (first-first xs)
     where
@@ -89,7 +87,8 @@ module _ (tb : List ℕ) (s : State ℕ) (b : ℕ) (f : Flags) where
   -- "The first rule that fits is used": the rule chosen stands in its group and fits, and no earlier one of the group does
   pub choose-first : FirstFit (fits tb s b f (choose tb s b f .found)) (rulesOf (groupOf tb s b f)) (choose tb s b f .rule)
   unfolding choose chooseIn
-  choose-first = some-fits Rule.R18 (fits tb s b f (soughtBy tb s b f (groupOf tb s b f))) (rulesOf (groupOf tb s b f)) (group-fits (groupOf tb s b f))
+  choose-first =
+      some-fits Rule.R18 (fits tb s b f (soughtBy tb s b f (groupOf tb s b f))) (rulesOf (groupOf tb s b f)) (group-fits (groupOf tb s b f))
 
 -- ---- refusals
 
@@ -102,6 +101,7 @@ pub data Refused (cs : List Check) : ℕ → Type 0 where
   passed : All Passes cs → Refused cs 0
   refusedBy : (c : Check) → FirstFit (λ x. x .applies) cs c → Refused cs (c .number)
 
+-- `refusal` gives exactly that
 pub refusal-first : (cs : List Check) (k : ℕ) → (refusal cs ≡ k) ↔ Refused cs k
 unfolding refusal
 refusal-first cs k = (λ e. rw e at (given (first accepted (λ c. c .applies) cs) (first-first accepted (λ c. c .applies) cs)), is k)
@@ -153,7 +153,8 @@ given-at [] c behind h = go (c .applies) refl
 given-at (x ∷ xs) c behind h = go (given-at xs c behind (h .0 .1, h .1 .1)) (x .applies) refl
   where
     go : (refusal (xs ++ c ∷ behind) ≡ c .number → All Passes xs × (c .applies ≡ true)) → (b : Bool) → x .applies ≡ b
-        → (if b then x else first accepted (λ y. y .applies) (xs ++ c ∷ behind)) .number ≡ c .number → (Passes x × All Passes xs) × (c .applies ≡ true)
+        → (if b then x else first accepted (λ y. y .applies) (xs ++ c ∷ behind)) .number ≡ c .number
+        → (Passes x × All Passes xs) × (c .applies ≡ true)
     go ih true e g = absurd (number-differs (x .number) xs c behind (h .1 .0) g)
     go ih false e g = ((e, ih g .0), ih g .1)
 
@@ -214,7 +215,7 @@ module _ (tb : List ℕ) (s : State ℕ) where
   checks-differ look = refl
   checks-differ (restore bytes) = refl
 
-  -- a call gets the number of a check of its own exactly where those before it let pass and it applies
+  -- a call gets the number of one of its checks exactly where those before it let pass and it applies
   pub refusal-order : (c : Call) (before : List Check) (x : Check) (behind : List Check) → checksOf c ≡ before ++ x ∷ behind
       → (refusalOf tb s c ≡ x .number) ↔ (All Passes before × (x .applies ≡ true))
   unfolding refusalOf

@@ -1,25 +1,24 @@
 -- Two sound sessions that answer alike to every list of looks and Backs are equal: a look gives the front screen, its task's
 -- root and height, n and m, and Back lays open the rest. By recursion on the tasks, and in the front task on its screens.
-use Prim.Native.Nat.{ℕ, zero, suc}
+use Prim.Native.Nat.{ℕ, suc}
 use mathlib.Core.Path.{_≡_, refl, sym, _∙_, ap, ap₂}
-use mathlib.Core.Bool.{Bool, true, false}
+use mathlib.Core.Bool.{false}
 use mathlib.Core.List.{List, [], _∷_, head-eq-of-cons-eq, tail-eq-of-cons-eq}
 use native.Mathlib.Nat.{not-suc-le-zero}
 use native.Mathlib.Omega.{arith}
 use lib.ListN.{length}
 use Rattle.model.specs.declared.Answer.{Answer}
 use Rattle.model.specs.Lists.{isEmpty, All}
-use Rattle.model.specs.Refusals.{refusal, check}
+use Rattle.model.specs.Refusals.{refusal}
 use Rattle.model.specs.Table.{tableRefusal}
 use Rattle.model.specs.Session.{Stack, State, stack, state}
 use Rattle.model.specs.Deeds.{mainWithout, closeIn, close}
-use Rattle.model.specs.Answers.{lookAt, settle}
+use Rattle.model.specs.Answers.{lookAt}
 use Rattle.model.specs.Calls.{Call, launch, start, finishingStart, back, look, restore, backed, ownChecks, done, call}
 use Rattle.model.specs.Histories.{answers, IsLater}
 use Rattle.model.specs.Promises.{AnswerAlike}
 use Rattle.model.proofs.Logic.{All-map}
 use Rattle.model.proofs.Sound.{Sound}
-use Rattle.model.proofs.RefusalLaws.{refusal-passes}
 use Rattle.model.proofs.Close.{backed-sound}
 use Rattle.model.proofs.Keeps.{settled}
 
@@ -54,7 +53,8 @@ record Twins (tb : List ℕ) (s s′ : State ℕ) : Type 0 where
   other : Sound tb s′
   alike : LookAlike tb s s′
 
-cons-stack : {r r′ : ℕ} {xs xs′ : List ℕ} {ts ts′ : List (Stack ℕ)} → r ≡ r′ → xs ≡ xs′ → ts ≡ ts′ → stack r xs ∷ ts ≡ stack r′ xs′ ∷ ts′
+cons-stack : {r r′ : ℕ} {xs xs′ : List ℕ} {ts ts′ : List (Stack ℕ)}
+    → r ≡ r′ → xs ≡ xs′ → ts ≡ ts′ → stack r xs ∷ ts ≡ stack r′ xs′ ∷ ts′
 cons-stack p q e = cc
 
 module _ (tb : List ℕ) (ok : tableRefusal tb ≡ 0) where
@@ -72,7 +72,8 @@ module _ (tb : List ℕ) (ok : tableRefusal tb ≡ 0) where
   one-look s s′ t = sym (look-answer s (t .one)) ∙ head-eq-of-cons-eq (t .alike (look ∷ []) (tt, tt)) ∙ look-answer s′ (t .other)
 
   -- and are twins after a Back
-  twins-back : (s s′ : State ℕ) → isEmpty (s .tasks) ≡ false → isEmpty (s′ .tasks) ≡ false → Twins tb s s′ → Twins tb (backed s) (backed s′)
+  twins-back : (s s′ : State ℕ) → isEmpty (s .tasks) ≡ false → isEmpty (s′ .tasks) ≡ false
+      → Twins tb s s′ → Twins tb (backed s) (backed s′)
   unfolding answers
   twins-back s s′ e e′ t =
       record {
@@ -85,7 +86,9 @@ module _ (tb : List ℕ) (ok : tableRefusal tb ≡ 0) where
   abbrev SameTasks : List (Stack ℕ) → Type 0
   SameTasks ts = (ts′ : List (Stack ℕ)) (m m′ : ℕ) → Twins tb (state ts m) (state ts′ m′) → ts ≡ ts′
 
-  front-same : (ts : List (Stack ℕ)) → SameTasks ts → (r : ℕ) (xs : List ℕ) (r′ : ℕ) (xs′ : List ℕ) (ts′ : List (Stack ℕ)) (m m′ : ℕ)
+  -- the front tasks, by recursion on their screens, where it is shown of the tasks behind them
+  front-same : (ts : List (Stack ℕ)) → SameTasks ts
+      → (r : ℕ) (xs : List ℕ) (r′ : ℕ) (xs′ : List ℕ) (ts′ : List (Stack ℕ)) (m m′ : ℕ)
       → Twins tb (state (stack r xs ∷ ts) m) (state (stack r′ xs′ ∷ ts′) m′) → stack r xs ∷ ts ≡ stack r′ xs′ ∷ ts′
   unfolding backed close closeIn lookAt
   front-same ts ih r [] r′ xs′ ts′ m m′ t = absurd (not-suc-le-zero (t .one .each .0 .filled))
@@ -111,6 +114,7 @@ module _ (tb : List ℕ) (ok : tableRefusal tb ≡ 0) where
   tasks-same (u ∷ ts) [] m m′ t = let e : suc (length ts) ≡ 0 = ap (λ (a : Answer). a .tasks) (one-look _ _ t) in absurd (omega arith)
   tasks-same (u ∷ ts) (u′ ∷ ts′) m m′ t = front-same ts (tasks-same ts) (u .root) (u .screens) (u′ .root) (u′ .screens) ts′ m m′ t
 
+  -- looks and Backs tell two sound sessions apart
   pub same : (s s′ : State ℕ) → Sound tb s → Sound tb s′ → LookAlike tb s s′ → s ≡ s′
   unfolding lookAt
   same s s′ h h′ a =

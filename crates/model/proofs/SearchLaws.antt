@@ -1,21 +1,20 @@
--- What the searches of 01 find: `find` gives the first place of which the statement holds, and 0 exactly where it holds of none;
--- `seekRoot` and `seek` give a place by root or by affinity exactly as 01 says. All laws are for any list, sound or not.
+-- What the searches of 01 find: `find` gives the first place at which a statement holds, and 0 exactly where it holds at
+-- none; `seekRoot` and `seek` give a task by root or by affinity exactly as 01 says. For all tables and all lists.
 use Prim.Native.Nat.{ℕ, zero, suc, pred, _≤_, _<_}
-use mathlib.Core.Path.{_≡_, refl, sym, _∙_, ap}
+use mathlib.Core.Path.{_≡_, refl, _∙_}
 use mathlib.Core.Logic.{_↔_}
-use mathlib.Core.Bool.{Bool, true, false, not, _&&_, false≢true}
+use mathlib.Core.Bool.{Bool, true, false, false≢true}
 use mathlib.Core.List.{List, [], _∷_}
-use native.Mathlib.Nat.{not-suc-le-zero}
 use native.Mathlib.Omega.{arith}
 use lib.Dec.{ltb, eqb}
 use lib.ListN.{length, getD}
 use borrow.Author.Tests.{ltb-true, ltb-false}
-use Rattle.model.specs.Lists.{if_then_else_, isPlace, further, find, All}
+use Rattle.model.specs.declared.Found.{Found}
+use Rattle.model.specs.Lists.{if_then_else_, isPlace, find, All}
 use Rattle.model.specs.Table.{affinityOf, isSingleInstance}
 use Rattle.model.specs.Session.{Stack, noStack}
-use Rattle.model.specs.declared.Found.{Found}
 use Rattle.model.specs.Search.{hasRoot, hasAffinity, isFound, seekRoot, seekAffinity, seek, holds}
-use Rattle.model.proofs.Logic.{Decides, and-decides, not-decides, eqb-decides, false-decides, refuted, contradiction, All-map, All-at}
+use Rattle.model.proofs.Logic.{Decides, and-decides, eqb-decides, false-decides, refuted, contradiction, All-map, All-at}
 use Rattle.model.proofs.ListLaws.{FoundAt, find-spec, find-none}
 
 -- ---- find

@@ -7,15 +7,15 @@ use lib.Dec.{eqb, ltb}
 use lib.ListN.{getD}
 use borrow.Author.Tests.{eqb-true, eqb-false, not-true, not-false, ltb-true}
 use Rattle.model.specs.declared.Flags.{Flags}
+use Rattle.model.specs.declared.Found.{Found}
+use Rattle.model.specs.declared.Rule.{Rule}
+use Rattle.model.specs.declared.Choice.{Choice}
 use Rattle.model.specs.Lists.{isEmpty, isPlace, find, first}
 use Rattle.model.specs.Refusals.{refusal}
 use Rattle.model.specs.Table.{sizeOf, isSingleTask, isSingleInstance, rootsOnce}
 use Rattle.model.specs.Session.{Stack, State, noStack, taskAt, front, frontScreen, count, mostTasks}
 use Rattle.model.specs.Flags.{flagsOf, hasOtherBit}
-use Rattle.model.specs.declared.Found.{Found}
 use Rattle.model.specs.Search.{placeOf, isFound, isFoundByRoot, hasRoot, hasAffinity, seekRoot, seekAffinity, seek, holds}
-use Rattle.model.specs.declared.Rule.{Rule}
-use Rattle.model.specs.declared.Choice.{Choice}
 use Rattle.model.specs.Rules.{Group, instanceGroup, taskGroup, nearGroup, apartGroup, rulesOf, isApart, groupOf, soughtBy, taskFound, fits, chooseIn, choose}
 use Rattle.model.specs.Deeds.{deedOf}
 use Rattle.model.specs.Calls.{chosen, started, startChecks, makesTask, overfills}

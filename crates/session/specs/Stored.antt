@@ -5,11 +5,11 @@ use mathlib.Core.Bool.{Bool, true, _&&_}
 use mathlib.Core.List.{List, [], _++_, map, reverse}
 use lib.Dec.{leb, eqb}
 use lib.ListN.{length, set, take, drop, replicate}
-use Rattle.session.specs.declared.Task.{Task}
-use Rattle.session.specs.declared.Session.{Session}
 use Rattle.model.specs.Lists.{all}
 use Rattle.model.specs.Table.{tableRefusal}
 use Rattle.model.specs.Session.{Stack, State, stack, state, mostTasks, mostHeight, sound}
+use Rattle.session.specs.declared.Task.{Task}
+use Rattle.session.specs.declared.Session.{Session}
 
 -- storage for a task, and for a session, in which nothing stands
 abbrev pub blankTask : Task

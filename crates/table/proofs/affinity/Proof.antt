@@ -1,6 +1,6 @@
 -- The byte read is the one that the definition names.
-use Rattle.model.specs.Table.{affinityOf}
 use borrow.Author.Needs.{needs}
+use Rattle.model.specs.Table.{affinityOf}
 use Rattle.table.proofs.affinity.Statement.{statement}
 use Rattle.table.proofs.affinity.Tie as tie
 

@@ -1,6 +1,6 @@
 -- The byte read is the one that the definition names.
-use Rattle.model.specs.Table.{modeOf}
 use borrow.Author.Needs.{needs}
+use Rattle.model.specs.Table.{modeOf}
 use Rattle.table.proofs.mode.Statement.{statement}
 use Rattle.table.proofs.mode.Tie as tie
 

@@ -2,9 +2,9 @@
 use mathlib.Core.Path.{sym, _∙_}
 use native.Mathlib.Omega.{arith}
 use borrow.Author.Tests.{not-true, not-false}
+use borrow.Author.Needs.{needs}
 use Rattle.model.proofs.Logic.{contradiction}
 use Rattle.model.proofs.Tables.{refusal-0, refusal-1, refusal-2, modes-decides}
-use borrow.Author.Needs.{needs}
 use Rattle.table.proofs.refusal.Statement.{statement}
 use Rattle.table.proofs.refusal.Tie as tie
 
