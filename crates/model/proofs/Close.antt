@@ -1,0 +1,150 @@
+-- Closing a screen keeps a session sound: the task that it empties goes and m follows, or the roots stay as they are.
+use Prim.Native.Nat.{ℕ, zero, suc, _≤_, _<_, zero-le, suc-le-suc, pred}
+use mathlib.Core.Path.{_≡_, refl, sym, _∙_, ap}
+use mathlib.Core.Bool.{Bool, true, false, true≢false}
+use mathlib.Core.List.{List, [], _∷_, map}
+use native.Mathlib.Nat.{le-trans, not-suc-le-zero, le-of-suc-le-suc}
+use native.Mathlib.Omega.{arith}
+use lib.Dec.{eqb, ltb}
+use lib.ListN.{length, getD, set, length-set, length-map, List·getD-map}
+use lib.Seq.{map-set-same}
+use borrow.Author.Tests.{eqb-false, ltb-true, ltb-false}
+use Rattle.model.specs.Lists.{if_then_else_, isEmpty, omit, Pairwise}
+use Rattle.model.specs.Table.{sizeOf, rootsOnce}
+use Rattle.model.specs.Session.{Stack, State, stack, state, noStack}
+use Rattle.model.specs.Deeds.{mainWithout, closeIn, close}
+use Rattle.model.specs.Calls.{backed}
+use Rattle.model.proofs.Logic.{if-elim, All-at}
+use Rattle.model.proofs.ListLaws.{All-omit, All-set, Pairwise-of-map, Pairwise-omit, Pairwise-to-map, isEmpty-length, omit-before, omit-behind, omit-inside, omit-length, omit-length-le}
+use Rattle.model.proofs.Sound.{TaskSound, RootsDiffer, MainSound, Sound, Plain}
+
+-- ---- the two ways of closing
+
+module _ {A : Type 0} where
+  -- the task loses its last screen, and goes
+  pub closeIn-emptied : (k i : ℕ) (ts : List (Stack A)) → isEmpty (omit i (getD ts k noStack .screens)) ≡ true → closeIn k i ts ≡ omit k ts
+  unfolding closeIn
+  closeIn-emptied k i [] e = refl
+  closeIn-emptied zero i (t ∷ ts) e = ap (λ (b : Bool). if b then ts else stack (t .root) (omit i (t .screens)) ∷ ts) e
+  closeIn-emptied (suc k) i (t ∷ ts) e = ap (λ (us : List (Stack A)). t ∷ us) (closeIn-emptied k i ts e)
+
+  -- the task at the place behind k others without the screen below i others
+  abbrev pub shortened : ℕ → ℕ → List (Stack A) → Stack A
+  shortened k i ts = stack (getD ts k noStack .root) (omit i (getD ts k noStack .screens))
+
+  -- other screens stay in the task
+  pub closeIn-kept : (k i : ℕ) (ts : List (Stack A)) → isEmpty (omit i (getD ts k noStack .screens)) ≡ false
+      → closeIn k i ts ≡ set ts k (shortened k i ts)
+  unfolding closeIn
+  closeIn-kept k i [] e = refl
+  closeIn-kept zero i (t ∷ ts) e = ap (λ (b : Bool). if b then ts else stack (t .root) (omit i (t .screens)) ∷ ts) e
+  closeIn-kept (suc k) i (t ∷ ts) e = ap (λ (us : List (Stack A)). t ∷ us) (closeIn-kept k i ts e)
+
+-- ---- what depends on the roots alone
+
+abbrev pub rootsOf : List (Stack ℕ) → List ℕ
+rootsOf ts = map (λ t. t .root) ts
+
+module _ (tb : List ℕ) (ts us : List (Stack ℕ)) (e : rootsOf ts ≡ rootsOf us) where
+  pub same-roots-pairs : Pairwise (RootsDiffer tb) ts → Pairwise (RootsDiffer tb) us
+  same-roots-pairs h =
+      Pairwise-of-map (λ t. t .root) Differ us (rw e at (Pairwise-to-map (λ t. t .root) Differ ts h))
+    where
+      Differ : ℕ → ℕ → Type 0
+      Differ r q = rootsOnce tb r ≡ true → r ≡ q → ⊥
+
+  pub same-roots-main : (m : ℕ) → MainSound tb ts m → MainSound tb us m
+  same-roots-main m h =
+      record {
+        most = rw (sym (length-map ts (λ t. t .root)) ∙ ap length e ∙ length-map us (λ t. t .root)) at (h .most);
+        root = λ l. sym (List·getD-map (λ t. t .root) us (pred m) noStack) ∙ ap (λ (rs : List ℕ). getD rs (pred m) 0) (sym e)
+            ∙ List·getD-map (λ t. t .root) ts (pred m) noStack ∙ h .root l;
+      }
+
+-- ---- soundness
+
+omit-lone : (i r : ℕ) → isEmpty (omit i (r ∷ [])) ≡ false → omit i (r ∷ []) ≡ r ∷ []
+omit-lone zero r e = absurd (true≢false e)
+omit-lone (suc i) r e = refl
+
+module _ (tb : List ℕ) where
+  shortened-sound : (t : Stack ℕ) (i : ℕ) → isEmpty (omit i (t .screens)) ≡ false → TaskSound tb t → TaskSound tb (stack (t .root) (omit i (t .screens)))
+  shortened-sound t i e k =
+      record {
+        filled = isEmpty-length (omit i (t .screens)) e;
+        low = le-trans (omit-length-le i (t .screens)) (k .low);
+        known = k .known;
+        below = All-omit (λ x. x < sizeOf tb) i (t .screens) (k .below);
+        lone = λ a. ap (omit i) (k .lone a) ∙ omit-lone i (t .root) (rw (k .lone a) at e);
+        plain = λ a. All-omit (Plain tb) i (t .screens) (k .plain a);
+      }
+
+  -- m follows its task or becomes 0
+  pub without-main : (k m : ℕ) (ts : List (Stack ℕ)) → MainSound tb ts m → MainSound tb (omit k ts) (mainWithout (suc k) m)
+  unfolding mainWithout
+  without-main k m ts h =
+      if-elim (MainSound tb (omit k ts)) (eqb m (suc k)) _ _ (λ e. record { most = zero-le; root = λ l. absurd (not-suc-le-zero l) })
+      (λ e. if-elim (MainSound tb (omit k ts)) (ltb (suc k) m) _ _ (λ f. behind m (ltb-true (suc k) m f) h)
+      (λ f. before (omega (arith, eqb-false m (suc k) e, ltb-false (suc k) m f))))
+    where
+      behind : (n : ℕ) → suc k < n → MainSound tb ts n → MainSound tb (omit k ts) (pred n)
+      behind zero l h = absurd (not-suc-le-zero l)
+      behind (suc zero) l h = absurd (not-suc-le-zero (le-of-suc-le-suc l))
+      behind (suc (suc n)) l h =
+          let o : suc (length (omit k ts)) ≡ length ts = omit-length k ts (omega (arith, l, h .most)) in
+          record {
+            most = omega (arith, o, h .most);
+            root = λ x. ap (λ (t : Stack ℕ). t .root) (omit-behind noStack k n ts (omega (arith, l))) ∙ h .root (suc-le-suc zero-le);
+          }
+
+      before : m ≤ k → MainSound tb (omit k ts) m
+      before l =
+          record {
+            most = omit-inside k m ts l (h .most);
+            root = λ x. ap (λ (t : Stack ℕ). t .root) (omit-before noStack k (pred m) ts (at m x l)) ∙ h .root x;
+          }
+        where
+          at : (n : ℕ) → 1 ≤ n → n ≤ k → pred n < k
+          at zero x l = absurd (not-suc-le-zero x)
+          at (suc n) x l = l
+
+  module _ (k i : ℕ) (s : State ℕ) (h : Sound tb s) where
+    emptied-sound : Sound tb (state (omit k (s .tasks)) (mainWithout (suc k) (s .main)))
+    emptied-sound =
+        record {
+          few = le-trans (omit-length-le k (s .tasks)) (h .few);
+          each = All-omit (TaskSound tb) k (s .tasks) (h .each);
+          pairs = Pairwise-omit (RootsDiffer tb) k (s .tasks) (h .pairs);
+          place = without-main k (s .main) (s .tasks) (h .place);
+        }
+
+    kept-sound : isEmpty (omit i (getD (s .tasks) k noStack .screens)) ≡ false → Sound tb (state (set (s .tasks) k (shortened k i (s .tasks))) (s .main))
+    kept-sound e =
+        record {
+          few = rw (length-set (s .tasks) k (shortened k i (s .tasks))) (h .few);
+          each =
+              All-set (TaskSound tb) k (shortened k i (s .tasks)) (s .tasks)
+              (λ l. shortened-sound (getD (s .tasks) k noStack) i e (All-at (TaskSound tb) (s .tasks) k noStack l (h .each))) (h .each);
+          pairs = same-roots-pairs tb (s .tasks) ts (sym same) (h .pairs);
+          place = same-roots-main tb (s .tasks) ts (sym same) (s .main) (h .place);
+        }
+      where
+        ts : List (Stack ℕ)
+        ts = set (s .tasks) k (shortened k i (s .tasks))
+
+        same : rootsOf ts ≡ rootsOf (s .tasks)
+        same = map-set-same (λ t. t .root) (s .tasks) k (shortened k i (s .tasks)) noStack refl
+
+-- at any depth in any task, or nowhere
+pub close-sound : (tb : List ℕ) (k i : ℕ) (s : State ℕ) → Sound tb s → Sound tb (close k i s)
+unfolding close
+close-sound tb k i s h = go (isEmpty (omit i (getD (s .tasks) k noStack .screens))) refl
+  where
+    go : (e : Bool) → isEmpty (omit i (getD (s .tasks) k noStack .screens)) ≡ e
+        → Sound tb (state (closeIn k i (s .tasks)) (if e then mainWithout (suc k) (s .main) else s .main))
+    go true e = rw (closeIn-emptied k i (s .tasks) e) (emptied-sound tb k i s h)
+    go false e = rw (closeIn-kept k i (s .tasks) e) (kept-sound tb k i s h e)
+
+pub backed-sound : (tb : List ℕ) (s : State ℕ) → Sound tb s → Sound tb (backed s)
+unfolding backed
+backed-sound tb s h = close-sound tb 0 0 s h

@@ -1,0 +1,4 @@
+pub mod Known
+pub mod Padding
+pub mod StoredLaws
+pub mod TaskLaws
