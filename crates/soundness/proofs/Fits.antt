@@ -102,7 +102,7 @@ module _ (tb : List ℕ) where
   unfolding storedTaskSound viewTask
   root-known t e = task-decides tb (viewTask t) .holds (and-right (blankAbove t) (taskSound tb (viewTask t)) e) .known
 
--- ---- roots
+  -- ---- roots
 
   pub differ-once : (t : Task) (us : List Task) → rootsOnce tb (t .root) ≡ true → all (storedRootsDiffer tb t) us ≡ all (otherRoot (t .root)) us
   unfolding storedRootsDiffer rootsDiffer otherRoot viewTask
@@ -154,6 +154,7 @@ module _ (tb : List ℕ) (c : Session) where
     where
       both : Decides (all blankAbove ts && all (taskSound tb) (map viewTask ts)) ((all blankAbove ts ≡ true) × (all (taskSound tb) (map viewTask ts) ≡ true))
       both = and-decides (self-decides (all blankAbove ts)) (self-decides (all (taskSound tb) (map viewTask ts)))
+
       d : Decides
           ((leb (c .n) mostTasks && (all blankAbove ts && all isBlank (drop (c .n) (c .tasks))))
           && ((leb (length (map viewTask ts)) mostTasks && all (taskSound tb) (map viewTask ts))

@@ -10,7 +10,8 @@ ghost use Rattle.model.specs.Table.{tableRefusal};
 ghost use Rattle.model.specs.Session.{mainSound};
 ghost use Rattle.session.specs.Stored.{view, isBlank, soundStored};
 ghost use Rattle.soundness.specs.Tests.{otherRoot, plainScreen, storedTaskSound, storedRootsDiffer};
-use session::{Session, Task};
+use session::Session;
+use session::Task;
 
 // Every screen from a place on is 0: their sum is.
 fn zero_from(t: Task, from: usize) -> bool

@@ -35,9 +35,8 @@ returns c =
     let a = c .before .before .before .before .before .args in
     let l : length (a .t1 .tasks) ≡ 16 = search (needs, long) in
     let o = c .before .before .before .before .loop in
-    sym
-    (o .inv .1
-    ∙ all-fail isBlank (a .t1 .tasks) (o .i) noTask (omega arith) (sym (c .before .is-blank .ensures) ∙ not-true (c .before .is-blank .result) (c .if1 .taken)))
+    let e = sym (c .before .is-blank .ensures) ∙ not-true (c .before .is-blank .result) (c .if1 .taken) in
+    sym (o .inv .1 ∙ all-fail isBlank (a .t1 .tasks) (o .i) noTask (omega arith) e)
 
 add-i : tie.Need-add-i Inv-loop μ-loop
 add-i c = search needs
@@ -50,9 +49,8 @@ loop-again c =
     let a = c .before .before .before .before .before .args in
     let l : length (a .t1 .tasks) ≡ 16 = search (needs, long) in
     let o = c .before .before .before .before .loop in
-    (omega arith,
-    o .inv .1
-    ∙ all-next isBlank (a .t1 .tasks) (o .i) noTask (omega arith) (sym (c .before .is-blank .ensures) ∙ not-false (c .before .is-blank .result) (c .if1 .left)))
+    let e = sym (c .before .is-blank .ensures) ∙ not-false (c .before .is-blank .result) (c .if1 .left) in
+    (omega arith, o .inv .1 ∙ all-next isBlank (a .t1 .tasks) (o .i) noTask (omega arith) e)
 
 returns-2 : tie.Need-returns-2 Inv-loop μ-loop
 returns-2 c =

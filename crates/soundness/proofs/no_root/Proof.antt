@@ -35,9 +35,8 @@ returns c =
     let a = c .before .before .before .before .before .args in
     let l : length (a .t1 .tasks) ≡ 16 = search (needs, long) in
     let o = c .before .before .before .before .loop in
-    sym
-    (o .inv .1
-    ∙ all-take-fail (otherRoot (a .b)) (a .t1 .tasks) (a .n) (omega arith) (o .i) noTask (omega arith) (ap not (eq-eqb (a .b) _ (c .if1 .taken))))
+    let e = ap not (eq-eqb (a .b) _ (c .if1 .taken)) in
+    sym (o .inv .1 ∙ all-take-fail (otherRoot (a .b)) (a .t1 .tasks) (a .n) (omega arith) (o .i) noTask (omega arith) e)
 
 add-i : tie.Need-add-i Inv-loop μ-loop
 add-i c = search needs
@@ -51,9 +50,8 @@ loop-again c =
     let a = c .before .before .before .before .before .args in
     let l : length (a .t1 .tasks) ≡ 16 = search (needs, long) in
     let o = c .before .before .before .before .loop in
-    (omega arith,
-    o .inv .1
-    ∙ all-take-next (otherRoot (a .b)) (a .t1 .tasks) (a .n) (omega arith) (o .i) noTask (omega arith) (ap not (ne-eqb (a .b) _ (c .if1 .left))))
+    let e = ap not (ne-eqb (a .b) _ (c .if1 .left)) in
+    (omega arith, o .inv .1 ∙ all-take-next (otherRoot (a .b)) (a .t1 .tasks) (a .n) (omega arith) (o .i) noTask (omega arith) e)
 
 returns-2 : tie.Need-returns-2 Inv-loop μ-loop
 returns-2 c =

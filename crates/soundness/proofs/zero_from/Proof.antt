@@ -48,9 +48,9 @@ loop-again c =
     let x = getD (a .t1 .screens) (o .i) 0 in
     let b : Fits w8 x = search needs in
     let r = all (eqb 0) (drop (o .i + 1) (a .t1 .screens)) in
-    (omega arith, (omega arith,
-    o .inv .1 .1 ∙ ap (λ (b : Bool). eqb 0 (o .sum) && b) (all-step (eqb 0) (a .t1 .screens) (o .i) 0 (omega arith))
-    ∙ sym (and-assoc (eqb 0 (o .sum)) (eqb 0 x) r) ∙ ap (λ (b : Bool). b && r) (sym (sum-zero (o .sum) x))))
+    let e = o .inv .1 .1 ∙ ap (λ (z : Bool). eqb 0 (o .sum) && z) (all-step (eqb 0) (a .t1 .screens) (o .i) 0 (omega arith))
+    ∙ sym (and-assoc (eqb 0 (o .sum)) (eqb 0 x) r) ∙ ap (λ (z : Bool). z && r) (sym (sum-zero (o .sum) x)) in
+    (omega arith, (omega arith, e))
 
 returns : tie.Need-returns Inv-loop μ-loop
 returns c =
