@@ -7,8 +7,8 @@ use native.Mathlib.Nat.{not-suc-le-zero, le-of-suc-le-suc}
 use native.Mathlib.Numerals.{add-one}
 use native.Mathlib.Omega.{arith}
 use lib.Dec.{eqb, ltb}
-use lib.ListN.{length, getD, drop, drop-of-length-le}
-use lib.Seq.{drop-cons}
+use lib.ListN.{length, getD, take, drop, drop-of-length-le}
+use lib.Seq.{drop-cons, getD-take, length-take-le}
 use borrow.Author.Tests.{ltb-true, ltb-false, eqb-true, eq-eqb}
 use Rattle.model.specs.Lists.{all, pairwise, allBelow}
 use Rattle.model.proofs.Logic.{Decides, and-decides, eqb-decides, same-test, and-left, and-right}
@@ -60,11 +60,29 @@ module _ {A : Type 0} where
       pub all-next : p (getD l i d) ≡ true → all p (drop i l) ≡ all p (drop (i + 1) l)
       all-next e = all-step l i d h ∙ rw e
 
+    -- the same over the first n elements
+    module _ (l : List A) (n : ℕ) (fits : n ≤ length l) (i : ℕ) where
+      size : length (take n l) ≡ n
+      size = length-take-le n l fits
+
+      pub all-take-fail : (d : A) → i < n → p (getD l i d) ≡ false → all p (drop i (take n l)) ≡ false
+      all-take-fail d h e = all-fail (take n l) i d (omega (arith, size)) (ap p (getD-take n l i d h) ∙ e)
+
+      pub all-take-next : (d : A) → i < n → p (getD l i d) ≡ true → all p (drop i (take n l)) ≡ all p (drop (i + 1) (take n l))
+      all-take-next d h e = all-next (take n l) i d (omega (arith, size)) (ap p (getD-take n l i d h) ∙ e)
+
+      pub all-take-end : n ≤ i → all p (drop i (take n l)) ≡ true
+      all-take-end h = all-end (take n l) i (omega (arith, size))
+
   -- what holds of every element holds of the one at i
   pub all-at : (p : A → Bool) (l : List A) (i : ℕ) (d : A) → i < length l → all p l ≡ true → p (getD l i d) ≡ true
   all-at p [] i d h e = absurd (not-suc-le-zero h)
   all-at p (x ∷ xs) zero d h e = and-left (p x) (all p xs) e
   all-at p (x ∷ xs) (suc i) d h e = all-at p xs i d (le-of-suc-le-suc h) (and-right (p x) (all p xs) e)
+
+  pub all-take-at : (p : A → Bool) (l : List A) (n : ℕ) → n ≤ length l → (i : ℕ) (d : A) → i < n → all p (take n l) ≡ true → p (getD l i d) ≡ true
+  all-take-at p l n fits i d h e =
+      sym (ap p (getD-take n l i d h)) ∙ all-at p (take n l) i d (omega (arith, length-take-le n l fits)) e
 
   pub all-true : (p : A → Bool) → ((x : A) → p x ≡ true) → (xs : List A) → all p xs ≡ true
   all-true p e [] = refl
@@ -91,12 +109,23 @@ module _ {A B : Type 0} (f : A → B) where
 
 -- ---- each pair of elements
 
-module _ {A : Type 0} (r : A → A → Bool) (l : List A) (i : ℕ) where
-  pub pairwise-step : (d : A) → i < length l → pairwise r (drop i l) ≡ (all (r (getD l i d)) (drop (i + 1) l) && pairwise r (drop (i + 1) l))
-  pairwise-step d h = rw (add-one i, drop-cons l i d h)
+module _ {A : Type 0} (r : A → A → Bool) where
+  pub pairwise-step : (l : List A) (i : ℕ) (d : A) → i < length l
+      → pairwise r (drop i l) ≡ (all (r (getD l i d)) (drop (i + 1) l) && pairwise r (drop (i + 1) l))
+  pairwise-step l i d h = rw (add-one i, drop-cons l i d h)
 
-  pub pairwise-end : length l ≤ i → pairwise r (drop i l) ≡ true
-  pairwise-end h = rw (drop-of-length-le l h)
+  pub pairwise-end : (l : List A) (i : ℕ) → length l ≤ i → pairwise r (drop i l) ≡ true
+  pairwise-end l i h = rw (drop-of-length-le l h)
+
+  -- the same over the first n elements
+  module _ (l : List A) (n : ℕ) (fits : n ≤ length l) (i : ℕ) where
+    pub pairwise-take-step : (d : A) → i < n
+        → pairwise r (drop i (take n l)) ≡ (all (r (getD l i d)) (drop (i + 1) (take n l)) && pairwise r (drop (i + 1) (take n l)))
+    pairwise-take-step d h =
+        pairwise-step (take n l) i d (omega (arith, length-take-le n l fits)) ∙ rw (getD-take n l i d h)
+
+    pub pairwise-take-end : n ≤ i → pairwise r (drop i (take n l)) ≡ true
+    pairwise-take-end h = pairwise-end (take n l) i (omega (arith, length-take-le n l fits))
 
 module _ {A B : Type 0} (f : A → B) where
   pub pairwise-map : (r : B → B → Bool) (xs : List A) → pairwise r (map f xs) ≡ pairwise (λ x y. r (f x) (f y)) xs

@@ -1,5 +1,5 @@
 -- A loop over the screens. Invariant: each mode below x fits.
-use Prim.Native.Nat.{ℕ, _+_, _-_, _*_, _≤_, _<_}
+use Prim.Native.Nat.{_-_, _≤_, _<_}
 use mathlib.Core.Path.{_≡_, refl, sym}
 use mathlib.Core.Bool.{true}
 use native.Mathlib.Numerals.{add-one}

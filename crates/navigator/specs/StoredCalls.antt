@@ -1,0 +1,37 @@
+-- Calls on stored sessions: what each function of this crate gives, refused or not.
+use Prim.Native.Nat.{ℕ, zero, suc}
+use mathlib.Core.Path.{_≡_}
+use mathlib.Core.Bool.{true}
+use mathlib.Core.List.{List, []}
+use Rattle.model.specs.declared.Answer.{Answer}
+use Rattle.model.specs.Refusals.{refusal}
+use Rattle.model.specs.Table.{tableRefusal}
+use Rattle.model.specs.Session.{State}
+use Rattle.model.specs.Answers.{lookAt, refused}
+use Rattle.model.specs.Calls.{Call, checksIn, ownChecks, done}
+use Rattle.session.specs.declared.Session.{Session}
+use Rattle.session.specs.Stored.{view, hold, soundStored}
+use Rattle.navigator.specs.declared.Reply.{Reply}
+
+abbrev pub reply : Session → Answer → Reply
+reply c a = record { session = c; answer = a }
+
+-- a call with the refusal k (0 if none), on the stored session c, that would make the session v
+abbrev pub settleStored : ℕ → Session → State ℕ → Reply
+settleStored zero c v = reply (hold v) (lookAt v)
+settleStored (suc k) c v = reply c (refused (suc k))
+
+-- "The checks go in the order 1, 2, 20, then those named for the call."
+unfoldable pub refusalStored : List ℕ → Session → Call → ℕ
+refusalStored tb c k = refusal (checksIn tb (soundStored tb c) (ownChecks tb (view c) k))
+
+-- the same with none named for the call: 1, 2, 20, or 0
+unfoldable pub sharedRefusal : List ℕ → Session → ℕ
+sharedRefusal tb c = refusal (checksIn tb (soundStored tb c) [])
+
+unfoldable pub callStored : List ℕ → Session → Call → Reply
+callStored tb c k = settleStored (refusalStored tb c k) c (done tb (view c) k)
+
+-- under a good table a sound session stays sound
+abbrev pub KeepsSound : List ℕ → Session → Session → Type 0
+KeepsSound tb c c′ = tableRefusal tb ≡ 0 → soundStored tb c ≡ true → soundStored tb c′ ≡ true

@@ -1,0 +1,168 @@
+-- Soundness of what is stored, in the terms in which the code tests it: the screens as they are stored, bottom first,
+-- and each test of the code by itself.
+use Prim.Native.Nat.{ℕ, _≤_, _<_}
+use mathlib.Core.Path.{_≡_, refl, sym, _∙_, ap}
+use mathlib.Core.Bool.{Bool, true, false, not, _&&_}
+use mathlib.Core.List.{List, [], _∷_, map, reverse, reverse-reverse}
+use native.Mathlib.Omega.{arith}
+use lib.Dec.{leb, ltb, eqb}
+use lib.ListN.{length, getD, take, drop, length-take, length-map}
+use lib.Seq.{getD-take, length-take-le, take-suc}
+use Rattle.model.specs.Lists.{all, pairwise, All}
+use Rattle.model.specs.Table.{sizeOf, isSingleInstance, rootsOnce}
+use Rattle.model.specs.Session.{mostTasks, mostHeight, taskSound, rootsDiffer, mainSound, sound}
+use Rattle.model.proofs.Logic.{Decides, and-decides, leb-decides, ltb-decides, self-decides, false-decides, all-decides, and-right}
+use Rattle.model.proofs.Sound.{TaskSound, Plain, task-decides}
+use Rattle.model.proofs.Walks.{all-reverse, all-map, all-both, all-cong, all-true, pairwise-map}
+use Rattle.session.specs.declared.Task.{Task}
+use Rattle.session.specs.declared.Session.{Session}
+use Rattle.session.specs.Stored.{viewTask, view, blankAbove, isBlank, storageBlank, soundStored}
+use Rattle.session.proofs.Known.{Screens32}
+use Rattle.session.proofs.TaskLaws.{view-height}
+use Rattle.soundness.specs.Tests.{otherRoot, plainScreen, storedTaskSound, storedRootsDiffer}
+
+-- ---- a task
+
+pub record TaskFits (tb : List ℕ) (t : Task) : Type 0 where
+  pub known : t .root < sizeOf tb
+  pub filled : 1 ≤ t .height
+  pub low : t .height ≤ mostHeight
+  pub rest : all (eqb 0) (drop (t .height) (t .screens)) ≡ true
+  pub lone : isSingleInstance tb (t .root) ≡ true → (t .height ≡ 1) × (getD (t .screens) 0 0 ≡ t .root)
+  pub plain : isSingleInstance tb (t .root) ≡ false → all (plainScreen tb) (take (t .height) (t .screens)) ≡ true
+
+module _ (tb : List ℕ) where
+  -- the two tests of a screen, over the screens in either order
+  plain-decides : (xs : List ℕ) → Decides (all (plainScreen tb) xs) (All (λ x. x < sizeOf tb) (reverse xs) × All (Plain tb) (reverse xs))
+  unfolding plainScreen
+  plain-decides xs = rw (← all-reverse (plainScreen tb) xs, ← all-both (λ x. ltb x (sizeOf tb)) (λ x. not (isSingleInstance tb x)) (reverse xs))
+      (and-decides (all-decides (λ x. ltb-decides x (sizeOf tb)) (reverse xs)) (all-decides (λ x. false-decides (isSingleInstance tb x)) (reverse xs)))
+
+  module _ (t : Task) (size : Screens32 t) where
+    abbrev xs : List ℕ
+    xs = take (t .height) (t .screens)
+
+    alone-in : t .height ≤ mostHeight → reverse xs ≡ t .root ∷ [] → (t .height ≡ 1) × (getD (t .screens) 0 0 ≡ t .root)
+    alone-in low e =
+        let f : xs ≡ t .root ∷ [] = sym (reverse-reverse xs) ∙ ap reverse e in
+        let h : t .height ≡ 1 = sym (length-take-le (t .height) (t .screens) (omega arith)) ∙ ap length f in
+        (h, sym (getD-take (t .height) (t .screens) 0 0 (omega arith)) ∙ ap (λ (l : List ℕ). getD l 0 0) f)
+
+    alone-out : (t .height ≡ 1) × (getD (t .screens) 0 0 ≡ t .root) → reverse xs ≡ t .root ∷ []
+    alone-out h =
+        let f : take 1 (t .screens) ≡ getD (t .screens) 0 0 ∷ [] = take-suc (t .screens) 0 0 (omega arith) in
+        rw (h .0, f, h .1)
+
+    abbrev Storage : Type 0
+    Storage = (t .height ≤ mostHeight) × (all (eqb 0) (drop (t .height) (t .screens)) ≡ true)
+
+    fits-in : Storage → TaskSound tb (viewTask t) → TaskFits tb t
+    unfolding viewTask
+    fits-in b k =
+        record {
+          known = k .known;
+          filled = omega (arith, k .filled, view-height t (omega arith));
+          low = b .0;
+          rest = b .1;
+          lone = λ a. alone-in (b .0) (k .lone a);
+          plain = λ a. plain-decides xs .shows (k .below, k .plain a);
+        }
+
+    fits-out : TaskFits tb t → TaskSound tb (viewTask t)
+    unfolding viewTask
+    fits-out f =
+        let l = view-height t (omega (arith, f .low)) in
+        record {
+          filled = omega (arith, f .filled);
+          low = omega (arith, f .low);
+          known = f .known;
+          below = go (isSingleInstance tb (t .root)) refl;
+          lone = λ a. alone-out (f .lone a);
+          plain = λ a. plain-decides xs .holds (f .plain a) .1;
+        }
+      where
+        go : (b : Bool) → isSingleInstance tb (t .root) ≡ b → All (λ x. x < sizeOf tb) (reverse xs)
+        go true a = rw (alone-out (f .lone a)) (f .known, tt)
+        go false a = plain-decides xs .holds (f .plain a) .0
+
+    pub task-fits : Decides (storedTaskSound tb t) (TaskFits tb t)
+    unfolding storedTaskSound blankAbove
+    task-fits =
+        record {
+          holds = λ h. let r = d .holds h in fits-in (r .0) (r .1);
+          shows = λ f. d .shows ((f .low, f .rest), fits-out f);
+        }
+      where
+        d : Decides ((leb (t .height) mostHeight && all (eqb 0) (drop (t .height) (t .screens))) && taskSound tb (viewTask t)) (Storage × TaskSound tb (viewTask t))
+        d =
+            and-decides (and-decides (leb-decides (t .height) mostHeight) (self-decides (all (eqb 0) (drop (t .height) (t .screens)))))
+            (task-decides tb (viewTask t))
+
+  pub root-known : (t : Task) → storedTaskSound tb t ≡ true → t .root < sizeOf tb
+  unfolding storedTaskSound viewTask
+  root-known t e = task-decides tb (viewTask t) .holds (and-right (blankAbove t) (taskSound tb (viewTask t)) e) .known
+
+  -- ---- roots
+
+  pub differ-once : (t : Task) (us : List Task) → rootsOnce tb (t .root) ≡ true → all (storedRootsDiffer tb t) us ≡ all (otherRoot (t .root)) us
+  unfolding storedRootsDiffer rootsDiffer otherRoot viewTask
+  differ-once t us e = all-cong (storedRootsDiffer tb t) (otherRoot (t .root)) (λ u. rw e) us
+
+  pub differ-often : (t : Task) (us : List Task) → rootsOnce tb (t .root) ≡ false → all (storedRootsDiffer tb t) us ≡ true
+  unfolding storedRootsDiffer rootsDiffer viewTask
+  differ-often t us e = all-true (storedRootsDiffer tb t) (λ u. rw e) us
+
+-- ---- a session
+
+pub record SessionFits (tb : List ℕ) (c : Session) : Type 0 where
+  pub few : c .n ≤ mostTasks
+  pub each : all (storedTaskSound tb) (take (c .n) (c .tasks)) ≡ true
+  pub rest : all isBlank (drop (c .n) (c .tasks)) ≡ true
+  pub pairs : pairwise (storedRootsDiffer tb) (take (c .n) (c .tasks)) ≡ true
+  pub place : mainSound tb (view c .tasks) (c .main) ≡ true
+
+module _ (tb : List ℕ) (c : Session) where
+  abbrev ts : List Task
+  ts = take (c .n) (c .tasks)
+
+  each-is : (all blankAbove ts && all (taskSound tb) (map viewTask ts)) ≡ all (storedTaskSound tb) ts
+  unfolding storedTaskSound
+  each-is = rw (all-map viewTask (taskSound tb) ts) (all-both blankAbove (λ t. taskSound tb (viewTask t)) ts)
+
+  pairs-is : pairwise (rootsDiffer tb) (map viewTask ts) ≡ pairwise (storedRootsDiffer tb) ts
+  unfolding storedRootsDiffer
+  pairs-is = pairwise-map viewTask (rootsDiffer tb) ts
+
+  pub session-fits : Decides (soundStored tb c) (SessionFits tb c)
+  unfolding soundStored storageBlank sound view
+  session-fits =
+      record {
+        holds = λ h.
+            let r = d .holds h in
+            record {
+              few = r .0 .0;
+              each = sym each-is ∙ both .shows (r .0 .1 .0, r .1 .0 .1);
+              rest = r .0 .1 .1;
+              pairs = sym pairs-is ∙ r .1 .1 .0;
+              place = r .1 .1 .1;
+            };
+        shows = λ f.
+            let b = both .holds (each-is ∙ f .each) in
+            let few : length (map viewTask ts) ≤ mostTasks = omega (arith, f .few, length-take (c .n) (c .tasks), length-map ts viewTask) in
+            d .shows ((f .few, (b .0, f .rest)), ((few, b .1), (pairs-is ∙ f .pairs, f .place)));
+      }
+    where
+      both : Decides (all blankAbove ts && all (taskSound tb) (map viewTask ts)) ((all blankAbove ts ≡ true) × (all (taskSound tb) (map viewTask ts) ≡ true))
+      both = and-decides (self-decides (all blankAbove ts)) (self-decides (all (taskSound tb) (map viewTask ts)))
+
+      d : Decides
+          ((leb (c .n) mostTasks && (all blankAbove ts && all isBlank (drop (c .n) (c .tasks))))
+          && ((leb (length (map viewTask ts)) mostTasks && all (taskSound tb) (map viewTask ts))
+          && (pairwise (rootsDiffer tb) (map viewTask ts) && mainSound tb (map viewTask ts) (c .main))))
+          (((c .n ≤ mostTasks) × ((all blankAbove ts ≡ true) × (all isBlank (drop (c .n) (c .tasks)) ≡ true)))
+          × (((length (map viewTask ts) ≤ mostTasks) × (all (taskSound tb) (map viewTask ts) ≡ true))
+          × ((pairwise (rootsDiffer tb) (map viewTask ts) ≡ true) × (mainSound tb (map viewTask ts) (c .main) ≡ true))))
+      d =
+          and-decides (and-decides (leb-decides (c .n) mostTasks) (and-decides (self-decides _) (self-decides _)))
+          (and-decides (and-decides (leb-decides (length (map viewTask ts)) mostTasks) (self-decides _))
+          (and-decides (self-decides _) (self-decides _)))
