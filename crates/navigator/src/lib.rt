@@ -33,7 +33,10 @@ fn shared_refusal(table: &[u8], s: Session) -> u8
 fn refuse(s: Session, number: u8) -> Reply
     ensures { λ r. ⌜ r ≡ reply s (refusedAnswer number) ⌝ }
 {
-    Reply { session: s, answer: answer::refused(number) }
+    Reply {
+        session: s,
+        answer: answer::refused(number),
+    }
 }
 
 // Look changes nothing.
@@ -45,5 +48,8 @@ pub fn look(table: &[u8], s: Session) -> Reply
     if number != 0 {
         return refuse(s, number);
     }
-    Reply { session: s, answer: answer::look_at(s) }
+    Reply {
+        session: s,
+        answer: answer::look_at(s),
+    }
 }

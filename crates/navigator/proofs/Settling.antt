@@ -1,0 +1,97 @@
+-- A call on a stored session, by what its first checks said; and that what it leaves is sound.
+use Prim.Native.Nat.{ℕ, zero, suc}
+use mathlib.Core.Path.{_≡_, refl, sym, _∙_, ap}
+use mathlib.Core.Bool.{Bool, true, false, not}
+use mathlib.Core.List.{List, [], _∷_}
+use native.Mathlib.Omega.{arith}
+use borrow.Author.Tests.{not-false}
+use Rattle.model.specs.Refusals.{check, refusal}
+use Rattle.model.specs.Table.{tableRefusal, tableShaped, tableFilled, tableChecks}
+use Rattle.model.specs.Session.{State}
+use Rattle.model.specs.Answers.{lookAt, refused}
+use Rattle.model.specs.Calls.{Call, look, checksIn, ownChecks, done}
+use Rattle.model.proofs.RefusalLaws.{refusal-skip, refusal-passes, refusal-append-refused, checks-bad-table, checks-unsound, checks-own}
+use Rattle.model.proofs.Sound.{Sound}
+use Rattle.model.proofs.Keeps.{done-sound}
+use Rattle.session.specs.declared.Session.{Session}
+use Rattle.session.specs.Stored.{view, hold, soundStored, Ready}
+use Rattle.session.proofs.Known.{Sized}
+use Rattle.session.proofs.StoredLaws.{held, hold-sound, sound-blank, sound-view}
+use Rattle.answer.specs.Seen.{Seen}
+use Rattle.answer.proofs.LookLaws.{sound-seen}
+use Rattle.navigator.specs.declared.Reply.{Reply}
+use Rattle.navigator.specs.StoredCalls.{reply, settleStored, refusalStored, sharedRefusal, callStored, KeepsSound}
+
+-- ---- the shared checks
+
+refusal-none : refusal [] ≡ 0
+unfolding refusal
+refusal-none = refl
+
+module _ (tb : List ℕ) (c : Session) where
+  pub shared-bad-table : (k : ℕ) → tableRefusal tb ≡ k → (k ≡ 0 → ⊥) → sharedRefusal tb c ≡ k
+  unfolding sharedRefusal
+  shared-bad-table zero e n = absurd (n refl)
+  shared-bad-table (suc k) e n = checks-bad-table tb k (soundStored tb c) [] e
+
+  pub shared-unsound : tableRefusal tb ≡ 0 → soundStored tb c ≡ false → sharedRefusal tb c ≡ 20
+  unfolding sharedRefusal
+  shared-unsound e f = rw f (checks-unsound tb [] e)
+
+  pub shared-passed : tableRefusal tb ≡ 0 → soundStored tb c ≡ true → sharedRefusal tb c ≡ 0
+  unfolding sharedRefusal refusal
+  shared-passed e f = rw f (checks-own tb [] e)
+
+  -- a call that passes them is on a sound session under a good table
+  pub shared-ready : sharedRefusal tb c ≡ 0 → Ready tb c
+  unfolding sharedRefusal tableRefusal
+  shared-ready e =
+      let c₁ = refusal-skip 0 (not (tableShaped tb)) _ e in
+      let c₂ = refusal-skip 1 (not (tableFilled tb)) _ (c₁ .1) in
+      let c₂₀ = refusal-skip 19 (not (soundStored tb c)) _ (c₂ .1) in
+      record {
+        good = refusal-passes 1 _ _ (c₁ .0) ∙ refusal-passes 2 _ _ (c₂ .0) ∙ refusal-none;
+        sound = not-false _ (c₂₀ .0);
+      }
+
+  -- ---- calls
+
+  module _ (k : Call) where
+    -- refused by one of the shared checks
+    pub call-refused : (n : ℕ) → sharedRefusal tb c ≡ n → (n ≡ 0 → ⊥) → callStored tb c k ≡ reply c (refused n)
+    unfolding callStored refusalStored sharedRefusal
+    call-refused zero e z = absurd (z refl)
+    call-refused (suc n) e z =
+        ap (λ (r : ℕ). settleStored r c (done tb (view c) k))
+        (refusal-append-refused n (checksIn tb (soundStored tb c) []) (ownChecks tb (view c) k) e)
+
+    -- only the call's own checks are left
+    pub call-settled : Ready tb c → callStored tb c k ≡ settleStored (refusal (ownChecks tb (view c) k)) c (done tb (view c) k)
+    unfolding callStored refusalStored
+    call-settled h =
+        let e : refusal (checksIn tb (soundStored tb c) (ownChecks tb (view c) k)) ≡ refusal (ownChecks tb (view c) k) =
+        rw (h .sound) (checks-own tb (ownChecks tb (view c) k) (h .good)) in
+        ap (λ (r : ℕ). settleStored r c (done tb (view c) k)) e
+
+    -- a sound session stays sound
+    pub call-keeps : KeepsSound tb c (callStored tb c k .session)
+    call-keeps g e =
+        rw (call-settled (record { good = g; sound = e })) (go (refusal (ownChecks tb (view c) k)) refl)
+      where
+        go : (n : ℕ) → refusal (ownChecks tb (view c) k) ≡ n → soundStored tb (settleStored n c (done tb (view c) k) .session) ≡ true
+        go zero f = hold-sound tb (done tb (view c) k) (done-sound tb g (view c) (sound-view tb c e) k f)
+        go (suc n) f = e
+
+    -- what a call gives, with both clauses of its contract
+    pub call-gives : (r : Reply) → r ≡ callStored tb c k → (r ≡ callStored tb c k) × KeepsSound tb c (r .session)
+    call-gives r e = (e, rw e call-keeps)
+
+  -- ---- look
+
+  pub look-settled : Sized c → Ready tb c → callStored tb c look ≡ reply c (lookAt (view c))
+  unfolding ownChecks done refusal
+  look-settled z h = call-settled look h ∙ ap (λ (s : Session). reply s (lookAt (view c))) (held c z (sound-blank tb c (h .sound)))
+
+-- a sound session can be looked at
+pub ready-seen : (tb : List ℕ) (c : Session) → Sized c → Ready tb c → Seen c
+ready-seen tb c z h = rw (held c z (sound-blank tb c (h .sound))) at (sound-seen tb (view c) (sound-view tb c (h .sound)))

@@ -1,0 +1,13 @@
+-- `navigator::refuse` meets its contract: the session as it was, and the answer of the refusal.
+use borrow.Author.Needs.{needs}
+use Rattle.navigator.proofs.refuse.Statement.{statement}
+use Rattle.navigator.proofs.refuse.Tie as tie
+
+refused-requires : tie.Need-refused-requires
+refused-requires c κs = search needs
+
+returns : tie.Need-returns
+returns c = rw (c .refused .ensures)
+
+pub refuse-spec : {M : Type 1} → statement M
+refuse-spec = tie.close (tie.spec refused-requires returns)
