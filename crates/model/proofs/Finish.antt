@@ -8,18 +8,22 @@ use native.Mathlib.Omega.{arith}
 use lib.Dec.{eqb}
 use lib.ListN.{length}
 use Rattle.model.specs.declared.Change.{Change}
+use Rattle.model.specs.declared.Choice.{Choice}
 use Rattle.model.specs.declared.Deed.{Deed}
+use Rattle.model.specs.declared.Flags.{Flags}
 use Rattle.model.specs.Refusals.{refusal}
 use Rattle.model.specs.Session.{Stack, State, stack, state, taskAt, front, frontScreen, count}
 use Rattle.model.specs.Flags.{flagsOf}
 use Rattle.model.specs.Search.{placeOf}
 use Rattle.model.specs.Deeds.{deedOf}
-use Rattle.model.specs.Calls.{chosen, started, finished, startChecks}
+use Rattle.model.specs.Rules.{choose}
+use Rattle.model.specs.Calls.{chosen, startedBy, started, finishedBy, finished, startChecks}
 use Rattle.model.specs.Marks.{Mark, gone, stands, markAfter, closeAt}
 use Rattle.model.proofs.Sound.{Sound}
 use Rattle.model.proofs.Close.{close-sound}
 use Rattle.model.proofs.Deeds.{Suits, Ready}
 use Rattle.model.proofs.Marks.{AbleIn, Able, finished-carry}
+use Rattle.model.proofs.MarkStands.{Stands, mark-stands}
 use Rattle.model.proofs.Start.{Accepted, choose-ready, start-accepted, started-sound}
 
 module _ (tb : List ℕ) (b : ℕ) where
@@ -41,33 +45,48 @@ module _ (tb : List ℕ) (b : ℕ) where
   ready-able (Deed.MoveAnd c) p s h = (h .0 .1, first-able c p s (h .0 .0) (h .1))
 
 -- where the front screen from before stands after the start
-abbrev pub markOf : List ℕ → State ℕ → ℕ → ℕ → Mark
-markOf tb s b w = markAfter (deedOf (chosen tb s b w .rule)) (placeOf (chosen tb s b w .found)) (eqb b (frontScreen s))
+abbrev pub markOf : Choice → ℕ → State ℕ → Mark
+markOf c b s = markAfter (deedOf (c .rule)) (placeOf (c .found)) (eqb b (frontScreen s))
 
-module _ (tb : List ℕ) (b w : ℕ) where
-  pub finished-is : (s : State ℕ) → Sound tb s → 1 ≤ count s → finished tb s b w ≡ closeAt (markOf tb s b w) (started tb s b w)
-  unfolding finished started
-  finished-is s h l = go (s .tasks) (s .main) h l
-    where
-      go : (ts : List (Stack ℕ)) (m : ℕ) → Sound tb (state ts m) → 1 ≤ length ts
-          → finished tb (state ts m) b w ≡ closeAt (markOf tb (state ts m) b w) (started tb (state ts m) b w)
-      go [] m h l = absurd (not-suc-le-zero l)
-      go (t ∷ ts) m h l = top (t .screens) (h .each .0 .filled) h
-        where
-          top : (xs : List ℕ) → 1 ≤ length xs → Sound tb (state (stack (t .root) xs ∷ ts) m)
-              → finished tb (state (stack (t .root) xs ∷ ts) m) b w
-              ≡ closeAt (markOf tb (state (stack (t .root) xs ∷ ts) m) b w) (started tb (state (stack (t .root) xs ∷ ts) m) b w)
-          top [] l h = absurd (not-suc-le-zero l)
-          top (x ∷ xs) l h =
-              let s′ = state (stack (t .root) (x ∷ xs) ∷ ts) m in
-              let c = chosen tb s′ b w in
-              finished-carry b (t .root) x m xs ts (deedOf (c .rule)) (placeOf (c .found))
-              (ready-able tb b (deedOf (c .rule)) (placeOf (c .found)) s′ (choose-ready tb s′ b (flagsOf w) h (omega arith)))
+module _ (tb : List ℕ) (b : ℕ) (f : Flags) where
+  -- what is shown of a sound session that is not empty, and of the choice that a start makes in it
+  module _ (P : State ℕ → Type 0)
+      (shown : (r x m : ℕ) (xs : List ℕ) (ts : List (Stack ℕ))
+      → let s = state (stack r (x ∷ xs) ∷ ts) m in
+      let c = choose tb s b f in
+      Able (deedOf (c .rule)) (placeOf (c .found)) b s → P s) where
+    in-task : (r m : ℕ) (xs : List ℕ) (ts : List (Stack ℕ)) → 1 ≤ length xs → Sound tb (state (stack r xs ∷ ts) m) → P (state (stack r xs ∷ ts) m)
+    in-task r m [] ts l h = absurd (not-suc-le-zero l)
+    in-task r m (x ∷ xs) ts l h =
+        let s = state (stack r (x ∷ xs) ∷ ts) m in
+        let c = choose tb s b f in
+        shown r x m xs ts (ready-able tb b (deedOf (c .rule)) (placeOf (c .found)) s (choose-ready tb s b f h (omega arith)))
 
-  close-at-sound : (k : Mark) (s : State ℕ) → Sound tb s → Sound tb (closeAt k s)
-  close-at-sound gone s h = h
-  close-at-sound (stands k i) s h = close-sound tb k i s h
+    in-session : (ts : List (Stack ℕ)) (m : ℕ) → Sound tb (state ts m) → 1 ≤ length ts → P (state ts m)
+    in-session [] m h l = absurd (not-suc-le-zero l)
+    in-session (t ∷ ts) m h l = in-task (t .root) m (t .screens) ts (h .each .0 .filled) h
 
-  pub finished-sound : (s : State ℕ) → Sound tb s → refusal (startChecks tb s b w) ≡ 0 → Sound tb (finished tb s b w)
-  finished-sound s h e =
-      rw (finished-is s h (start-accepted tb s b w e .some)) (close-at-sound (markOf tb s b w) (started tb s b w) (started-sound tb s b w h e))
+  -- a finishing start closes the screen at the mark's position
+  pub finished-by : (s : State ℕ) → Sound tb s → 1 ≤ count s
+      → finishedBy (choose tb s b f) b s ≡ closeAt (markOf (choose tb s b f) b s) (startedBy (choose tb s b f) b s)
+  finished-by s h l =
+      in-session (λ s. finishedBy (choose tb s b f) b s ≡ closeAt (markOf (choose tb s b f) b s) (startedBy (choose tb s b f) b s))
+      (λ r x m xs ts a. finished-carry b r x m xs ts _ _ a) (s .tasks) (s .main) h l
+
+  -- at which a screen stands
+  pub marked-stands : (s : State ℕ) → Sound tb s → 1 ≤ count s → Stands (markOf (choose tb s b f) b s) (startedBy (choose tb s b f) b s)
+  marked-stands s h l =
+      in-session (λ s. Stands (markOf (choose tb s b f) b s) (startedBy (choose tb s b f) b s))
+      (λ r x m xs ts a.
+      let c = choose tb (state (stack r (x ∷ xs) ∷ ts) m) b f in
+      mark-stands b r x m xs ts (deedOf (c .rule)) (placeOf (c .found)) a) (s .tasks) (s .main) h l
+
+close-at-sound : (tb : List ℕ) (k : Mark) (s : State ℕ) → Sound tb s → Sound tb (closeAt k s)
+close-at-sound tb gone s h = h
+close-at-sound tb (stands k i) s h = close-sound tb k i s h
+
+pub finished-sound : (tb : List ℕ) (s : State ℕ) (b w : ℕ) → Sound tb s → refusal (startChecks tb s b w) ≡ 0 → Sound tb (finished tb s b w)
+unfolding finished started
+finished-sound tb s b w h e =
+    rw (finished-by tb b (flagsOf w) s h (start-accepted tb s b w e .some))
+    (close-at-sound tb (markOf (chosen tb s b w) b s) (startedBy (chosen tb s b w) b s) (started-sound tb s b w h e))

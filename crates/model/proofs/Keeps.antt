@@ -70,7 +70,7 @@ module _ (tb : List ℕ) (ok : tableRefusal tb ≡ 0) where
   unfolding done ownChecks
   done-sound s h launch e = launched-sound tb ok
   done-sound s h (start b w) e = started-sound tb s b w h e
-  done-sound s h (finishingStart b w) e = finished-sound tb b w s h e
+  done-sound s h (finishingStart b w) e = finished-sound tb s b w h e
   done-sound s h back e = backed-sound tb s h
   done-sound s h look e = h
   done-sound s h (restore bytes) e = sound-decides tb (sessionIn bytes) .holds (restored-sound tb bytes e)

@@ -10,6 +10,7 @@ pub mod RoomLaws
 pub mod Close
 pub mod Deeds
 pub mod Marks
+pub mod MarkStands
 pub mod Start
 pub mod Finish
 pub mod Keeps

@@ -1,0 +1,63 @@
+-- After a start the mark's position is one at which a screen stands: code may close it.
+use Prim.Native.Nat.{ℕ, zero, suc, pred, _≤_, _<_}
+use mathlib.Core.Path.{_≡_, refl, ap}
+use mathlib.Core.Bool.{Bool, true, false, false≢true}
+use mathlib.Core.List.{List, [], _∷_}
+use native.Mathlib.Nat.{not-suc-le-zero}
+use native.Mathlib.Omega.{arith}
+use lib.Dec.{eqb, leb}
+use lib.ListN.{length, getD}
+use borrow.Author.Tests.{lt-leb}
+use Rattle.model.specs.declared.Change.{Change}
+use Rattle.model.specs.declared.Deed.{Deed}
+use Rattle.model.specs.Lists.{if_then_else_, isPlace, further, find, putSecond, toFront}
+use Rattle.model.specs.Session.{Stack, State, stack, state, noStack, height, count}
+use Rattle.model.specs.Search.{holds}
+use Rattle.model.specs.Deeds.{mainMoved, move, changed, changeFront, putNew, carryOut}
+use Rattle.model.specs.Marks.{Mark, gone, stands, markIn, markAfter}
+use Rattle.model.proofs.ListLaws.{toFront-length}
+use Rattle.model.proofs.Marks.{AbleIn, Able}
+
+-- a screen stands at the position
+abbrev pub Stands : Mark → State ℕ → Type 0
+Stands gone s = Unit {0}
+Stands (stands k i) s = (k < count s) × (i < height (getD (s .tasks) k noStack))
+
+-- a screen that stands below another top has company
+below-top : (b x : ℕ) (xs : List ℕ) → eqb b x ≡ false → holds b (x ∷ xs) ≡ true → 1 ≤ length xs
+unfolding holds
+below-top b x [] e h = absurd (false≢true (rw e at h))
+below-top b x (y ∷ ys) e h = omega arith
+
+module _ (b r x m : ℕ) (xs : List ℕ) (ts : List (Stack ℕ)) where
+  abbrev before : State ℕ
+  before = state (stack r (x ∷ xs) ∷ ts) m
+
+  in-front : (m′ : ℕ) (c : Change) (same : Bool) → eqb b x ≡ same → AbleIn c b (x ∷ xs)
+      → Stands (markIn c same) (state (stack r (changed (eqb b) b c (x ∷ xs)) ∷ ts) m′)
+  unfolding changed
+  in-front m′ Change.Keep same e h = (omega arith, omega arith)
+  in-front m′ Change.Renew same e h = tt
+  in-front m′ Change.Clear true e h = rw e (omega arith, omega arith)
+  in-front m′ Change.Clear false e h = tt
+  in-front m′ Change.Lift true e h = rw e (omega arith, omega arith)
+  in-front m′ Change.Lift false e h =
+      let n = toFront-length (pred (find (eqb b) (x ∷ xs))) (x ∷ xs) in
+      let l = below-top b x xs e h in
+      (omega arith, omega (arith, n, l))
+  in-front m′ Change.Push same e h = (omega arith, omega arith)
+
+  behind : (m′ : ℕ) (c : Change) (us : List (Stack ℕ)) → 1 ≤ length us
+      → Stands (stands 1 0) (changeFront (changed (eqb b) b c) (state (putSecond (stack r (x ∷ xs)) us) m′))
+  unfolding changeFront
+  behind m′ c [] l = absurd (not-suc-le-zero l)
+  behind m′ c (u ∷ us) l = (omega arith, omega arith)
+
+  pub mark-stands : (d : Deed) (p : ℕ) → Able d p b before → Stands (markAfter d p (eqb b x)) (carryOut (eqb b) b b d p before)
+  unfolding carryOut putNew changeFront move
+  mark-stands Deed.New p h = (omega arith, omega arith)
+  mark-stands (Deed.InFront c) p h = in-front m c (eqb b x) refl h
+  mark-stands (Deed.MoveAnd c) zero h = in-front _ c (eqb b x) refl (h .1 (omega arith))
+  mark-stands (Deed.MoveAnd c) (suc zero) h = in-front _ c (eqb b x) refl (h .1 (omega arith))
+  mark-stands (Deed.MoveAnd c) (suc (suc k)) h =
+      rw (lt-leb (suc (suc k)) 1 (omega arith)) (behind (mainMoved (suc (suc k)) m) c (toFront k ts) (omega (arith, toFront-length k ts, h .0)))
