@@ -7,7 +7,7 @@ use native.Mathlib.Omega.{arith}
 use lib.ListN.{length, getD}
 use Rattle.model.specs.declared.Answer.{Answer}
 use Rattle.model.specs.Lists.{All}
-use Rattle.model.specs.Session.{Stack, State, state, height, front, mostTasks, mostHeight}
+use Rattle.model.specs.Session.{Stack, State, state, height, front, top, mostTasks, mostHeight}
 use Rattle.model.specs.Answers.{lookAt}
 use Rattle.model.proofs.Logic.{All-at}
 use Rattle.model.proofs.Sound.{TaskSound, Sound}
@@ -16,7 +16,7 @@ use Rattle.session.specs.declared.Session.{Session}
 use Rattle.session.specs.Stored.{view, viewTask, hold, holdTask, pad, noTask}
 use Rattle.session.proofs.Known.{Sized, Screens32}
 use Rattle.session.proofs.StoredLaws.{view-at, view-count}
-use Rattle.session.proofs.TaskLaws.{view-height, view-screen}
+use Rattle.session.proofs.TaskLaws.{view-height}
 use Rattle.answer.specs.Seen.{Seen}
 
 pub look-empty : (c : Session) → c .n ≡ 0 → lookAt (view c) ≡ record { refusal = 0; screen = 0; root = 0; height = 0; tasks = 0; main = c .main }
@@ -29,7 +29,7 @@ module _ (c : Session) (sizes : Sized c) (seen : Seen c) (some : 1 ≤ c .n) whe
 
   pub look-filled : lookAt (view c) ≡ record {
     refusal = 0;
-    screen = getD (t .screens) (t .height - 1) 0;
+    screen = top (viewTask t);
     root = t .root;
     height = t .height;
     tasks = c .n;
@@ -41,7 +41,7 @@ module _ (c : Session) (sizes : Sized c) (seen : Seen c) (some : 1 ≤ c .n) whe
       let low : t .height ≤ 32 = seen .low some in
       let filled : 1 ≤ t .height = seen .filled some in
       let e = view-at c 0 some in
-      let x = ap (λ (u : Stack ℕ). getD (u .screens) 0 0) e ∙ view-screen t (omega arith) (t .height - 1) 0 (omega arith) in
+      let x = ap top e in
       let r = ap (λ (u : Stack ℕ). u .root) e in
       let h = ap (λ (u : Stack ℕ). height u) e ∙ view-height t (omega arith) in
       let n = view-count c sizes (seen .few) in

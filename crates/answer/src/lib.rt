@@ -23,10 +23,9 @@ pub fn look_at(s: Session) -> Answer
         };
     }
     let t = s.tasks[0];
-    let h = (t.height - 1) as usize;
     Answer {
         refusal: 0,
-        screen: t.screens[h],
+        screen: t.top(),
         root: t.root,
         height: t.height,
         tasks: s.n,

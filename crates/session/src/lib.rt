@@ -2,7 +2,8 @@
 
 ghost use Prim.Native.Nat.{ℕ, _<_, _≤_};
 ghost use mathlib.Core.Path.{_≡_};
-ghost use Rattle.session.specs.Stored.{freshSession, pushed, popped};
+ghost use Rattle.model.specs.Session.{top as topOf};
+ghost use Rattle.session.specs.Stored.{freshSession, viewTask, pushed, popped};
 
 // A task: the screen that created it, and its screens, bottom first.
 #[repr(C)]
@@ -44,6 +45,15 @@ impl Session {
 }
 
 impl Task {
+    // The screen on top.
+    pub fn top(self) -> u8
+        requires { ⌜ (0 < self .height) × (self .height ≤ 32) ⌝ }
+        ensures { λ r. ⌜ r ≡ topOf (viewTask self) ⌝ }
+    {
+        let h = (self.height - 1) as usize;
+        self.screens[h]
+    }
+
     // The task with one screen more on top.
     pub fn push(self, b: u8) -> Task
         requires { ⌜ self .height < 32 ⌝ }
