@@ -1,5 +1,4 @@
 -- Each test is a part of what the definition comes to: a failed one refutes it, and the last one decides.
-use Prim.Native.Nat.{_-_}
 use mathlib.Core.Path.{_≡_, sym, _∙_}
 use mathlib.Core.Bool.{true, false}
 use native.Mathlib.Omega.{arith}
