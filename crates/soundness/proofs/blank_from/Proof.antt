@@ -3,9 +3,8 @@ use Prim.Native.Nat.{_-_, _≤_}
 use mathlib.Core.Path.{_≡_, refl, sym, _∙_}
 use native.Mathlib.Omega.{arith}
 use lib.ListN.{length, drop}
-use borrow.Author.Tests.{not-true, not-false}
 use Rattle.model.specs.Lists.{all}
-use Rattle.model.proofs.Walks.{all-fail, all-next, all-end}
+use Rattle.model.proofs.Walks.{said-yes, said-no, all-fail, all-next, all-end}
 use Rattle.session.specs.Stored.{noTask, isBlank}
 use Rattle.session.proofs.Known.{long}
 use borrow.Author.Needs.{needs}
@@ -35,7 +34,7 @@ returns c =
     let a = c .before .before .before .before .before .args in
     let l : length (a .t1 .tasks) ≡ 16 = search (needs, long) in
     let o = c .before .before .before .before .loop in
-    let e = sym (c .before .is-blank .ensures) ∙ not-true (c .before .is-blank .result) (c .if1 .taken) in
+    let e = said-no (c .before .is-blank .ensures) (c .if1 .taken) in
     sym (o .inv .1 ∙ all-fail isBlank (a .t1 .tasks) (o .i) noTask (omega arith) e)
 
 add-i : tie.Need-add-i Inv-loop μ-loop
@@ -49,7 +48,7 @@ loop-again c =
     let a = c .before .before .before .before .before .args in
     let l : length (a .t1 .tasks) ≡ 16 = search (needs, long) in
     let o = c .before .before .before .before .loop in
-    let e = sym (c .before .is-blank .ensures) ∙ not-false (c .before .is-blank .result) (c .if1 .left) in
+    let e = said-yes (c .before .is-blank .ensures) (c .if1 .left) in
     (omega arith, o .inv .1 ∙ all-next isBlank (a .t1 .tasks) (o .i) noTask (omega arith) e)
 
 returns-2 : tie.Need-returns-2 Inv-loop μ-loop

@@ -1,5 +1,4 @@
 -- The tests are the definition's, in its order.
-use Prim.Native.Nat.{_-_}
 use native.Mathlib.Omega.{arith}
 use borrow.Author.Tests.{eq-eqb, ne-eqb}
 use Rattle.session.specs.Stored.{isBlank}

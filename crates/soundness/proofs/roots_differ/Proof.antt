@@ -3,11 +3,10 @@ use Prim.Native.Nat.{_+_, _-_, _≤_}
 use mathlib.Core.Path.{_≡_, refl, sym, _∙_}
 use native.Mathlib.Omega.{arith}
 use lib.ListN.{length, getD, take, drop}
-use borrow.Author.Tests.{not-true, not-false}
 use Rattle.model.specs.Lists.{pairwise}
 use Rattle.model.specs.Table.{isSingleTask, isSingleInstance, rootsOnce}
 use Rattle.model.proofs.Tables.{good-shaped}
-use Rattle.model.proofs.Walks.{all-take-at, pairwise-take-step, pairwise-take-end}
+use Rattle.model.proofs.Walks.{said-yes, said-no, all-take-at, pairwise-take-step, pairwise-take-end}
 use Rattle.session.specs.Stored.{noTask}
 use Rattle.session.proofs.Known.{long}
 use Rattle.soundness.specs.Tests.{storedTaskSound, storedRootsDiffer}
@@ -58,7 +57,7 @@ returns c =
     let o = c .before .before .before .before .before .before .loop in
     let once = rw (c .before .before .before .mode .ensures) at (c .before .before .if1 .taken) in
     let e = differ-once tb (getD (a .t2 .tasks) (o .i) noTask) (drop (o .i + 1) (take (a .n) (a .t2 .tasks))) once
-    ∙ sym (c .before .no-root .ensures) ∙ not-true (c .before .no-root .result) (c .if2 .taken) in
+    ∙ said-no (c .before .no-root .ensures) (c .if2 .taken) in
     sym (o .inv .1 ∙ pairwise-take-step (storedRootsDiffer tb) (a .t2 .tasks) (a .n) (omega arith) (o .i) noTask (omega arith) ∙ rw e)
 
 loop-less : tie.Need-loop-less Inv-loop μ-loop
@@ -73,7 +72,7 @@ loop-again c =
     let o = c .before .before .before .before .before .before .loop in
     let once = rw (c .before .before .before .mode .ensures) at (c .before .before .if1 .taken) in
     let e = differ-once tb (getD (a .t2 .tasks) (o .i) noTask) (drop (o .i + 1) (take (a .n) (a .t2 .tasks))) once
-    ∙ sym (c .before .no-root .ensures) ∙ not-false (c .before .no-root .result) (c .if2 .left) in
+    ∙ said-yes (c .before .no-root .ensures) (c .if2 .left) in
     (omega arith, o .inv .1 ∙ pairwise-take-step (storedRootsDiffer tb) (a .t2 .tasks) (a .n) (omega arith) (o .i) noTask (omega arith) ∙ rw e)
 
 loop-less-2 : tie.Need-loop-less-2 Inv-loop μ-loop

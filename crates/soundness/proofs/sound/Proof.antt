@@ -1,9 +1,8 @@
 -- Each test is a part of what the definition comes to: a failed one refutes it, and the last one decides.
-use Prim.Native.Nat.{_-_}
 use mathlib.Core.Path.{sym, _∙_}
 use native.Mathlib.Omega.{arith}
-use borrow.Author.Tests.{not-true, not-false}
 use Rattle.model.proofs.Logic.{refuted, same-test, contradiction}
+use Rattle.model.proofs.Walks.{said-yes, said-no}
 use Rattle.soundness.proofs.Fits.{session-fits}
 use borrow.Author.Needs.{needs}
 use Rattle.soundness.proofs.sound.Statement.{statement}
@@ -21,7 +20,7 @@ tasks-sound-requires c κs = search needs
 returns-2 : tie.Need-returns-2
 returns-2 c =
     let a = c .before .before .before .before .before .args in
-    let e = sym (c .before .tasks-sound .ensures) ∙ not-true (c .before .tasks-sound .result) (c .if2 .taken) in
+    let e = said-no (c .before .tasks-sound .ensures) (c .if2 .taken) in
     sym (refuted _ (session-fits (a .table .now) (a .s)) (λ f. contradiction (f .each) e))
 
 blank-from-requires : tie.Need-blank-from-requires
@@ -30,17 +29,17 @@ blank-from-requires c κs = search needs
 returns-3 : tie.Need-returns-3
 returns-3 c =
     let a = c .before .before .before .before .before .before .before .args in
-    let e = sym (c .before .blank-from .ensures) ∙ not-true (c .before .blank-from .result) (c .if3 .taken) in
+    let e = said-no (c .before .blank-from .ensures) (c .if3 .taken) in
     sym (refuted _ (session-fits (a .table .now) (a .s)) (λ f. contradiction (f .rest) e))
 
 roots-differ-requires : tie.Need-roots-differ-requires
 roots-differ-requires c κs =
-    (c .before .before .before .before .before .before .before .pre, (omega arith, sym (c .before .before .before .tasks-sound .ensures) ∙ not-false (c .before .before .before .tasks-sound .result) (c .before .before .if2 .left)))
+    (c .before .before .before .before .before .before .before .pre, (omega arith, said-yes (c .before .before .before .tasks-sound .ensures) (c .before .before .if2 .left)))
 
 returns-4 : tie.Need-returns-4
 returns-4 c =
     let a = c .before .before .before .before .before .before .before .before .before .args in
-    let e = sym (c .before .roots-differ .ensures) ∙ not-true (c .before .roots-differ .result) (c .if4 .taken) in
+    let e = said-no (c .before .roots-differ .ensures) (c .if4 .taken) in
     sym (refuted _ (session-fits (a .table .now) (a .s)) (λ f. contradiction (f .pairs) e))
 
 main-sound-requires : tie.Need-main-sound-requires
@@ -54,9 +53,9 @@ returns-5 c =
       holds = λ e.
           record {
             few = omega arith;
-            each = sym (c .before .before .before .before .before .before .tasks-sound .ensures) ∙ not-false (c .before .before .before .before .before .before .tasks-sound .result) (c .before .before .before .before .before .if2 .left);
-            rest = sym (c .before .before .before .before .blank-from .ensures) ∙ not-false (c .before .before .before .before .blank-from .result) (c .before .before .before .if3 .left);
-            pairs = sym (c .before .before .roots-differ .ensures) ∙ not-false (c .before .before .roots-differ .result) (c .before .if4 .left);
+            each = said-yes (c .before .before .before .before .before .before .tasks-sound .ensures) (c .before .before .before .before .before .if2 .left);
+            rest = said-yes (c .before .before .before .before .blank-from .ensures) (c .before .before .before .if3 .left);
+            pairs = said-yes (c .before .before .roots-differ .ensures) (c .before .if4 .left);
             place = sym (c .main-sound .ensures) ∙ e;
           };
       shows = λ f. c .main-sound .ensures ∙ f .place;

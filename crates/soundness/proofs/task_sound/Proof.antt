@@ -1,13 +1,13 @@
 -- Each test is a part of what the definition comes to: a failed one refutes it, and the last one decides.
-use Prim.Native.Nat.{_-_}
 use mathlib.Core.Path.{_≡_, sym, _∙_}
 use mathlib.Core.Bool.{true, false}
 use native.Mathlib.Omega.{arith}
 use lib.ListN.{length}
-use borrow.Author.Tests.{eq-eqb, ne-eqb, eqb-true, not-true, not-false}
+use borrow.Author.Tests.{eq-eqb, ne-eqb, eqb-true}
 use Rattle.model.specs.Table.{isSingleInstance}
 use Rattle.model.proofs.Logic.{refuted, same-test, contradiction}
 use Rattle.model.proofs.Tables.{good-shaped}
+use Rattle.model.proofs.Walks.{said-yes, said-no}
 use Rattle.soundness.proofs.Fits.{task-fits}
 use borrow.Author.Needs.{needs}
 use Rattle.soundness.proofs.task_sound.Statement.{statement}
@@ -44,7 +44,7 @@ returns-4 : tie.Need-returns-4
 returns-4 c =
     let a = c .before .before .before .before .before .before .before .args in
     let l : length (a .t2 .screens) ≡ 32 = search needs in
-    let z = sym (c .before .zero-from .ensures) ∙ not-true (c .before .zero-from .result) (c .if4 .taken) in
+    let z = said-no (c .before .zero-from .ensures) (c .if4 .taken) in
     sym (refuted _ (task-fits (a .table .now) (a .t2) l) (λ f. contradiction (f .rest) z))
 
 mode-requires : tie.Need-mode-requires
@@ -66,7 +66,7 @@ returns-5 c =
             known = omega arith;
             filled = omega arith;
             low = omega arith;
-            rest = sym (c .before .before .before .before .zero-from .ensures) ∙ not-false (c .before .before .before .before .zero-from .result) (c .before .before .before .if4 .left);
+            rest = said-yes (c .before .before .before .before .zero-from .ensures) (c .before .before .before .if4 .left);
             lone = λ y. contradiction y x;
             plain = λ y. sym (c .plain .ensures) ∙ e;
           };
@@ -98,7 +98,7 @@ returns-7 c =
             known = omega arith;
             filled = omega arith;
             low = omega arith;
-            rest = sym (c .before .before .before .before .before .zero-from .ensures) ∙ not-false (c .before .before .before .before .before .zero-from .result) (c .before .before .before .before .if4 .left);
+            rest = said-yes (c .before .before .before .before .before .zero-from .ensures) (c .before .before .before .before .if4 .left);
             lone = λ y. (omega arith, eqb-true _ _ e);
             plain = λ y. contradiction x y;
           };

@@ -3,9 +3,8 @@ use Prim.Native.Nat.{_-_, _≤_}
 use mathlib.Core.Path.{_≡_, refl, sym, _∙_}
 use native.Mathlib.Omega.{arith}
 use lib.ListN.{length, take, drop}
-use borrow.Author.Tests.{not-true, not-false}
 use Rattle.model.specs.Lists.{all}
-use Rattle.model.proofs.Walks.{all-take-fail, all-take-next, all-take-end}
+use Rattle.model.proofs.Walks.{said-yes, said-no, all-take-fail, all-take-next, all-take-end}
 use Rattle.session.specs.Stored.{noTask}
 use Rattle.session.proofs.Known.{long}
 use Rattle.soundness.specs.Tests.{storedTaskSound}
@@ -37,7 +36,7 @@ returns c =
     let a = c .before .before .before .before .before .before .args in
     let l : length (a .t2 .tasks) ≡ 16 = search (needs, long) in
     let o = c .before .before .before .before .loop in
-    let e = sym (c .before .task-sound .ensures) ∙ not-true (c .before .task-sound .result) (c .if1 .taken) in
+    let e = said-no (c .before .task-sound .ensures) (c .if1 .taken) in
     sym (o .inv .1 ∙ all-take-fail (storedTaskSound (a .table .now)) (a .t2 .tasks) (a .n) (omega arith) (o .i) noTask (omega arith) e)
 
 add-i : tie.Need-add-i Inv-loop μ-loop
@@ -51,7 +50,7 @@ loop-again c =
     let a = c .before .before .before .before .before .before .args in
     let l : length (a .t2 .tasks) ≡ 16 = search (needs, long) in
     let o = c .before .before .before .before .loop in
-    let e = sym (c .before .task-sound .ensures) ∙ not-false (c .before .task-sound .result) (c .if1 .left) in
+    let e = said-yes (c .before .task-sound .ensures) (c .if1 .left) in
     (omega arith, o .inv .1 ∙ all-take-next (storedTaskSound (a .table .now)) (a .t2 .tasks) (a .n) (omega arith) (o .i) noTask (omega arith) e)
 
 returns-2 : tie.Need-returns-2 Inv-loop μ-loop

@@ -41,7 +41,8 @@ loop-less c = search needs
 loop-again : tie.Need-loop-again Inv-loop μ-loop
 loop-again c =
     let x = c .before .before .before .loop .x in
-    let fits : leb (modeOf (c .before .before .before .before .before .args .table .now) x) singleInstance ≡ true = le-leb (modeOf (c .before .before .before .before .before .args .table .now) x) 3 (omega arith) in
+    let m = modeOf (c .before .before .before .before .before .args .table .now) x in
+    let fits : leb m singleInstance ≡ true = le-leb m singleInstance (omega arith) in
     (omega arith, rw (add-one x, c .before .before .before .loop .inv .1, fits))
 
 returns-2 : tie.Need-returns-2 Inv-loop μ-loop

@@ -1,10 +1,10 @@
 -- Each return 1 contradicts the table's shape, each return 2 what fills it.
-use mathlib.Core.Path.{sym, _∙_}
+use mathlib.Core.Path.{sym}
 use native.Mathlib.Omega.{arith}
-use borrow.Author.Tests.{not-true, not-false}
-use borrow.Author.Needs.{needs}
 use Rattle.model.proofs.Logic.{contradiction}
 use Rattle.model.proofs.Tables.{refusal-0, refusal-1, refusal-2, modes-decides}
+use Rattle.model.proofs.Walks.{said-yes, said-no}
+use borrow.Author.Needs.{needs}
 use Rattle.table.proofs.refusal.Statement.{statement}
 use Rattle.table.proofs.refusal.Tie as tie
 
@@ -46,7 +46,7 @@ returns-6 : tie.Need-returns-6
 returns-6 c =
     let tb = c .before .before .before .before .before .before .before .before .before .before .args .table .now in
     let fit = modes-decides tb (c .before .before .before .before .before .before .before .size .result) in
-    let bad = sym (c .before .modes-fit .ensures) ∙ not-true (c .before .modes-fit .result) (c .if6 .taken) in
+    let bad = said-no (c .before .modes-fit .ensures) (c .if6 .taken) in
     sym
     (refusal-2 tb (record { long = omega arith; some = omega arith; most = omega arith })
     (λ f. contradiction (fit .shows (λ x l. f .modes x (omega arith))) bad))
@@ -54,7 +54,7 @@ returns-6 c =
 returns-7 : tie.Need-returns-7
 returns-7 c =
     let tb = c .before .before .before .before .before .before .before .before .before .before .args .table .now in
-    let fit = modes-decides tb (c .before .before .before .before .before .before .before .size .result) .holds (sym (c .before .modes-fit .ensures) ∙ not-false (c .before .modes-fit .result) (c .if6 .left)) in
+    let fit = modes-decides tb (c .before .before .before .before .before .before .before .size .result) .holds (said-yes (c .before .modes-fit .ensures) (c .if6 .left)) in
     sym
     (refusal-0 tb (record { long = omega arith; some = omega arith; most = omega arith })
     (record { main = omega arith; modes = λ x l. fit x (omega arith) }))
