@@ -15,9 +15,9 @@ use Rattle.model.proofs.Sound.{Sound}
 use Rattle.model.proofs.Keeps.{done-sound}
 use Rattle.session.specs.declared.Session.{Session}
 use Rattle.session.specs.Stored.{view, hold, soundStored, Ready}
+use Rattle.answer.specs.Seen.{Seen}
 use Rattle.session.proofs.Known.{Sized}
 use Rattle.session.proofs.StoredLaws.{held, hold-sound, sound-blank, sound-view}
-use Rattle.answer.specs.Seen.{Seen}
 use Rattle.answer.proofs.LookLaws.{sound-seen}
 use Rattle.navigator.specs.declared.Reply.{Reply}
 use Rattle.navigator.specs.StoredCalls.{reply, settleStored, refusalStored, sharedRefusal, callStored, KeepsSound}

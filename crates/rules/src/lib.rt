@@ -43,11 +43,17 @@ pub fn start(table: &[u8], s: Session, b: u8, f: Flags) -> Started
     let c = choice::choose(table, s, b, f);
     let full = choice::room_refusal(s, c);
     if full != 0 {
-        return Started { refusal: full, session: s };
+        return Started {
+            refusal: full,
+            session: s,
+        };
     }
     let deed = choice::deed_of(c.rule);
     let place = choice::place_of(c.found);
-    Started { refusal: 0, session: deeds::carry_out(s, b, deed, place) }
+    Started {
+        refusal: 0,
+        session: deeds::carry_out(s, b, deed, place),
+    }
 }
 
 // Finishing start: the start, and then the screen that was in front closes, if it still stands.
@@ -58,11 +64,17 @@ pub fn finish_start(table: &[u8], s: Session, b: u8, f: Flags) -> Started
     let c = choice::choose(table, s, b, f);
     let full = choice::room_refusal(s, c);
     if full != 0 {
-        return Started { refusal: full, session: s };
+        return Started {
+            refusal: full,
+            session: s,
+        };
     }
     let deed = choice::deed_of(c.rule);
     let place = choice::place_of(c.found);
     let same = b == choice::front_screen(s);
     let started = deeds::carry_out(s, b, deed, place);
-    Started { refusal: 0, session: deeds::close_mark(started, deed, place, same) }
+    Started {
+        refusal: 0,
+        session: deeds::close_mark(started, deed, place, same),
+    }
 }

@@ -3,11 +3,11 @@ use Prim.Native.Nat.{_-_, _≤_}
 use mathlib.Core.Path.{_≡_, refl, sym, _∙_}
 use native.Mathlib.Omega.{arith}
 use lib.ListN.{length, drop}
+use borrow.Author.Needs.{needs}
 use Rattle.model.specs.Lists.{all}
 use Rattle.model.proofs.Walks.{said-yes, said-no, all-fail, all-next, all-end}
 use Rattle.session.specs.Stored.{noTask, isBlank}
 use Rattle.session.proofs.Known.{long}
-use borrow.Author.Needs.{needs}
 use Rattle.soundness.proofs.blank_from.Statement.{statement}
 use Rattle.soundness.proofs.blank_from.Tie as tie
 

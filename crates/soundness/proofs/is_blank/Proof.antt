@@ -1,8 +1,8 @@
 -- The tests are the definition's, in its order.
 use native.Mathlib.Omega.{arith}
 use borrow.Author.Tests.{eq-eqb, ne-eqb}
-use Rattle.session.specs.Stored.{isBlank}
 use borrow.Author.Needs.{needs}
+use Rattle.session.specs.Stored.{isBlank}
 use Rattle.soundness.proofs.is_blank.Statement.{statement}
 use Rattle.soundness.proofs.is_blank.Tie as tie
 

@@ -5,6 +5,7 @@ use native.Mathlib.Numerals.{sub-one}
 use native.Mathlib.Omega.{arith}
 use lib.ListN.{getD}
 use borrow.Author.Tests.{eq-eqb, eqb-true}
+use borrow.Author.Needs.{needs}
 use Rattle.model.specs.Session.{taskAt}
 use Rattle.model.proofs.Logic.{refuted, same-test}
 use Rattle.model.proofs.Sound.{main-decides}
@@ -12,7 +13,6 @@ use Rattle.model.proofs.Tables.{good-shaped}
 use Rattle.session.specs.Stored.{noTask, view}
 use Rattle.session.proofs.Known.{sized}
 use Rattle.session.proofs.StoredLaws.{view-count, view-root}
-use borrow.Author.Needs.{needs}
 use Rattle.soundness.proofs.main_sound.Statement.{statement}
 use Rattle.soundness.proofs.main_sound.Tie as tie
 

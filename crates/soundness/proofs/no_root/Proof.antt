@@ -5,12 +5,12 @@ use mathlib.Core.Bool.{not}
 use native.Mathlib.Omega.{arith}
 use lib.ListN.{length, take, drop}
 use borrow.Author.Tests.{eq-eqb, ne-eqb}
+use borrow.Author.Needs.{needs}
 use Rattle.model.specs.Lists.{all}
 use Rattle.model.proofs.Walks.{all-take-fail, all-take-next, all-take-end}
 use Rattle.session.specs.Stored.{noTask}
 use Rattle.session.proofs.Known.{long}
 use Rattle.soundness.specs.Tests.{otherRoot}
-use borrow.Author.Needs.{needs}
 use Rattle.soundness.proofs.no_root.Statement.{statement}
 use Rattle.soundness.proofs.no_root.Tie as tie
 

@@ -6,12 +6,12 @@ use native.Mathlib.Omega.{arith}
 use lib.Dec.{ltb, eqb}
 use lib.ListN.{length, getD, take, drop}
 use borrow.Author.Tests.{eq-eqb, ne-eqb, lt-ltb, le-ltb}
+use borrow.Author.Needs.{needs}
 use Rattle.model.specs.Lists.{all}
 use Rattle.model.specs.Table.{sizeOf, modeOf, isSingleInstance}
 use Rattle.model.proofs.Tables.{good-shaped}
 use Rattle.model.proofs.Walks.{all-take-fail, all-take-next, all-take-end}
 use Rattle.soundness.specs.Tests.{plainScreen}
-use borrow.Author.Needs.{needs}
 use Rattle.soundness.proofs.plain.Statement.{statement}
 use Rattle.soundness.proofs.plain.Tie as tie
 

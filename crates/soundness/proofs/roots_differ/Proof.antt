@@ -3,6 +3,7 @@ use Prim.Native.Nat.{_+_, _-_, _≤_}
 use mathlib.Core.Path.{_≡_, refl, sym, _∙_}
 use native.Mathlib.Omega.{arith}
 use lib.ListN.{length, getD, take, drop}
+use borrow.Author.Needs.{needs}
 use Rattle.model.specs.Lists.{pairwise}
 use Rattle.model.specs.Table.{isSingleTask, isSingleInstance, rootsOnce}
 use Rattle.model.proofs.Tables.{good-shaped}
@@ -11,7 +12,6 @@ use Rattle.session.specs.Stored.{noTask}
 use Rattle.session.proofs.Known.{long}
 use Rattle.soundness.specs.Tests.{storedTaskSound, storedRootsDiffer}
 use Rattle.soundness.proofs.Fits.{root-known, differ-once, differ-often}
-use borrow.Author.Needs.{needs}
 use Rattle.soundness.proofs.roots_differ.Statement.{statement}
 use Rattle.soundness.proofs.roots_differ.Tie as tie
 

@@ -1,10 +1,10 @@
 -- Each test is a part of what the definition comes to: a failed one refutes it, and the last one decides.
 use mathlib.Core.Path.{sym, _∙_}
 use native.Mathlib.Omega.{arith}
+use borrow.Author.Needs.{needs}
 use Rattle.model.proofs.Logic.{refuted, same-test, contradiction}
 use Rattle.model.proofs.Walks.{said-yes, said-no}
 use Rattle.soundness.proofs.Fits.{session-fits}
-use borrow.Author.Needs.{needs}
 use Rattle.soundness.proofs.sound.Statement.{statement}
 use Rattle.soundness.proofs.sound.Tie as tie
 

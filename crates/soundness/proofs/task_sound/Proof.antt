@@ -4,12 +4,12 @@ use mathlib.Core.Bool.{true, false}
 use native.Mathlib.Omega.{arith}
 use lib.ListN.{length}
 use borrow.Author.Tests.{eq-eqb, ne-eqb, eqb-true}
+use borrow.Author.Needs.{needs}
 use Rattle.model.specs.Table.{isSingleInstance}
 use Rattle.model.proofs.Logic.{refuted, same-test, contradiction}
 use Rattle.model.proofs.Tables.{good-shaped}
 use Rattle.model.proofs.Walks.{said-yes, said-no}
 use Rattle.soundness.proofs.Fits.{task-fits}
-use borrow.Author.Needs.{needs}
 use Rattle.soundness.proofs.task_sound.Statement.{statement}
 use Rattle.soundness.proofs.task_sound.Tie as tie
 

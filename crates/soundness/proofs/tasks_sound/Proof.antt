@@ -3,12 +3,12 @@ use Prim.Native.Nat.{_-_, _≤_}
 use mathlib.Core.Path.{_≡_, refl, sym, _∙_}
 use native.Mathlib.Omega.{arith}
 use lib.ListN.{length, take, drop}
+use borrow.Author.Needs.{needs}
 use Rattle.model.specs.Lists.{all}
 use Rattle.model.proofs.Walks.{said-yes, said-no, all-take-fail, all-take-next, all-take-end}
 use Rattle.session.specs.Stored.{noTask}
 use Rattle.session.proofs.Known.{long}
 use Rattle.soundness.specs.Tests.{storedTaskSound}
-use borrow.Author.Needs.{needs}
 use Rattle.soundness.proofs.tasks_sound.Statement.{statement}
 use Rattle.soundness.proofs.tasks_sound.Tie as tie
 

@@ -7,9 +7,9 @@ use lib.Dec.{eqb}
 use lib.ListN.{length, getD, drop}
 use mir.Syntax.{w8}
 use mir.Val.{Fits}
+use borrow.Author.Needs.{needs}
 use Rattle.model.specs.Lists.{all}
 use Rattle.model.proofs.Walks.{all-step, all-end, sum-zero}
-use borrow.Author.Needs.{needs}
 use Rattle.soundness.proofs.zero_from.Statement.{statement}
 use Rattle.soundness.proofs.zero_from.Tie as tie
 

@@ -1,10 +1,10 @@
 -- Each return 1 contradicts the table's shape, each return 2 what fills it.
 use mathlib.Core.Path.{sym}
 use native.Mathlib.Omega.{arith}
+use borrow.Author.Needs.{needs}
 use Rattle.model.proofs.Logic.{contradiction}
 use Rattle.model.proofs.Tables.{refusal-0, refusal-1, refusal-2, modes-decides}
 use Rattle.model.proofs.Walks.{said-yes, said-no}
-use borrow.Author.Needs.{needs}
 use Rattle.table.proofs.refusal.Statement.{statement}
 use Rattle.table.proofs.refusal.Tie as tie
 

@@ -1,0 +1,115 @@
+//! How often each rule and each refusal came up.
+
+use std::fmt;
+
+use second::play::Player;
+use second::{Answer, Rule};
+
+/// The refusals that a player can give.
+const REFUSALS: [u8; 9] = [1, 2, 3, 4, 9, 21, 22, 23, 24];
+
+/// The rules under which a start can be refused for want of space.
+const FULL: [(u8, u8); 8] = [
+    (23, 2),
+    (23, 6),
+    (23, 11),
+    (23, 18),
+    (24, 5),
+    (24, 10),
+    (24, 14),
+    (24, 17),
+];
+
+#[derive(Default)]
+pub struct Counts {
+    /// Accepted starts by rule, R1 at index 1.
+    starts: [u64; 19],
+    /// Accepted finishing starts by rule.
+    finishing: [u64; 19],
+    /// Lines by refusal.
+    refusals: [u64; 25],
+    /// Refusals 23 and 24 by the rule that needed the space.
+    full: [u64; 19],
+}
+
+impl Counts {
+    /// Counts one record, after it was played.
+    pub fn add(&mut self, player: &Player, record: &[u8], answer: Answer, rule: Option<Rule>) {
+        self.refusals[usize::from(answer.refusal)] += 1;
+        if let Some(rule) = rule {
+            let by_kind = if record[0] == 2 {
+                &mut self.starts
+            } else {
+                &mut self.finishing
+            };
+            by_kind[rule as usize] += 1;
+        }
+        if answer.refusal == 23 || answer.refusal == 24 {
+            // The session is as it was, so the rule can still be asked for.
+            if let Ok(table) = &player.table {
+                let flags = u32::from_be_bytes([record[2], record[3], record[4], record[5]]);
+                let (rule, _) = player.session.decide(table, record[1], flags);
+                self.full[rule as usize] += 1;
+            }
+        }
+    }
+
+    /// Counts the line of an input whose table could not be read.
+    pub fn add_bad_table(&mut self) {
+        self.refusals[1] += 1;
+    }
+
+    /// The names of those that never came up.
+    pub fn missing(&self) -> Vec<String> {
+        let mut names = Vec::new();
+        for rule in 1..=18 {
+            if self.starts[rule] == 0 {
+                names.push(format!("R{rule} by a start"));
+            }
+            if self.finishing[rule] == 0 {
+                names.push(format!("R{rule} by a finishing start"));
+            }
+        }
+        for refusal in REFUSALS {
+            if self.refusals[usize::from(refusal)] == 0 {
+                names.push(format!("refusal {refusal}"));
+            }
+        }
+        for (refusal, rule) in FULL {
+            if self.full[usize::from(rule)] == 0 {
+                names.push(format!("refusal {refusal} under R{rule}"));
+            }
+        }
+        names
+    }
+}
+
+impl fmt::Display for Counts {
+    fn fmt(&self, f: &mut fmt::Formatter) -> fmt::Result {
+        writeln!(f, "rule         starts    finishing")?;
+        for rule in 1..=18 {
+            let name = format!("R{rule}");
+            writeln!(
+                f,
+                "{name:<4} {:>14} {:>12}",
+                self.starts[rule], self.finishing[rule]
+            )?;
+        }
+        writeln!(f, "refusal       lines")?;
+        for refusal in REFUSALS {
+            writeln!(
+                f,
+                "{refusal:<4} {:>14}",
+                self.refusals[usize::from(refusal)]
+            )?;
+        }
+        for (refusal, rule) in FULL {
+            writeln!(
+                f,
+                "{refusal} under R{rule:<2} {:>6}",
+                self.full[usize::from(rule)]
+            )?;
+        }
+        Ok(())
+    }
+}

@@ -1,0 +1,71 @@
+//! Calls at the limits: from sessions with a task of 31 or 32 screens, or with
+//! 15 or 16 tasks, every screen with all 64 flag words by a start and by a
+//! finishing start, and then Backs until the session is empty.
+
+use second::play::{Player, RECORD};
+use second::table::{MULTIPLE_TASK, NEW_TASK};
+
+use crate::check::{Checker, Difference};
+use crate::make::{record, T};
+use crate::sweep::Batch;
+
+/// The paths to the sessions, under a table like T: screens 0, 1 and 5 are
+/// standard, 2 single-top, 3 single-task, 4 single-instance.
+fn paths() -> Vec<Vec<u8>> {
+    let launch = record(1, 0, 0);
+    let start = |b| record(2, b, 0);
+    let apart = |b| record(2, b, NEW_TASK);
+    let split = |b| record(2, b, NEW_TASK | MULTIPLE_TASK);
+    let mut paths = Vec::new();
+    let mut add = |steps: &[&[u8]]| paths.push(steps.concat());
+    for more in [30, 31] {
+        let push = |b| start(b).repeat(more);
+        // The main task in front, and then behind another.
+        add(&[&launch, &push(0)]);
+        add(&[&launch, &push(1)]);
+        add(&[&launch, &push(1), &apart(5)]);
+        add(&[&launch, &push(1), &start(3)]);
+        add(&[&launch, &push(0), &start(4)]);
+        // Another task in front, and then behind the main one.
+        add(&[&launch, &split(5), &push(0)]);
+        add(&[&launch, &split(5), &push(0), &apart(0)]);
+        add(&[&launch, &split(0), &push(1)]);
+        add(&[&launch, &split(1), &push(0), &start(4)]);
+        // A single-task root, standing in its task and gone from it.
+        add(&[&launch, &start(3), &push(1)]);
+        add(&[&launch, &start(3), &record(3, 1, 0), &push(1)]);
+        add(&[&launch, &start(3), &record(3, 1, 0), &push(1), &start(4)]);
+    }
+    for more in [14, 15] {
+        add(&[&launch, &split(0).repeat(more)]);
+        add(&[&launch, &split(1).repeat(more)]);
+        add(&[&launch, &split(5).repeat(more)]);
+        add(&[&launch, &split(1).repeat(more - 1), &start(4)]);
+        add(&[&launch, &split(1).repeat(more - 2), &start(4), &start(3)]);
+        add(&[&launch, &split(1).repeat(more - 2), &start(3), &start(4)]);
+    }
+    paths
+}
+
+pub fn limits(checker: &mut Checker) -> Result<u64, Box<Difference>> {
+    let mut alike = T;
+    for screen in 0..6 {
+        alike[3 + 2 * screen] = 1;
+    }
+    let mut calls = 0;
+    for table in [T, alike] {
+        let mut batch = Batch::new("limits", table.to_vec());
+        for path in paths() {
+            let mut player = Player::open(&mut &table[..])
+                .expect("bytes in memory can be read")
+                .expect("the table is whole");
+            for step in path.chunks(RECORD) {
+                player.record(step);
+            }
+            batch.all_calls(checker, &player.session, &path)?;
+        }
+        batch.finish(checker)?;
+        calls += batch.calls;
+    }
+    Ok(calls)
+}

@@ -1,0 +1,114 @@
+//! Compares an outside player program with this package's navigator.
+//!
+//!     compare [--player PATH] [--seed N] [--records N] [--sweep] [--steps N]
+//!
+//! Inputs are made from a seed, played through the outside program and through
+//! the library here, and compared line by line. At the first difference the
+//! smallest example that can be found is printed and the exit code is 1. With
+//! `--sweep`, every call from every small session follows (see `sweep`, where
+//! `--steps` bounds the paths under tables of three screens). At the end it
+//! prints how often each rule and each refusal came up, and exits with 1 if one
+//! never did.
+
+mod check;
+mod counts;
+mod limits;
+mod make;
+mod outside;
+mod random;
+mod shrink;
+mod sweep;
+
+use std::path::PathBuf;
+use std::process::ExitCode;
+use std::time::Instant;
+
+use check::{Checker, Difference};
+use random::Random;
+
+struct Options {
+    player: PathBuf,
+    seed: u64,
+    records: u64,
+    sweep: bool,
+    steps: usize,
+}
+
+fn options() -> Option<Options> {
+    let mut options = Options {
+        player: PathBuf::from("target/bin/player"),
+        seed: 1,
+        records: 3_000_000,
+        sweep: false,
+        steps: 2,
+    };
+    let mut arguments = std::env::args().skip(1);
+    while let Some(argument) = arguments.next() {
+        match argument.as_str() {
+            "--player" => options.player = PathBuf::from(arguments.next()?),
+            "--seed" => options.seed = arguments.next()?.parse().ok()?,
+            "--records" => options.records = arguments.next()?.parse().ok()?,
+            "--sweep" => options.sweep = true,
+            "--steps" => options.steps = arguments.next()?.parse().ok()?,
+            _ => return None,
+        }
+    }
+    Some(options)
+}
+
+fn run(options: &Options, checker: &mut Checker) -> Result<(), Box<Difference>> {
+    let begun = Instant::now();
+    let mut random = Random::new(options.seed);
+    for input in make::fixed() {
+        checker.check(&input)?;
+    }
+    checker.tell("fixed inputs", begun);
+
+    let begun = Instant::now();
+    let calls = limits::limits(checker)?;
+    checker.tell(&format!("limits ({calls} calls)"), begun);
+
+    let begun = Instant::now();
+    let target = checker.records + options.records;
+    while checker.records < target {
+        let input = make::random(&mut random, target - checker.records);
+        checker.check(&input)?;
+    }
+    checker.tell("random inputs", begun);
+
+    if options.sweep {
+        let begun = Instant::now();
+        let swept = sweep::sweep(checker, options.steps)?;
+        checker.tell(&format!("sweep ({swept})"), begun);
+    }
+    Ok(())
+}
+
+fn main() -> ExitCode {
+    let Some(options) = options() else {
+        eprintln!("usage: compare [--player PATH] [--seed N] [--records N] [--sweep] [--steps N]");
+        return ExitCode::from(2);
+    };
+    if !options.player.is_file() {
+        eprintln!(
+            "compare: there is no player at {}",
+            options.player.display()
+        );
+        return ExitCode::from(2);
+    }
+    let mut checker = Checker::new(options.player.clone());
+    if let Err(difference) = run(&options, &mut checker) {
+        let smallest = shrink::shrink(&options.player, *difference);
+        print!("{smallest}");
+        println!("compare: seed {}, a difference", options.seed);
+        return ExitCode::FAILURE;
+    }
+    print!("{}", checker.counts);
+    let missing = checker.counts.missing();
+    if !missing.is_empty() {
+        println!("compare: never came up: {}", missing.join(", "));
+        return ExitCode::FAILURE;
+    }
+    println!("compare: {} records, no difference", checker.records);
+    ExitCode::SUCCESS
+}

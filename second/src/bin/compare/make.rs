@@ -1,0 +1,310 @@
+//! Makes inputs: a fixed set with every kind of bad table, cut and bad record,
+//! and random ones of several styles.
+
+use second::play::{Player, RECORD};
+use second::table::{ALL_FLAGS, MULTIPLE_TASK, NEW_TASK};
+
+use crate::check::Input;
+use crate::random::Random;
+
+/// The table of the paper's examples.
+pub const T: [u8; 14] = [6, 0, 0, 1, 0, 1, 1, 1, 2, 2, 3, 1, 0, 2];
+
+/// The six flags, one by one.
+const FLAGS: [u32; 6] = [
+    0x1000_0000,
+    0x2000_0000,
+    0x0800_0000,
+    0x0400_0000,
+    0x0002_0000,
+    0x0000_8000,
+];
+
+pub fn record(kind: u8, screen: u8, flags: u32) -> [u8; RECORD] {
+    let [a, b, c, d] = flags.to_be_bytes();
+    [kind, screen, a, b, c, d]
+}
+
+/// The set of flags whose number, below 64, has these bits.
+pub fn flag_word(number: u32) -> u32 {
+    (0..6)
+        .filter(|bit| number >> bit & 1 == 1)
+        .map(|bit| FLAGS[bit as usize])
+        .sum()
+}
+
+/// The inputs that are the same for every seed.
+pub fn fixed() -> Vec<Input> {
+    let launch = record(1, 0, 0).to_vec();
+    let some = [
+        record(1, 0, 0),
+        record(2, 1, 0),
+        record(3, 5, 0),
+        record(4, 0, 0),
+    ]
+    .concat();
+    let mut inputs = Vec::new();
+    let mut add = |what: &str, table: &[u8], records: &[u8]| {
+        let (table, records) = (table.to_vec(), records.to_vec());
+        inputs.push(Input {
+            what: what.to_string(),
+            table,
+            records,
+        });
+    };
+
+    add("empty input", &[], &[]);
+    add("a table alone", &T, &[]);
+    for n in [0, 65, 66, 128, 255] {
+        add("N bad, nothing else", &[n], &[]);
+        let mut table = vec![0; 2 + 2 * usize::from(n)];
+        table[0] = n;
+        add("N bad", &table, &some);
+    }
+    let mut largest = vec![0; 130];
+    largest[0] = 64;
+    for length in 1..T.len() {
+        add("cut table", &T[..length], &[]);
+    }
+    for length in [1, 2, 64, 128, 129] {
+        add("cut largest table", &largest[..length], &[]);
+    }
+    largest[1] = 63;
+    add("largest table", &largest, &some);
+
+    // Tables whose content is bad.
+    let mut bad = Vec::new();
+    for main in [6, 7, 64, 255] {
+        let mut table = T;
+        table[1] = main;
+        bad.push(table);
+    }
+    for screen in 0..6 {
+        for mode in [4, 255] {
+            let mut table = T;
+            table[2 + 2 * screen] = mode;
+            bad.push(table);
+        }
+    }
+    let kinds: Vec<u8> = (0..=255)
+        .flat_map(|kind| record(kind, kind, u32::MAX))
+        .collect();
+    for table in &bad {
+        add("bad content of a table", table, &kinds);
+    }
+
+    // Cut last records of each length, under a good and a bad table.
+    for kind in [0, 1, 2, 3, 4, 5, 6, 50, 255] {
+        for length in 1..RECORD {
+            let cut = &record(kind, 1, 0)[..length];
+            add("cut record", &T, &[&some, cut].concat());
+            add("cut record alone", &T, cut);
+            add(
+                "cut record under a bad table",
+                &bad[0],
+                &[&some, cut].concat(),
+            );
+        }
+    }
+
+    // Every kind, every screen and every flag bit, on an empty session and not.
+    let mut all = Vec::new();
+    for begin in [&launch[..0], &launch] {
+        all.extend(begin);
+        all.extend(&kinds);
+        for kind in [2, 3] {
+            for screen in 0..=255 {
+                all.extend(record(kind, screen, 0));
+                all.extend(record(kind, screen, 1));
+                all.extend(record(1, 0, 0));
+            }
+            for bit in 0..32 {
+                all.extend(record(kind, 1, 1 << bit));
+                all.extend(record(kind, 1, ALL_FLAGS | 1 << bit));
+                all.extend(record(1, 0, 0));
+            }
+        }
+        for kind in [1, 4, 5] {
+            all.extend(record(kind, 255, u32::MAX));
+        }
+        all.extend(record(4, 0, 0).repeat(700));
+    }
+    add("every kind, screen and flag bit", &T, &all);
+    inputs
+}
+
+/// A random table of these many screens.
+fn table(random: &mut Random, n: u8, affinities: u16, modes: &[u64; 4]) -> Vec<u8> {
+    let mut table = vec![n, random.byte(u16::from(n))];
+    for _ in 0..n {
+        table.extend([random.weighted(modes) as u8, random.byte(affinities)]);
+    }
+    table
+}
+
+/// How a stretch of records is made.
+struct Mood {
+    /// Weights of launch, start, finishing start, Back and look.
+    kinds: [u64; 5],
+    /// Weights of no flag, one flag, any set, a set with NTK and without MTK,
+    /// and NTK with MTK.
+    flags: [u64; 5],
+    /// So many in a hundred starts take one of a few screens.
+    favourite: u64,
+    favourites: Vec<u8>,
+    /// So many in a hundred records are bad.
+    bad: u64,
+    length: u64,
+}
+
+const MIXED: [u64; 5] = [2, 50, 20, 25, 3];
+const GROWING: [u64; 5] = [1, 93, 2, 3, 1];
+const SHRINKING: [u64; 5] = [1, 20, 10, 65, 4];
+const FINISHING: [u64; 5] = [1, 15, 78, 4, 2];
+
+fn mood(random: &mut Random, style: usize, n: u8) -> Mood {
+    let kinds = match style {
+        3 => random.one_of(&[FINISHING, FINISHING, GROWING, MIXED]),
+        _ => random.one_of(&[MIXED, MIXED, GROWING, SHRINKING, FINISHING]),
+    };
+    let flags = match style {
+        0 => [10, 10, 80, 0, 0],
+        _ => random.one_of(&[
+            [20, 20, 20, 20, 20],
+            [0, 0, 100, 0, 0],
+            [5, 60, 30, 5, 0],
+            [10, 5, 5, 80, 0],
+            [30, 5, 5, 10, 50],
+        ]),
+    };
+    let favourites = (0..random.between(1, 3))
+        .map(|_| random.byte(u16::from(n)))
+        .collect();
+    let mood = Mood {
+        kinds,
+        flags,
+        favourite: random.one_of(&[0, 50, 90, 99]),
+        favourites,
+        bad: if style == 4 {
+            25
+        } else {
+            random.one_of(&[0, 0, 1])
+        },
+        length: random.between(10, 150),
+    };
+    if style == 2 {
+        deep_mood(random, mood)
+    } else {
+        mood
+    }
+}
+
+/// For deep stacks: tasks are filled to 32 screens and the session to 16 tasks,
+/// and what is full is then tried by a few starts of any screen.
+fn deep_mood(random: &mut Random, mut mood: Mood) -> Mood {
+    match random.below(6) {
+        0 | 1 => {
+            // Fill a task with one screen.
+            mood.kinds = GROWING;
+            mood.flags = [98, 0, 1, 1, 0];
+            mood.favourites.truncate(1);
+            mood.favourite = 99;
+            mood.length = random.between(30, 60);
+        }
+        2 => {
+            // Fill the session with tasks.
+            mood.kinds = GROWING;
+            mood.flags = [20, 1, 1, 1, 77];
+            mood.length = random.between(15, 50);
+        }
+        3 | 4 => {
+            // Try what is there.
+            mood.kinds = [1, 60, 30, 8, 1];
+            mood.flags = [25, 10, 15, 50, 0];
+            mood.favourite = 0;
+            mood.length = random.between(2, 12);
+        }
+        _ => mood.length = random.between(5, 40),
+    }
+    mood
+}
+
+/// A record for a session that is empty or not.
+fn any_record(random: &mut Random, mood: &Mood, n: u8, empty: bool) -> [u8; RECORD] {
+    let kind = if empty && random.percent(80) {
+        1
+    } else {
+        1 + random.weighted(&mood.kinds) as u8
+    };
+    let screen = if random.percent(mood.favourite) {
+        random.one_of(&mood.favourites)
+    } else {
+        random.byte(u16::from(n))
+    };
+    let any = flag_word(random.below(64) as u32);
+    let flags = match random.weighted(&mood.flags) {
+        0 => 0,
+        1 => random.one_of(&FLAGS),
+        2 => any,
+        3 => any & !MULTIPLE_TASK | NEW_TASK,
+        _ => NEW_TASK | MULTIPLE_TASK,
+    };
+    let mut made = record(kind, screen, flags);
+    if random.percent(mood.bad) {
+        match random.below(6) {
+            0 => made[0] = random.byte(256),
+            1 => made[0] = random.one_of(&[0, 6]),
+            2 => made[1] = random.byte(256),
+            3 => made[1] = n,
+            4 => made[2 + random.below(4) as usize] ^= 1 << random.below(8),
+            _ => made[2..].copy_from_slice(&(random.next() as u32).to_be_bytes()),
+        }
+    }
+    made
+}
+
+const STYLES: [&str; 5] = [
+    "any flags",
+    "few screens",
+    "deep stacks",
+    "finishing starts",
+    "bad records",
+];
+
+/// A random input of at most these many records.
+pub fn random(random: &mut Random, limit: u64) -> Input {
+    let style = random.below(STYLES.len() as u64) as usize;
+    let n = match style {
+        0 => random.between(1, 64) as u8,
+        4 => random.one_of(&[1, 2, 5, 20, 63, 64]),
+        _ => random.between(2, 6) as u8,
+    };
+    let affinities = random.one_of(&[1, 2, 2, 3, 4, 8, 256]);
+    let modes = match style {
+        2 => random.one_of(&[[6, 2, 2, 0], [5, 3, 1, 1], [3, 1, 3, 1]]),
+        _ => random.one_of(&[[1, 1, 1, 1], [4, 2, 2, 1], [6, 1, 0, 1], [2, 0, 3, 2]]),
+    };
+    let table = table(random, n, affinities, &modes);
+    let mut player = Player::open(&mut &table[..])
+        .expect("bytes in memory can be read")
+        .expect("the table is whole");
+    let length = random.between(500, 20_000).min(limit);
+    let mut records = Vec::with_capacity(length as usize * RECORD);
+    while (records.len() / RECORD) < length as usize {
+        let mood = mood(random, style, n);
+        for _ in 0..mood.length {
+            let made = any_record(random, &mood, n, player.session.is_empty());
+            player.record(&made);
+            records.extend(made);
+        }
+    }
+    records.truncate(length as usize * RECORD);
+    if random.percent(20) && records.len() > RECORD {
+        records.truncate(records.len() - random.between(1, 5) as usize);
+    }
+    Input {
+        what: format!("random, {}", STYLES[style]),
+        table,
+        records,
+    }
+}

@@ -1,0 +1,187 @@
+//! The sweep: under every table of two screens, every session of up to 3 tasks
+//! of height up to 2 that starts and Backs reach from launch; from each of them
+//! every screen with all 64 flag words by a start and by a finishing start. The
+//! same under every table of three screens, for the sessions that are reached
+//! in a few steps; all of them would be about three million.
+//!
+//! A player knows only a fresh session, so each session is reached by its path
+//! of records; after the call come Backs until the session is empty, so that
+//! their answers show the whole of it.
+
+use std::collections::HashSet;
+use std::fmt;
+
+use second::play::{Player, RECORD};
+use second::{Session, Table};
+
+use crate::check::{Checker, Difference, Input};
+use crate::make::{flag_word, record};
+
+/// The largest sessions from which calls are made.
+const TASKS: usize = 3;
+const HEIGHT: usize = 2;
+/// About how many bytes of records are played in one run.
+const BATCH: usize = 6_000_000;
+
+/// What a sweep came to.
+#[derive(Default)]
+pub struct Swept {
+    tables: u64,
+    sessions: u64,
+    calls: u64,
+}
+
+impl fmt::Display for Swept {
+    fn fmt(&self, f: &mut fmt::Formatter) -> fmt::Result {
+        write!(
+            f,
+            "{} tables, {} sessions, {} calls",
+            self.tables, self.sessions, self.calls
+        )
+    }
+}
+
+/// The sessions that are small enough, each with a shortest path to it, of at
+/// most these many steps after launch.
+fn reach(table: &Table, screens: u8, steps: usize) -> Vec<(Session, Vec<u8>)> {
+    let launch = record(1, 0, 0);
+    let launched = session_after(table, &Session::fresh(), &launch);
+    let mut seen = HashSet::from([launched.clone()]);
+    let mut reached = vec![(launched, launch.to_vec())];
+    let mut next = 0;
+    while next < reached.len() && reached[next].1.len() / RECORD <= steps {
+        let (from, path) = reached[next].clone();
+        next += 1;
+        let starts = calls(screens).filter(|call| call[0] == 2);
+        for step in starts.chain([record(4, 0, 0)]) {
+            let session = session_after(table, &from, &step);
+            if is_small(&session) && seen.insert(session.clone()) {
+                reached.push((session, [&path[..], &step].concat()));
+            }
+        }
+    }
+    reached
+}
+
+fn is_small(session: &Session) -> bool {
+    (1..=TASKS).contains(&session.tasks.len())
+        && session.tasks.iter().all(|task| task.height() <= HEIGHT)
+}
+
+/// The affinities of two or three screens, up to renaming, each with how many
+/// screens it is for.
+const AFFINITIES: [(u8, [u8; 3]); 7] = [
+    (2, [5, 5, 0]),
+    (2, [5, 0, 0]),
+    (3, [5, 5, 5]),
+    (3, [5, 5, 0]),
+    (3, [5, 0, 5]),
+    (3, [5, 0, 0]),
+    (3, [5, 0, 255]),
+];
+
+/// All small tables. The last screen is the main one; every other table is one
+/// of these with its screens renamed.
+fn tables() -> Vec<Vec<u8>> {
+    let mut tables = Vec::new();
+    for (screens, affinities) in AFFINITIES {
+        for modes in 0..4u32.pow(u32::from(screens)) {
+            let mut table = vec![screens, screens - 1];
+            for screen in 0..screens {
+                let mode = modes >> (2 * screen) & 3;
+                table.extend([mode as u8, affinities[usize::from(screen)]]);
+            }
+            tables.push(table);
+        }
+    }
+    tables
+}
+
+/// Sweeps all small tables. Under tables of three screens only those sessions
+/// are taken whose path has at most these many steps after launch.
+pub fn sweep(checker: &mut Checker, steps: usize) -> Result<Swept, Box<Difference>> {
+    let mut swept = Swept::default();
+    for bytes in tables() {
+        let table = Table::parse(&bytes).expect("the table is good");
+        let steps = if bytes[0] == 2 { usize::MAX } else { steps };
+        let sessions = reach(&table, bytes[0], steps);
+        let mut batch = Batch::new("sweep", bytes);
+        for (session, path) in &sessions {
+            batch.all_calls(checker, session, path)?;
+        }
+        batch.finish(checker)?;
+        swept.tables += 1;
+        swept.sessions += sessions.len() as u64;
+        swept.calls += batch.calls;
+    }
+    Ok(swept)
+}
+
+/// Records that are gathered and played in large runs; each run begins and ends
+/// with an empty session.
+pub struct Batch {
+    table: Table,
+    screens: u8,
+    input: Input,
+    pub calls: u64,
+}
+
+impl Batch {
+    pub fn new(what: &str, table: Vec<u8>) -> Batch {
+        Batch {
+            screens: table[0],
+            table: Table::parse(&table).expect("the table is good"),
+            input: Input {
+                what: what.to_string(),
+                table,
+                records: Vec::new(),
+            },
+            calls: 0,
+        }
+    }
+
+    /// Makes every call from one session, to which the path leads.
+    pub fn all_calls(
+        &mut self,
+        checker: &mut Checker,
+        session: &Session,
+        path: &[u8],
+    ) -> Result<(), Box<Difference>> {
+        for call in calls(self.screens) {
+            let left = session_after(&self.table, session, &call);
+            let standing: usize = left.tasks.iter().map(|task| task.height()).sum();
+            self.input.records.extend(path);
+            self.input.records.extend(call);
+            self.input.records.extend(record(4, 0, 0).repeat(standing));
+            self.calls += 1;
+            if self.input.records.len() >= BATCH {
+                self.finish(checker)?;
+            }
+        }
+        Ok(())
+    }
+
+    /// Plays what is gathered.
+    pub fn finish(&mut self, checker: &mut Checker) -> Result<(), Box<Difference>> {
+        checker.check(&self.input)?;
+        self.input.records.clear();
+        Ok(())
+    }
+}
+
+/// Every screen with all 64 flag words, by a start and by a finishing start.
+fn calls(screens: u8) -> impl Iterator<Item = [u8; RECORD]> {
+    [2, 3].into_iter().flat_map(move |kind| {
+        (0..screens).flat_map(move |b| (0..64).map(move |word| record(kind, b, flag_word(word))))
+    })
+}
+
+/// The session that one record's call leaves.
+fn session_after(table: &Table, session: &Session, call: &[u8; RECORD]) -> Session {
+    let mut player = Player {
+        table: Ok(table.clone()),
+        session: session.clone(),
+    };
+    player.record(call);
+    player.session
+}

@@ -1,0 +1,85 @@
+//! The calls with all their checks: each takes the table's bytes and a session
+//! that may be anything, checks 1, 2 and 20 first, then those named for the
+//! call. A refused call changes nothing.
+
+use crate::{Answer, Refusal, Rule, Session, Table};
+
+/// The checks that come first in every call.
+fn check(table: &[u8], session: &Session) -> Result<Table, Refusal> {
+    let table = Table::parse(table)?;
+    if !session.is_sound(&table) {
+        return Err(Refusal::SessionUnsound);
+    }
+    Ok(table)
+}
+
+/// The answer of a call that left this session or was refused.
+fn answer<T>(result: Result<T, Refusal>, session: &Session) -> Answer {
+    match result {
+        Ok(_) => session.answer(),
+        Err(refusal) => Answer::refused(refusal),
+    }
+}
+
+/// Launch.
+pub fn launch(table: &[u8], session: &mut Session) -> Answer {
+    let result = check(table, session).and_then(|table| session.launch(&table));
+    answer(result, session)
+}
+
+/// Start of a screen.
+pub fn start(table: &[u8], session: &mut Session, screen: u8, flags: u32) -> Answer {
+    let result = check(table, session).and_then(|table| session.start(&table, screen, flags));
+    answer(result, session)
+}
+
+/// Finishing start of a screen.
+pub fn finishing_start(table: &[u8], session: &mut Session, screen: u8, flags: u32) -> Answer {
+    let result =
+        check(table, session).and_then(|table| session.finishing_start(&table, screen, flags));
+    answer(result, session)
+}
+
+/// Back.
+pub fn back(table: &[u8], session: &mut Session) -> Answer {
+    let result = check(table, session).and_then(|_| session.back());
+    answer(result, session)
+}
+
+/// Look.
+pub fn look(table: &[u8], session: &Session) -> Answer {
+    answer(check(table, session), session)
+}
+
+/// Save: writes the image at the start of the buffer and leaves the rest;
+/// gives 0 and the image's length, or the refusal's number and 0.
+pub fn save(table: &[u8], session: &Session, buffer: &mut [u8]) -> (u8, usize) {
+    let result = check(table, session).and_then(|_| {
+        let image = session.image();
+        let place = buffer.get_mut(..image.len()).ok_or(Refusal::BufferShort)?;
+        place.copy_from_slice(&image);
+        Ok(image.len())
+    });
+    match result {
+        Ok(length) => (0, length),
+        Err(refusal) => (refusal as u8, 0),
+    }
+}
+
+/// Restore: puts the session of a whole image in the place of the present one.
+pub fn restore(table: &[u8], session: &mut Session, image: &[u8]) -> Answer {
+    let result = check(table, session).and_then(|table| {
+        *session = Session::from_image(&table, image)?;
+        Ok(())
+    });
+    answer(result, session)
+}
+
+/// The rule that a start or a finishing start would use now, or the number of
+/// its refusal. Changes nothing.
+pub fn rule(table: &[u8], session: &Session, screen: u8, flags: u32) -> Result<Rule, u8> {
+    check(table, session)
+        .and_then(|table| session.plan(&table, screen, flags))
+        .map(|(rule, _)| rule)
+        .map_err(|refusal| refusal as u8)
+}

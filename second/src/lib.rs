@@ -1,0 +1,60 @@
+//! A second navigator: tasks, screens and Back, in ordinary Rust.
+//!
+//! It follows the paper on scope and nothing else, so that it can be compared
+//! with a navigator that was made apart from it. It proves nothing; it is
+//! meant to be plain enough to be checked against the paper by reading.
+//!
+//! - `table`: the screen table, the launch modes, the flag word
+//! - `session`: tasks and screens, soundness, the moves, the answer
+//! - `rules`: launch, Back, start by R1 to R18, finishing start
+//! - `image`: the image of a session and how it is read back
+//! - `calls`: every call with all its checks, from bytes to an answer
+//! - `play`: the player, from standard input's format to lines
+//!
+//! Two layers: the methods of `Session` want a good table and a sound session
+//! and keep the session sound; the functions of `calls` check both first.
+
+pub mod calls;
+pub mod image;
+pub mod play;
+pub mod rules;
+pub mod session;
+pub mod table;
+
+pub use rules::Rule;
+pub use session::{Answer, Screen, Session, Task};
+pub use table::{Mode, Table};
+
+/// Why a call is refused, by the paper's numbers.
+#[derive(Clone, Copy, Debug, PartialEq, Eq, Hash, PartialOrd, Ord)]
+#[repr(u8)]
+pub enum Refusal {
+    /// Table length wrong, or N not 1 to 64.
+    TableLength = 1,
+    /// Main screen not below N, or a mode above 3.
+    TableContent = 2,
+    /// Start of a screen that is not below N.
+    NoSuchScreen = 3,
+    /// A flag bit outside the six.
+    FlagBits = 4,
+    /// Restore: not the length or the trailer of an image.
+    ImageTrailer = 5,
+    /// Restore: the bytes are not exactly n tasks.
+    ImageTasks = 6,
+    /// Restore: the session read is not sound under the table.
+    ImageUnsound = 7,
+    /// Save: the buffer is too short.
+    BufferShort = 8,
+    /// Player: unknown kind, or a cut record.
+    BadRecord = 9,
+    /// The session is not sound under the table.
+    SessionUnsound = 20,
+    /// Start or Back on an empty session.
+    Empty = 21,
+    /// Launch on a session that is not empty.
+    NotEmpty = 22,
+    /// A new task is needed and there are 16.
+    TasksFull = 23,
+    /// A push onto a task of 32.
+    TaskFull = 24,
+}

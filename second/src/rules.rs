@@ -1,0 +1,232 @@
+//! Launch, Back, start and finishing start, on a sound session under a good
+//! table. `decide` finds the first rule that fits, `check_space` says whether
+//! there is room for it, `apply` carries it out.
+
+use crate::session::MAX_TASKS;
+use crate::table::{
+    ALL_FLAGS, CLEAR_TASK, CLEAR_TOP, MULTIPLE_TASK, NEW_TASK, REORDER_TO_FRONT, SINGLE_TOP,
+};
+use crate::{Mode, Refusal, Session, Table};
+
+/// The rules of start, by the paper's names.
+#[derive(Clone, Copy, Debug, PartialEq, Eq, Hash, PartialOrd, Ord)]
+pub enum Rule {
+    R1 = 1,
+    R2,
+    R3,
+    R4,
+    R5,
+    R6,
+    R7,
+    R8,
+    R9,
+    R10,
+    R11,
+    R12,
+    R13,
+    R14,
+    R15,
+    R16,
+    R17,
+    R18,
+}
+
+use Rule::*;
+
+impl Session {
+    /// Launch: one task of the main screen alone.
+    pub fn launch(&mut self, table: &Table) -> Result<(), Refusal> {
+        if !self.is_empty() {
+            return Err(Refusal::NotEmpty);
+        }
+        self.new_task(table.main());
+        self.main = 1;
+        Ok(())
+    }
+
+    /// Back: removes the front screen.
+    pub fn back(&mut self) -> Result<(), Refusal> {
+        let front = self.tasks.first().ok_or(Refusal::Empty)?;
+        self.remove_screen(0, front.height() - 1);
+        Ok(())
+    }
+
+    /// Start of `b`; tells which rule was used.
+    pub fn start(&mut self, table: &Table, b: u8, flags: u32) -> Result<Rule, Refusal> {
+        let (rule, index) = self.plan(table, b, flags)?;
+        self.apply(rule, index, b);
+        Ok(rule)
+    }
+
+    /// Start of `b` by a screen that closes itself; tells which rule was used.
+    pub fn finishing_start(&mut self, table: &Table, b: u8, flags: u32) -> Result<Rule, Refusal> {
+        let (rule, index) = self.plan(table, b, flags)?;
+        if let Some(front) = self.tasks[0].screens.last_mut() {
+            front.marked = true;
+        }
+        self.apply(rule, index, b);
+        self.remove_marked();
+        Ok(rule)
+    }
+
+    /// The rule that a start of `b` uses and the index of the task it works
+    /// on, or why the start is refused. Changes nothing.
+    pub fn plan(&self, table: &Table, b: u8, flags: u32) -> Result<(Rule, usize), Refusal> {
+        if !table.has(b) {
+            return Err(Refusal::NoSuchScreen);
+        }
+        if flags & !ALL_FLAGS != 0 {
+            return Err(Refusal::FlagBits);
+        }
+        if self.is_empty() {
+            return Err(Refusal::Empty);
+        }
+        let (rule, index) = self.decide(table, b, flags);
+        self.check_space(rule, index)?;
+        Ok((rule, index))
+    }
+
+    /// The first rule that fits, and the index of the found task, or 0, the
+    /// front task's, where none is sought or found. The session is not empty.
+    pub fn decide(&self, table: &Table, b: u8, flags: u32) -> (Rule, usize) {
+        match table.mode(b) {
+            Mode::SingleInstance => match self.by_root(b) {
+                Some(index) => (R1, index),
+                None => (R2, 0),
+            },
+            Mode::SingleTask => self.decide_single_task(table, b, flags),
+            Mode::Standard | Mode::SingleTop => {
+                let caller_alone = self.tasks[0]
+                    .top()
+                    .is_some_and(|a| table.is_single_instance(a));
+                if flags & NEW_TASK != 0 || caller_alone {
+                    self.decide_apart(table, b, flags)
+                } else {
+                    (self.decide_not_apart(table, b, flags), 0)
+                }
+            }
+        }
+    }
+
+    fn decide_single_task(&self, table: &Table, b: u8, flags: u32) -> (Rule, usize) {
+        let Some(index) = self.by_root(b).or_else(|| self.by_affinity(table, b)) else {
+            return (R6, 0);
+        };
+        let rule = if flags & CLEAR_TASK != 0 {
+            R3
+        } else if self.tasks[index].holds(b) {
+            R4
+        } else {
+            R5
+        };
+        (rule, index)
+    }
+
+    fn decide_not_apart(&self, table: &Table, b: u8, flags: u32) -> Rule {
+        let front = &self.tasks[0];
+        let clear_top = flags & CLEAR_TOP != 0;
+        let reorder = flags & REORDER_TO_FRONT != 0;
+        if front.top() == Some(b) && (is_single(table, b, flags) || reorder || clear_top) {
+            R7
+        } else if clear_top && front.holds(b) {
+            R8
+        } else if reorder && front.holds(b) {
+            R9
+        } else {
+            R10
+        }
+    }
+
+    fn decide_apart(&self, table: &Table, b: u8, flags: u32) -> (Rule, usize) {
+        if flags & MULTIPLE_TASK != 0 {
+            return (R11, 0);
+        }
+        let by_root = self.by_root(b);
+        let Some(index) = by_root.or_else(|| self.by_affinity(table, b)) else {
+            return (R18, 0);
+        };
+        let found = &self.tasks[index];
+        let clear_top = flags & CLEAR_TOP != 0;
+        let rule = if flags & CLEAR_TASK != 0 {
+            R12
+        } else if clear_top && found.holds(b) {
+            R13
+        } else if clear_top {
+            R14
+        } else if by_root.is_some() && index + 1 != self.main {
+            R15
+        } else if is_single(table, b, flags) && found.top() == Some(b) {
+            R16
+        } else {
+            R17
+        };
+        (rule, index)
+    }
+
+    /// The first task from the front whose root is `b`.
+    fn by_root(&self, b: u8) -> Option<usize> {
+        self.tasks.iter().position(|task| task.root == b)
+    }
+
+    /// The first task from the front whose root is not single-instance and has
+    /// the affinity of `b`.
+    fn by_affinity(&self, table: &Table, b: u8) -> Option<usize> {
+        let affinity = table.affinity(b);
+        self.tasks.iter().position(|task| {
+            !table.is_single_instance(task.root) && table.affinity(task.root) == affinity
+        })
+    }
+
+    /// Whether there is room for what the rule needs.
+    fn check_space(&self, rule: Rule, index: usize) -> Result<(), Refusal> {
+        match rule {
+            R2 | R6 | R11 | R18 if self.tasks.len() >= MAX_TASKS => Err(Refusal::TasksFull),
+            R5 | R10 | R14 | R17 if self.tasks[index].is_full() => Err(Refusal::TaskFull),
+            _ => Ok(()),
+        }
+    }
+
+    /// Carries out a rule for which there is room.
+    fn apply(&mut self, rule: Rule, index: usize, b: u8) {
+        match rule {
+            R7 => {}
+            R1 | R15 | R16 => self.move_to_front(index),
+            R2 | R6 | R11 | R18 => self.new_task(b),
+            R3 | R12 => {
+                self.move_to_front(index);
+                self.tasks[0].screens.clear();
+                self.tasks[0].push(b);
+            }
+            R4 | R13 => {
+                self.move_to_front(index);
+                self.tasks[0].clear_to(b);
+            }
+            R5 | R14 | R17 => {
+                self.move_to_front(index);
+                self.tasks[0].push(b);
+            }
+            R8 => self.tasks[0].clear_to(b),
+            R9 => self.tasks[0].lift(b),
+            R10 => self.tasks[0].push(b),
+        }
+    }
+
+    /// Removes the marked screen, if it still stands, as Back would in its task.
+    fn remove_marked(&mut self) {
+        for index in 0..self.tasks.len() {
+            let marked = self.tasks[index]
+                .screens
+                .iter()
+                .position(|screen| screen.marked);
+            if let Some(at) = marked {
+                self.remove_screen(index, at);
+                return;
+            }
+        }
+    }
+}
+
+/// Single: the mode of `b` is single-top, or STP is set.
+fn is_single(table: &Table, b: u8, flags: u32) -> bool {
+    table.mode(b) == Mode::SingleTop || flags & SINGLE_TOP != 0
+}

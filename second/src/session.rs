@@ -1,0 +1,223 @@
+//! Sessions: a list of tasks, front first, each a stack of screens; what makes
+//! a session sound; the small moves that the rules are made of; the answer.
+
+use crate::{Mode, Refusal, Table};
+
+/// The most tasks a session holds.
+pub const MAX_TASKS: usize = 16;
+/// The most screens a task holds.
+pub const MAX_HEIGHT: usize = 32;
+
+/// A screen as it stands in a task. The mark is set only while a finishing
+/// start is under way, on the screen that is to be closed.
+#[derive(Clone, Copy, Debug, PartialEq, Eq, Hash)]
+pub struct Screen {
+    pub number: u8,
+    pub(crate) marked: bool,
+}
+
+impl Screen {
+    pub fn new(number: u8) -> Screen {
+        Screen {
+            number,
+            marked: false,
+        }
+    }
+}
+
+/// A task: the screen that created it, and its screens, bottom first, so that
+/// the top is the last of the vector.
+#[derive(Clone, Debug, PartialEq, Eq, Hash)]
+pub struct Task {
+    pub root: u8,
+    pub screens: Vec<Screen>,
+}
+
+impl Task {
+    /// A task from its root and its screens, top first as the paper writes them.
+    pub fn new(root: u8, top_first: &[u8]) -> Task {
+        let screens = top_first
+            .iter()
+            .rev()
+            .map(|&number| Screen::new(number))
+            .collect();
+        Task { root, screens }
+    }
+
+    pub fn height(&self) -> usize {
+        self.screens.len()
+    }
+
+    /// The number of the top screen, if the task has one.
+    pub fn top(&self) -> Option<u8> {
+        self.screens.last().map(|screen| screen.number)
+    }
+
+    /// Where the topmost `b` stands, counted from the bottom.
+    pub(crate) fn topmost(&self, b: u8) -> Option<usize> {
+        self.screens.iter().rposition(|screen| screen.number == b)
+    }
+
+    pub(crate) fn holds(&self, b: u8) -> bool {
+        self.topmost(b).is_some()
+    }
+
+    pub(crate) fn is_full(&self) -> bool {
+        self.height() >= MAX_HEIGHT
+    }
+
+    pub(crate) fn push(&mut self, b: u8) {
+        self.screens.push(Screen::new(b));
+    }
+
+    /// Removes all above the topmost `b` and keeps that `b`.
+    pub(crate) fn clear_to(&mut self, b: u8) {
+        if let Some(at) = self.topmost(b) {
+            self.screens.truncate(at + 1);
+        }
+    }
+
+    /// Takes the topmost `b` to the top.
+    pub(crate) fn lift(&mut self, b: u8) {
+        if let Some(at) = self.topmost(b) {
+            self.screens[at..].rotate_left(1);
+        }
+    }
+
+    /// The part of soundness that concerns one task alone.
+    fn is_sound(&self, table: &Table) -> bool {
+        (1..=MAX_HEIGHT).contains(&self.height())
+            && table.has(self.root)
+            && self.screens.iter().all(|screen| table.has(screen.number))
+            && if table.is_single_instance(self.root) {
+                self.height() == 1 && self.screens[0].number == self.root
+            } else {
+                !self
+                    .screens
+                    .iter()
+                    .any(|screen| table.is_single_instance(screen.number))
+            }
+    }
+}
+
+/// A session: tasks, front first, and the main place, counted from 1; it is 0
+/// when the task made by launch is gone.
+#[derive(Clone, Debug, Default, PartialEq, Eq, Hash)]
+pub struct Session {
+    pub tasks: Vec<Task>,
+    pub main: usize,
+}
+
+impl Session {
+    /// The fresh session: no tasks.
+    pub fn fresh() -> Session {
+        Session::default()
+    }
+
+    pub fn is_empty(&self) -> bool {
+        self.tasks.is_empty()
+    }
+
+    /// Whether the session is sound under the table.
+    pub fn is_sound(&self, table: &Table) -> bool {
+        self.tasks.len() <= MAX_TASKS
+            && self.tasks.iter().all(|task| task.is_sound(table))
+            && self.single_roots_differ(table)
+            && self.main <= self.tasks.len()
+            && (self.main == 0 || self.tasks[self.main - 1].root == table.main())
+    }
+
+    /// No single-task or single-instance screen is the root of two tasks.
+    fn single_roots_differ(&self, table: &Table) -> bool {
+        self.tasks
+            .iter()
+            .enumerate()
+            .all(|(i, task)| match table.mode(task.root) {
+                Mode::Standard | Mode::SingleTop => true,
+                Mode::SingleTask | Mode::SingleInstance => self.tasks[i + 1..]
+                    .iter()
+                    .all(|other| other.root != task.root),
+            })
+    }
+
+    /// Brings the task at this index to the front.
+    pub(crate) fn move_to_front(&mut self, index: usize) {
+        self.tasks[..=index].rotate_right(1);
+        let place = index + 1;
+        if self.main == place {
+            self.main = 1;
+        } else if self.main >= 1 && self.main < place {
+            self.main += 1;
+        }
+    }
+
+    /// Puts a task of `b` alone in front.
+    pub(crate) fn new_task(&mut self, b: u8) {
+        self.tasks.insert(0, Task::new(b, &[b]));
+        if self.main >= 1 {
+            self.main += 1;
+        }
+    }
+
+    /// Removes one screen; a task left empty goes.
+    pub(crate) fn remove_screen(&mut self, index: usize, at: usize) {
+        self.tasks[index].screens.remove(at);
+        if self.tasks[index].screens.is_empty() {
+            self.tasks.remove(index);
+            let place = index + 1;
+            if self.main == place {
+                self.main = 0;
+            } else if self.main > place {
+                self.main -= 1;
+            }
+        }
+    }
+
+    /// The answer of a call that was not refused and left this session.
+    pub fn answer(&self) -> Answer {
+        match self.tasks.first() {
+            None => Answer::default(),
+            Some(front) => Answer {
+                refusal: 0,
+                screen: front.top().unwrap_or(0),
+                root: front.root,
+                height: front.height() as u8,
+                tasks: self.tasks.len() as u8,
+                main: self.main as u8,
+            },
+        }
+    }
+}
+
+/// What a call answers: six numbers.
+#[derive(Clone, Copy, Debug, Default, PartialEq, Eq, Hash)]
+pub struct Answer {
+    pub refusal: u8,
+    pub screen: u8,
+    pub root: u8,
+    pub height: u8,
+    pub tasks: u8,
+    pub main: u8,
+}
+
+impl Answer {
+    /// The answer of a refused call.
+    pub fn refused(refusal: Refusal) -> Answer {
+        Answer {
+            refusal: refusal as u8,
+            ..Answer::default()
+        }
+    }
+
+    /// The six numbers in the paper's order.
+    pub fn numbers(self) -> [u8; 6] {
+        [
+            self.refusal,
+            self.screen,
+            self.root,
+            self.height,
+            self.tasks,
+            self.main,
+        ]
+    }
+}
