@@ -6,7 +6,8 @@ ghost use Rattle.model.specs.Table.{tableRefusal};
 ghost use Rattle.model.specs.Calls.{launched, backed};
 ghost use Rattle.session.specs.Stored.{view, hold, Ready};
 ghost use Rattle.choice.specs.Startable.{Startable};
-ghost use Rattle.rules.specs.Starts.{startStored, finishStored};
+ghost use Rattle.rules.specs.Starts.{planned, startStored, finishStored};
+use model::Deed;
 use model::Flags;
 use session::Session;
 
@@ -32,7 +33,25 @@ pub fn back(table: &[u8], s: Session) -> Session
     requires { ⌜ Ready (now table) s × (1 ≤ s .n) ⌝ }
     ensures { λ r. ⌜ r ≡ hold (backed (view s)) ⌝ }
 {
-    deeds::close(s, 0, 0)
+    closing::close(s, 0, 0)
+}
+
+// What the rule does that a start uses, the place of the task found, and 23, 24 or 0 for the room that it needs.
+struct Plan {
+    refusal: u8,
+    deed: Deed,
+    place: u8,
+}
+
+fn plan_start(table: &[u8], s: Session, b: u8, f: Flags) -> Plan
+    requires { ⌜ Startable (now table) s b ⌝ }
+    ensures { λ r. ⌜ r ≡ planned (now (table .entry)) s b f ⌝ }
+{
+    let c = choice::choose(table, s, b, f);
+    let rule = c.rule;
+    let found = c.found;
+    let deed = choice::deed_of(rule);
+    Plan { refusal: choice::room_refusal(s, c), deed: deed, place: choice::place_of(found) }
 }
 
 // Start of b with the flags f.
@@ -40,20 +59,13 @@ pub fn start(table: &[u8], s: Session, b: u8, f: Flags) -> Started
     requires { ⌜ Startable (now table) s b ⌝ }
     ensures { λ r. ⌜ r ≡ startStored (now (table .entry)) s b f ⌝ }
 {
-    let c = choice::choose(table, s, b, f);
-    let full = choice::room_refusal(s, c);
-    if full != 0 {
-        return Started {
-            refusal: full,
-            session: s,
-        };
+    let p = plan_start(table, s, b, f);
+    if p.refusal != 0 {
+        return Started { refusal: p.refusal, session: s };
     }
-    let deed = choice::deed_of(c.rule);
-    let place = choice::place_of(c.found);
-    Started {
-        refusal: 0,
-        session: deeds::carry_out(s, b, deed, place),
-    }
+    let deed = p.deed;
+    let out = deeds::carry_out(s, b, deed, p.place);
+    Started { refusal: 0, session: out }
 }
 
 // Finishing start: the start, and then the screen that was in front closes, if it still stands.
@@ -61,20 +73,13 @@ pub fn finish_start(table: &[u8], s: Session, b: u8, f: Flags) -> Started
     requires { ⌜ Startable (now table) s b ⌝ }
     ensures { λ r. ⌜ r ≡ finishStored (now (table .entry)) s b f ⌝ }
 {
-    let c = choice::choose(table, s, b, f);
-    let full = choice::room_refusal(s, c);
-    if full != 0 {
-        return Started {
-            refusal: full,
-            session: s,
-        };
+    let p = plan_start(table, s, b, f);
+    if p.refusal != 0 {
+        return Started { refusal: p.refusal, session: s };
     }
-    let deed = choice::deed_of(c.rule);
-    let place = choice::place_of(c.found);
-    let same = b == choice::front_screen(s);
-    let started = deeds::carry_out(s, b, deed, place);
-    Started {
-        refusal: 0,
-        session: deeds::close_mark(started, deed, place, same),
-    }
+    let deed = p.deed;
+    let front = s.tasks[0];
+    let same = b == front.top();
+    let out = deeds::carry_out(s, b, deed, p.place);
+    Started { refusal: 0, session: closing::close_mark(out, deed, p.place, same) }
 }
