@@ -15,11 +15,11 @@ use Rattle.model.specs.Deeds.{changed}
 use Rattle.model.proofs.Logic.{and-left}
 use Rattle.model.proofs.ListLaws.{FoundAt, find-spec, toFront-zero}
 use Rattle.session.specs.declared.Task.{Task}
-use Rattle.session.specs.Stored.{viewTask, holdTask, pad, blankAbove}
+use Rattle.session.specs.Stored.{viewTask, holdTask, pad, blankAbove, pushed}
 use Rattle.session.proofs.Known.{Screens32}
 use Rattle.session.proofs.Padding.{drop-pad}
 use Rattle.session.proofs.StoredLaws.{hold-viewTask}
-use Rattle.session.proofs.TaskLaws.{view-height, view-screen, hold-cleared, hold-lifted, lifted}
+use Rattle.session.proofs.TaskLaws.{view-height, view-screen, hold-cleared, hold-lifted, lifted, hold-pushed}
 use Rattle.deeds.specs.Rows.{closedUp, lowest, withScreens}
 
 pub blank-low : (t : Task) → blankAbove t ≡ true → t .height ≤ mostHeight
@@ -90,3 +90,7 @@ module _ (t : Task) (l : Screens32 t) (e : blankAbove t ≡ true) where
           ∙ hold-lifted (t .root) m (p - 1) xs (omega arith) (omega arith)
           ∙ ap (λ (u : Task). lifted u m) (hold-viewTask t l e)
           ∙ rw (k, x, n)
+
+    pub push-is : height (viewTask t) < mostHeight → holdTask (stack (t .root) (changed (eqb b) b Change.Push xs)) ≡ pushed t b
+    unfolding changed viewTask
+    push-is h = hold-pushed (t .root) b xs h ∙ ap (λ (u : Task). pushed u b) (hold-viewTask t l e)
