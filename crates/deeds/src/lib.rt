@@ -121,7 +121,7 @@ fn lowered(t: Task, h: u8) -> Task
 }
 
 // The screen behind m others is gone, the next k come down by one, and b stands where the last of them stood.
-fn sunk(t: Task, m: usize, k: usize, b: u8) -> Task
+pub fn closed_up(t: Task, m: usize, k: usize, b: u8) -> Task
     requires { ⌜ m + k < 32 ⌝ }
     ensures { λ r. ⌜ r ≡ withScreens t (closedUp m k b (t .screens)) ⌝ }
 {
@@ -156,7 +156,7 @@ fn lifted(t: Task, b: u8) -> Task
     if place == 0 {
         return t;
     }
-    sunk(t, (t.height - place) as usize, (place - 1) as usize, b)
+    closed_up(t, (t.height - place) as usize, (place - 1) as usize, b)
 }
 
 // The task after a change of its screens.

@@ -29,20 +29,20 @@ low c =
     let l : length (t .screens) ≡ 32 = search needs in
     place-low t l (start .pre) (start .args .b) (top .result) (top .ensures) (c .before .if1 .left)
 
-sub-sunk : tie.Need-sub-sunk
-sub-sunk c = omega (arith, low c)
+sub-closed-up : tie.Need-sub-closed-up
+sub-closed-up c = omega (arith, low c)
 
-cast-sunk : tie.Need-cast-sunk
-cast-sunk c = search needs
+cast-closed-up : tie.Need-cast-closed-up
+cast-closed-up c = search needs
 
-sub-sunk-2 : tie.Need-sub-sunk-2
-sub-sunk-2 c = search needs
+sub-closed-up-2 : tie.Need-sub-closed-up-2
+sub-closed-up-2 c = search needs
 
-cast-sunk-2 : tie.Need-cast-sunk-2
-cast-sunk-2 c = search needs
+cast-closed-up-2 : tie.Need-cast-closed-up-2
+cast-closed-up-2 c = search needs
 
-sunk-requires : tie.Need-sunk-requires
-sunk-requires c κs = let f = blank-low (c .before .before .before .args .t) (c .before .before .before .pre) in omega (arith, low c)
+closed-up-requires : tie.Need-closed-up-requires
+closed-up-requires c κs = let f = blank-low (c .before .before .before .args .t) (c .before .before .before .pre) in omega (arith, low c)
 
 returns-2 : tie.Need-returns-2
 returns-2 c =
@@ -50,7 +50,7 @@ returns-2 c =
     let t = start .args .t in
     let top = c .before .before .before .topmost in
     let l : length (t .screens) ≡ 32 = search needs in
-    c .sunk .ensures ∙ sym (lift-found t l (start .pre) (start .args .b) (top .result) (top .ensures) (c .before .before .if1 .left))
+    c .closed-up .ensures ∙ sym (lift-found t l (start .pre) (start .args .b) (top .result) (top .ensures) (c .before .before .if1 .left))
 
 pub lifted-spec : {M : Type 1} → statement M
-lifted-spec = tie.close (tie.spec topmost-requires returns sub-sunk cast-sunk sub-sunk-2 cast-sunk-2 sunk-requires returns-2)
+lifted-spec = tie.close (tie.spec topmost-requires returns sub-closed-up cast-closed-up sub-closed-up-2 cast-closed-up-2 closed-up-requires returns-2)

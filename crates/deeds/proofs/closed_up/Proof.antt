@@ -1,4 +1,4 @@
--- `deeds::sunk` meets its contract. The loop's invariant: j screens have come down by one.
+-- `deeds::closed_up` meets its contract. The loop's invariant: j screens have come down by one.
 use Prim.Native.Nat.{ℕ, _+_, _-_, _≤_, _<_}
 use mathlib.Core.Path.{_≡_, sym, _∙_, ap}
 use native.Mathlib.Omega.{arith}
@@ -7,10 +7,10 @@ use lib.ListN.{length, getD, set}
 use Rattle.session.specs.declared.Task.{Task}
 use Rattle.deeds.specs.Rows.{closedUp, withScreens}
 use Rattle.deeds.proofs.Rows.{closing, close-begin, close-step, close-end}
-use Rattle.deeds.proofs.sunk.Statement.{statement}
-use Rattle.deeds.proofs.sunk.Tie as tie
-use Rattle.deeds.proofs.sunk.Reads as reads
-use Rattle.deeds.proofs.sunk.Lts as lts
+use Rattle.deeds.proofs.closed_up.Statement.{statement}
+use Rattle.deeds.proofs.closed_up.Tie as tie
+use Rattle.deeds.proofs.closed_up.Reads as reads
+use Rattle.deeds.proofs.closed_up.Lts as lts
 
 abbrev Inv-loop : tie.InvT-loop
 Inv-loop m k b t out₀ j₀ out j = (j ≤ k) × (out ≡ withScreens t (closing m j (t .screens)))
@@ -69,8 +69,8 @@ returns c =
     ∙ ap (λ (j : ℕ). withScreens (a .t1) (set (closing (a .m) j (a .t1 .screens)) (a .m + a .k) (a .b))) k
     ∙ ap (withScreens (a .t1)) (close-end (a .m) (a .k) (a .b) (a .t1 .screens) (omega arith))
 
-pub sunk-spec : {M : Type 1} → statement M
-sunk-spec =
+pub closed-up-spec : {M : Type 1} → statement M
+closed-up-spec =
     tie.close
     (tie.spec
     Inv-loop
