@@ -32,7 +32,7 @@ module _ (p m : ℕ) where
   module _ (other : m ≡ p → ⊥) where
     pub without-behind : p < m → mainWithout p m ≡ m - 1
     unfolding mainWithout
-    without-behind l = rw (ne-eqb m p other, lt-ltb p m l) (omega arith)
+    without-behind l = let e : pred m ≡ m - 1 = omega arith in rw (ne-eqb m p other, lt-ltb p m l) e
 
     pub without-before : m ≤ p → mainWithout p m ≡ m
     unfolding mainWithout

@@ -1,73 +1,82 @@
+-- `closing::moved_up` meets its contract. The loop's invariant: j tasks have come one place nearer.
+use Prim.Native.Nat.{ℕ, _+_, _-_, _*_, _≤_, _<_}
+use mathlib.Core.Path.{_≡_, sym, _∙_, ap}
+use native.Mathlib.Omega.{arith}
+use borrow.Author.Needs.{needs}
+use lib.ListN.{length, getD, set}
+use Rattle.session.specs.declared.Session.{Session}
+use Rattle.session.specs.Stored.{noTask, blankTask}
+use Rattle.session.proofs.Known.{long}
+use Rattle.deeds.specs.Rows.{closedUp, withTasks}
+use Rattle.deeds.proofs.Rows.{closing, close-begin, close-step, close-end}
 use Rattle.closing.proofs.moved_up.Statement.{statement}
 use Rattle.closing.proofs.moved_up.Tie as tie
-use Rattle.closing.proofs.moved_up.Reads as reads
-use Rattle.closing.proofs.moved_up.Lts as lts
 
 abbrev Inv-loop : tie.InvT-loop
-Inv-loop m k s out₀ j₀ out j = ?
+Inv-loop m k s out₀ j₀ out j = (j ≤ k) × (out ≡ withTasks s (closing m j (s .tasks)))
 
 abbrev μ-loop : tie.MeasureT-loop
-μ-loop m k s out₀ j₀ out j = ?
+μ-loop m k s out₀ j₀ out j = k - j
 
--- src/lib.rt:41:5
 loop-holds : tie.Need-loop-holds Inv-loop μ-loop
-loop-holds c = ?
+loop-holds c = (search needs, ap (withTasks (c .args .t1)) (close-begin (c .args .m) (c .args .t1 .tasks)))
 
--- src/lib.rt:42:25
 add-t : tie.Need-add-t Inv-loop μ-loop
-add-t c = ?
+add-t c = search needs
 
--- src/lib.rt:42:25
 add-t-2 : tie.Need-add-t-2 Inv-loop μ-loop
-add-t-2 c = ?
+add-t-2 c = search needs
 
--- src/lib.rt:42:17
 mul-t : tie.Need-mul-t Inv-loop μ-loop
-mul-t c = ?
+mul-t c = omega arith
 
--- src/lib.rt:42:17
 element-copy-out-t : tie.Need-element-copy-out-t Inv-loop μ-loop
-element-copy-out-t c = ?
+element-copy-out-t c = search needs
 
--- src/lib.rt:43:19
 add-t-3 : tie.Need-add-t-3 Inv-loop μ-loop
-add-t-3 c = ?
+add-t-3 c = search needs
 
--- src/lib.rt:43:9
 mul-t-2 : tie.Need-mul-t-2 Inv-loop μ-loop
-mul-t-2 c = ?
+mul-t-2 c = omega arith
 
--- src/lib.rt:43:9
 element-set-from-t : tie.Need-element-set-from-t Inv-loop μ-loop
-element-set-from-t c = ?
+element-set-from-t c = search needs
 
--- src/lib.rt:44:9
 add-j : tie.Need-add-j Inv-loop μ-loop
-add-j c = ?
+add-j c = search needs
 
--- src/lib.rt:41:5
 loop-less : tie.Need-loop-less Inv-loop μ-loop
-loop-less c = ?
+loop-less c = search needs
 
--- src/lib.rt:41:5
 loop-again : tie.Need-loop-again Inv-loop μ-loop
-loop-again c = ?
+loop-again c =
+    let here = c .before .before .loop in
+    let a = c .before .before .before .args in
+    let l : length (a .t1 .tasks) ≡ 16 = search (needs, long) in
+    let t = getD (a .t1 .tasks) (a .m + here .j + 1) noTask in (
+      omega arith,
+      ap (λ (o : Session). withTasks o (set (o .tasks) (a .m + here .j) t)) (here .inv .1)
+      ∙ ap (withTasks (a .t1)) (close-step noTask (a .m) (here .j) (a .t1 .tasks) (omega arith)),
+    )
 
--- src/lib.rt:51:15
 add-blank : tie.Need-add-blank Inv-loop μ-loop
-add-blank c = ?
+add-blank c = search needs
 
--- src/lib.rt:51:5
 mul-blank : tie.Need-mul-blank Inv-loop μ-loop
-mul-blank c = ?
+mul-blank c = omega arith
 
--- src/lib.rt:51:5
 element-set-from-blank : tie.Need-element-set-from-blank Inv-loop μ-loop
-element-set-from-blank c = ?
+element-set-from-blank c = search needs
 
--- src/lib.rt:35:1
 returns : tie.Need-returns Inv-loop μ-loop
-returns c = ?
+returns c =
+    let here = c .before .loop in
+    let a = c .before .before .args in
+    let l : length (a .t1 .tasks) ≡ 16 = search (needs, long) in
+    let k : here .j ≡ a .k = omega arith in
+    ap (λ (o : Session). withTasks o (set (o .tasks) (a .m + a .k) blankTask)) (here .inv .1)
+    ∙ ap (λ (j : ℕ). withTasks (a .t1) (set (closing (a .m) j (a .t1 .tasks)) (a .m + a .k) blankTask)) k
+    ∙ ap (withTasks (a .t1)) (close-end (a .m) (a .k) blankTask (a .t1 .tasks) (omega arith))
 
 pub moved-up-spec : {M : Type 1} → statement M
 moved-up-spec =
