@@ -1,2 +1,3 @@
 pub mod Gaps
 pub mod Closed
+pub mod Marked

@@ -1,77 +1,97 @@
+-- `closing::close_in` meets its contract, change by change: first where the mark stands, then what closes.
+use mathlib.Core.Path.{_≡_, _∙_, ap, ap₂}
+use mathlib.Core.Bool.{Bool, true, false}
 use borrow.Author.Needs.{needs}
+use Rattle.model.specs.declared.Change.{Change}
+use Rattle.model.specs.Marks.{Mark, gone, stands, markIn}
+use Rattle.session.specs.Stored.{view}
+use Rattle.session.proofs.Known.{sized}
+use Rattle.closing.proofs.Marked.{closable, closed-at, closed-gone}
 use Rattle.closing.proofs.close_in.Statement.{statement}
 use Rattle.closing.proofs.close_in.Tie as tie
-use Rattle.closing.proofs.close_in.Reads as reads
-use Rattle.closing.proofs.close_in.Lts as lts
-use Rattle.closing.proofs.close.Reads as close-reads
 
--- src/lib.rt:104:25
 enum-told : tie.Need-enum-told
 enum-told c = search needs
 
--- src/lib.rt:104:25
-close-requires : tie.Need-close-requires
-close-requires c κs = ?
-
--- src/lib.rt:105:26
 enum-told-2 : tie.Need-enum-told-2
 enum-told-2 c = search needs
 
--- src/lib.rt:107:16
 enum-told-3 : tie.Need-enum-told-3
 enum-told-3 c = search needs
 
--- src/lib.rt:108:17
-close-requires-2 : tie.Need-close-requires-2
-close-requires-2 c κs = ?
-
--- src/lib.rt:108:17
-returns : tie.Need-returns
-returns c = ?
-
--- src/lib.rt:113:16
 enum-told-4 : tie.Need-enum-told-4
 enum-told-4 c = search needs
 
--- src/lib.rt:114:17
-close-requires-3 : tie.Need-close-requires-3
-close-requires-3 c κs = ?
-
--- src/lib.rt:114:17
-returns-2 : tie.Need-returns-2
-returns-2 c = ?
-
--- src/lib.rt:116:13
-close-requires-4 : tie.Need-close-requires-4
-close-requires-4 c κs = ?
-
--- src/lib.rt:118:25
 enum-told-5 : tie.Need-enum-told-5
 enum-told-5 c = search needs
 
--- src/lib.rt:118:25
-close-requires-5 : tie.Need-close-requires-5
-close-requires-5 c κs = ?
+-- ---- keep, renew
 
--- src/lib.rt:99:1
+keep : (c : tie.After-enum-told) → markIn (c .before .before .args .change) (c .before .before .args .same) ≡ stands 0 0
+keep c = ap (λ (d : Change). markIn d (c .before .before .args .same)) (c .enum-told .given .1)
+
+close-requires : tie.Need-close-requires
+close-requires c κs = let start = c .before .before in closable (start .args .s) 0 0 (start .pre .0) (keep c) (start .pre .1)
+
 returns-3 : tie.Need-returns-3
-returns-3 c = ?
+returns-3 c = c .close .ensures ∙ closed-at (view (c .before .before .before .args .s)) (keep (c .before))
 
--- src/lib.rt:99:1
 returns-4 : tie.Need-returns-4
-returns-4 c = ?
+returns-4 c =
+    let start = c .before .before in
+    let s = start .args .s in
+    closed-gone s (sized s _ (start .good .0)) (start .pre .0) (ap (λ (d : Change). markIn d (start .args .same)) (c .enum-told2 .given .1))
 
--- src/lib.rt:99:1
+-- ---- clear
+
+clear-same : (c : tie.Then1) → markIn (c .before .before .before .args .change) (c .before .before .before .args .same) ≡ stands 0 0
+clear-same c = ap₂ markIn (c .before .enum-told3 .given .1) (c .if1 .taken)
+
+close-requires-2 : tie.Need-close-requires-2
+close-requires-2 c κs =
+    let start = c .before .before .before in closable (start .args .s) 0 0 (start .pre .0) (clear-same c) (start .pre .1)
+
+returns : tie.Need-returns
+returns c = c .close2 .ensures ∙ closed-at (view (c .before .before .before .before .args .s)) (clear-same (c .before))
+
 returns-5 : tie.Need-returns-5
-returns-5 c = ?
+returns-5 c =
+    let start = c .before .before .before in
+    let s = start .args .s in
+    closed-gone s (sized s _ (start .good .0)) (start .pre .0) (ap₂ markIn (c .before .enum-told3 .given .1) (c .if1 .left))
 
--- src/lib.rt:99:1
+-- ---- lift
+
+lift-same : (c : tie.Then2) → markIn (c .before .before .before .args .change) (c .before .before .before .args .same) ≡ stands 0 0
+lift-same c = ap₂ markIn (c .before .enum-told4 .given .1) (c .if2 .taken)
+
+close-requires-3 : tie.Need-close-requires-3
+close-requires-3 c κs =
+    let start = c .before .before .before in closable (start .args .s) 0 0 (start .pre .0) (lift-same c) (start .pre .1)
+
+returns-2 : tie.Need-returns-2
+returns-2 c = c .close3 .ensures ∙ closed-at (view (c .before .before .before .before .args .s)) (lift-same (c .before))
+
+lift-other : (c : tie.Else2) → markIn (c .before .before .before .args .change) (c .before .before .before .args .same) ≡ stands 0 1
+lift-other c = ap₂ markIn (c .before .enum-told4 .given .1) (c .if2 .left)
+
+close-requires-4 : tie.Need-close-requires-4
+close-requires-4 c κs =
+    let start = c .before .before .before in closable (start .args .s) 0 1 (start .pre .0) (lift-other c) (start .pre .1)
+
 returns-6 : tie.Need-returns-6
-returns-6 c = ?
+returns-6 c = c .close4 .ensures ∙ closed-at (view (c .before .before .before .before .args .s)) (lift-other (c .before))
 
--- src/lib.rt:99:1
+-- ---- push
+
+push : (c : tie.After-enum-told5) → markIn (c .before .before .args .change) (c .before .before .args .same) ≡ stands 0 1
+push c = ap (λ (d : Change). markIn d (c .before .before .args .same)) (c .enum-told5 .given .1)
+
+close-requires-5 : tie.Need-close-requires-5
+close-requires-5 c κs = let start = c .before .before in closable (start .args .s) 0 1 (start .pre .0) (push c) (start .pre .1)
+
 returns-7 : tie.Need-returns-7
-returns-7 c = ?
+returns-7 c = c .close5 .ensures ∙ closed-at (view (c .before .before .before .args .s)) (push (c .before))
 
 pub close-in-spec : {M : Type 1} → statement M
 close-in-spec =

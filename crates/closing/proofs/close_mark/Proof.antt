@@ -1,54 +1,75 @@
+-- `closing::close_mark` meets its contract, deed by deed: first where the mark stands, then what closes.
+use Prim.Native.Nat.{_≤_, _<_}
+use mathlib.Core.Path.{_≡_, _∙_, ap}
+use mathlib.Core.Bool.{Bool, true, false}
 use borrow.Author.Needs.{needs}
+use Rattle.model.specs.declared.Deed.{Deed}
+use Rattle.model.specs.Marks.{Mark, gone, stands, markIn, markAfter}
+use Rattle.session.specs.Stored.{view}
+use Rattle.closing.proofs.Marked.{marked-at, closable, closed-at, mark-first, mark-behind}
 use Rattle.closing.proofs.close_mark.Statement.{statement}
 use Rattle.closing.proofs.close_mark.Tie as tie
-use Rattle.closing.proofs.close_mark.Reads as reads
-use Rattle.closing.proofs.close_mark.Lts as lts
-use Rattle.closing.proofs.close.Reads as close-reads
-use Rattle.closing.proofs.close_in.Reads as close-in-reads
 
--- src/lib.rt:128:22
 enum-told : tie.Need-enum-told
 enum-told c = search needs
 
--- src/lib.rt:128:22
-close-requires : tie.Need-close-requires
-close-requires c κs = ?
-
--- src/lib.rt:129:23
 enum-known-deed : tie.Need-enum-known-deed
 enum-known-deed c = search needs
 
--- src/lib.rt:129:34
-close-in-requires : tie.Need-close-in-requires
-close-in-requires c κs = ?
-
--- src/lib.rt:130:23
 enum-known-deed-2 : tie.Need-enum-known-deed-2
 enum-known-deed-2 c = search needs
 
--- src/lib.rt:132:17
-close-in-requires-2 : tie.Need-close-in-requires-2
-close-in-requires-2 c κs = ?
+-- ---- a new task
 
--- src/lib.rt:132:17
-returns : tie.Need-returns
-returns c = ?
+new : (c : tie.After-enum-told) → markAfter (c .before .before .args .deed) (c .before .before .args .place) (c .before .before .args .same) ≡ stands 1 0
+new c = ap (λ (d : Deed). markAfter d (c .before .before .args .place) (c .before .before .args .same)) (c .enum-told .given .1)
 
--- src/lib.rt:134:13
-close-requires-2 : tie.Need-close-requires-2
-close-requires-2 c κs = ?
+close-requires : tie.Need-close-requires
+close-requires c κs = let start = c .before .before in closable (start .args .s) 1 0 (start .pre .blank) (new c) (start .pre .marked)
 
--- src/lib.rt:123:1
 returns-2 : tie.Need-returns-2
-returns-2 c = ?
+returns-2 c = c .close .ensures ∙ closed-at (view (c .before .before .before .args .s)) (new (c .before))
 
--- src/lib.rt:123:1
+-- ---- a change of the front task
+
+in-front : (c : tie.After-known-told)
+    → markAfter (c .before .before .before .args .deed) (c .before .before .before .args .place) (c .before .before .before .args .same)
+    ≡ markIn (c .before .deed .given .0 .0) (c .before .before .before .args .same)
+in-front c = let a = c .before .before .before .args in ap (λ (d : Deed). markAfter d (a .place) (a .same)) (c .before .deed .given .1)
+
+close-in-requires : tie.Need-close-in-requires
+close-in-requires c κs =
+    let start = c .before .before .before in (start .pre .blank, marked-at (view (start .args .s)) (in-front c) (start .pre .marked))
+
 returns-3 : tie.Need-returns-3
-returns-3 c = ?
+returns-3 c = c .close-in .ensures ∙ closed-at (view (c .before .before .before .before .args .s)) (in-front (c .before))
 
--- src/lib.rt:123:1
+-- ---- a move and a change
+
+close-in-requires-2 : tie.Need-close-in-requires-2
+close-in-requires-2 c κs =
+    let start = c .before .before .before .before in
+    let a = start .args in
+    let e = mark-first (a .place) (a .same) (c .before .before .deed2 .given .1) (c .if1 .taken) in
+    (start .pre .blank, marked-at (view (a .s)) e (start .pre .marked))
+
+returns : tie.Need-returns
+returns c =
+    let a = c .before .before .before .before .before .args in
+    c .close-in2 .ensures
+    ∙ closed-at (view (a .s)) (mark-first (a .place) (a .same) (c .before .before .before .deed2 .given .1) (c .before .if1 .taken))
+
+close-requires-2 : tie.Need-close-requires-2
+close-requires-2 c κs =
+    let start = c .before .before .before .before in
+    let a = start .args in
+    closable (a .s) 1 0 (start .pre .blank) (mark-behind (a .place) (a .same) (c .before .before .deed2 .given .1) (c .if1 .left)) (start .pre .marked)
+
 returns-4 : tie.Need-returns-4
-returns-4 c = ?
+returns-4 c =
+    let a = c .before .before .before .before .before .args in
+    c .close2 .ensures
+    ∙ closed-at (view (a .s)) (mark-behind (a .place) (a .same) (c .before .before .before .deed2 .given .1) (c .before .if1 .left))
 
 pub close-mark-spec : {M : Type 1} → statement M
 close-mark-spec =
