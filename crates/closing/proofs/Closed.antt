@@ -1,21 +1,20 @@
 -- Closing a screen of a stored session, by the height of its task; and the main place, by the tests that code makes.
-use Prim.Native.Nat.{ℕ, zero, suc, _+_, _-_, _≤_, _<_, pred}
-use mathlib.Core.Path.{_≡_, refl, sym, _∙_, ap, ap₂}
+use Prim.Native.Nat.{ℕ, suc, _-_, _≤_, _<_, pred}
+use mathlib.Core.Path.{_≡_, refl, _∙_, ap, ap₂}
 use mathlib.Core.Bool.{Bool, true, false}
 use mathlib.Core.List.{List, [], _∷_}
 use native.Mathlib.Omega.{arith}
-use lib.Dec.{eqb, ltb}
 use lib.ListN.{length, getD, set}
 use borrow.Author.Tests.{eq-eqb, ne-eqb, lt-ltb, le-ltb}
 use Rattle.model.specs.Lists.{isEmpty, omit, if_then_else_}
-use Rattle.model.specs.Session.{Stack, State, stack, state, noStack, height, count}
-use Rattle.model.specs.Deeds.{mainWithout, closeIn, close}
+use Rattle.model.specs.Session.{Stack, stack, state, noStack, height, count}
+use Rattle.model.specs.Deeds.{mainWithout, close}
 use Rattle.model.proofs.ListLaws.{omit-length}
 use Rattle.model.proofs.Close.{closeIn-emptied, closeIn-kept, shortened}
 use Rattle.session.specs.declared.Session.{Session}
 use Rattle.session.specs.declared.Task.{Task}
-use Rattle.session.specs.Stored.{view, viewTask, hold, holdTask, noTask, storageBlank}
-use Rattle.session.proofs.Known.{Sized, Screens32}
+use Rattle.session.specs.Stored.{view, viewTask, hold, holdTask, noTask}
+use Rattle.session.proofs.Known.{Sized}
 use Rattle.session.proofs.StoredLaws.{held, view-at, blank-few, sized-at}
 use Rattle.session.proofs.SessionLaws.{stored, hold-set}
 use Rattle.deeds.proofs.Changes.{blank-height}

@@ -2,12 +2,12 @@
 use Prim.Native.Nat.{ℕ, suc, _+_, _-_, _≤_, _<_}
 use mathlib.Core.Path.{_≡_, sym, _∙_, ap, ap₂}
 use mathlib.Core.Bool.{true}
-use mathlib.Core.List.{List, [], _∷_, _++_, map, reverse, reverse-append}
+use mathlib.Core.List.{List, _++_, map, reverse, reverse-append}
 use native.Mathlib.Omega.{arith}
 use lib.ListN.{length, take, drop, replicate, length-map, length-drop, length-reverse}
 use lib.Seq.{take-at, take-append-le, drop-append-le}
 use Rattle.model.specs.Lists.{omit}
-use Rattle.model.specs.Session.{Stack, State, stack, state, count, height, mostTasks, mostHeight}
+use Rattle.model.specs.Session.{State, stack, state, count, height, mostTasks, mostHeight}
 use Rattle.model.proofs.ListLaws.{omit-length, omit-split, map-omit}
 use Rattle.session.specs.declared.Session.{Session}
 use Rattle.session.specs.declared.Task.{Task}

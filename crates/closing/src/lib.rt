@@ -1,6 +1,6 @@
 // Closing a screen of a stored session, and the marked screen of a finishing start. Nothing is checked again.
 
-ghost use Prim.Native.Nat.{ℕ, suc, _+_, _<_};
+ghost use Prim.Native.Nat.{suc, _+_, _<_};
 ghost use mathlib.Core.Path.{_≡_};
 ghost use mathlib.Core.Bool.{true};
 ghost use Rattle.model.specs.Lists.{omit};

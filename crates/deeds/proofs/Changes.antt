@@ -1,21 +1,21 @@
 -- A change of a stored task's screens, by what stands in the array: clear to b, and lift. What is needed of the task is
 -- that its storage holds 0 above the height.
-use Prim.Native.Nat.{ℕ, zero, suc, _+_, _-_, _≤_, _<_, pred}
-use mathlib.Core.Path.{_≡_, refl, sym, _∙_, ap, ap₂}
-use mathlib.Core.Bool.{Bool, true, _&&_}
-use mathlib.Core.List.{List, [], _∷_, reverse}
+use Prim.Native.Nat.{ℕ, suc, _+_, _-_, _≤_, _<_, pred}
+use mathlib.Core.Path.{_≡_, sym, _∙_, ap}
+use mathlib.Core.Bool.{true}
+use mathlib.Core.List.{List, reverse}
 use native.Mathlib.Omega.{arith}
 use lib.Dec.{leb, eqb}
-use lib.ListN.{length, getD, take, drop, replicate, length-reverse}
+use lib.ListN.{getD, drop, replicate, length-reverse}
 use borrow.Author.Tests.{leb-true, eqb-true}
 use Rattle.model.specs.declared.Change.{Change}
 use Rattle.model.specs.Lists.{all, find, toFront}
-use Rattle.model.specs.Session.{Stack, stack, height, mostHeight}
+use Rattle.model.specs.Session.{stack, height, mostHeight}
 use Rattle.model.specs.Deeds.{changed}
 use Rattle.model.proofs.Logic.{and-left}
 use Rattle.model.proofs.ListLaws.{FoundAt, find-spec, toFront-zero}
 use Rattle.session.specs.declared.Task.{Task}
-use Rattle.session.specs.Stored.{viewTask, holdTask, pad, blankAbove, pushed}
+use Rattle.session.specs.Stored.{viewTask, holdTask, blankAbove, pushed}
 use Rattle.session.proofs.Known.{Screens32}
 use Rattle.session.proofs.Padding.{drop-pad}
 use Rattle.session.proofs.StoredLaws.{hold-viewTask}
@@ -63,7 +63,7 @@ module _ (t : Task) (l : Screens32 t) (e : blankAbove t ≡ true) where
       pub place-low : p ≤ t .height
       place-low = let h = blank-height in omega (arith, found .inside)
 
-      abbrev same : pred (find (eqb b) xs) ≡ p - 1
+      same : pred (find (eqb b) xs) ≡ p - 1
       same = let g : pred p ≡ p - 1 = omega arith in ap pred (sym f) ∙ g
 
       pub clear-found : holdTask (stack (t .root) (changed (eqb b) b Change.Clear xs)) ≡ lowest (t .height + 1 - p) t

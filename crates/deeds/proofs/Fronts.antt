@@ -1,17 +1,16 @@
 -- A stored task of a session with blank storage; the front task changed; and what is ready for a change after a move.
-use Prim.Native.Nat.{ℕ, zero, suc, _-_, _≤_, _<_, pred}
-use mathlib.Core.Path.{_≡_, refl, sym, _∙_, ap, ap₂}
-use mathlib.Core.Bool.{Bool, true, _&&_}
-use mathlib.Core.List.{List, [], _∷_, map, reverse}
+use Prim.Native.Nat.{ℕ, _≤_, _<_, pred}
+use mathlib.Core.Path.{_≡_, refl, _∙_, ap, ap₂}
+use mathlib.Core.Bool.{true, _&&_}
+use mathlib.Core.List.{List, [], _∷_, reverse}
 use native.Mathlib.Nat.{not-suc-le-zero}
 use native.Mathlib.Omega.{arith}
 use lib.Dec.{leb}
 use lib.ListN.{length, getD, set, take, drop, length-take, length-reverse}
 use lib.Seq.{getD-take, length-take-le}
 use Rattle.model.specs.declared.Change.{Change}
-use Rattle.model.specs.declared.Deed.{Deed}
-use Rattle.model.specs.Lists.{all, All, onFirst, toFront}
-use Rattle.model.specs.Session.{Stack, State, stack, state, noStack, taskAt, front, height, count, mostTasks, mostHeight}
+use Rattle.model.specs.Lists.{all, onFirst}
+use Rattle.model.specs.Session.{Stack, stack, state, noStack, taskAt, front, height, count, mostTasks, mostHeight}
 use Rattle.model.specs.Deeds.{move, changeFront}
 use Rattle.model.proofs.Logic.{and-left, and-right, All-at, All-map, all-decides, self-decides}
 use Rattle.model.proofs.ListLaws.{toFront-length, All-take, All-toFront, All-to-map}
@@ -22,7 +21,7 @@ use Rattle.session.specs.Stored.{view, viewTask, hold, holdTask, noTask, blankA
 use Rattle.session.proofs.Known.{Sized, Screens32}
 use Rattle.session.proofs.StoredLaws.{Fits, held, view-hold, hold-blank, view-at, view-count, blank-few}
 use Rattle.session.proofs.SessionLaws.{stored, hold-set}
-use Rattle.deeds.specs.Carriable.{HasRoom, Finds}
+use Rattle.deeds.specs.Carriable.{HasRoom}
 
 -- a change of the first element is a store
 on-first-set : {A : Type 0} (f : A → A) (d : A) (xs : List A) → 1 ≤ length xs → onFirst f xs ≡ set xs 0 (f (getD xs 0 d))

@@ -7,7 +7,7 @@ use native.Mathlib.Omega.{arith}
 use native.Mathlib.Numerals.{add-one}
 use native.Mathlib.Nat.{not-suc-le-zero}
 use lib.ListN.{length, getD, set, take, drop, replicate, length-drop}
-use lib.Seq.{set-at, drop-cons, take-suc, append-snoc, length-take-le, drop-drop, getD-drop, paste, paste-zero, paste-suc, length-paste}
+use lib.Seq.{set-at, drop-cons, take-suc, append-snoc, length-take-le, drop-drop, getD-drop, paste, paste-zero, paste-suc}
 use Rattle.session.specs.Stored.{pad}
 use Rattle.session.proofs.Padding.{take-pad, drop-pad}
 use Rattle.session.proofs.TaskLaws.{lift-copied}
@@ -45,24 +45,21 @@ module _ {A : Type 0} where
   -- ---- one is gone, and those behind it come nearer
 
   -- after j turns
-  abbrev pub closing : ℕ → ℕ → List A → List A
-  closing m j xs = paste xs m (drop (suc m) xs) j
+  abbrev pub closingUp : ℕ → ℕ → List A → List A
+  closingUp m j xs = paste xs m (drop (suc m) xs) j
 
-  pub close-begin : (m : ℕ) (xs : List A) → xs ≡ closing m 0 xs
+  pub close-begin : (m : ℕ) (xs : List A) → xs ≡ closingUp m 0 xs
   close-begin m xs = paste-zero xs m (drop (suc m) xs)
 
   pub close-step : (d : A) (m j : ℕ) (xs : List A) → m + j + 1 < length xs
-      → set (closing m j xs) (m + j) (getD xs (m + j + 1) d) ≡ closing m (j + 1) xs
+      → set (closingUp m j xs) (m + j) (getD xs (m + j + 1) d) ≡ closingUp m (j + 1) xs
   close-step d m j xs h =
       let n : suc m + j ≡ m + j + 1 = omega arith in
-      ap (λ (x : A). set (closing m j xs) (m + j) x) (sym (getD-drop (suc m) xs j d ∙ ap (λ (i : ℕ). getD xs i d) n))
+      ap (λ (x : A). set (closingUp m j xs) (m + j) x) (sym (getD-drop (suc m) xs j d ∙ ap (λ (i : ℕ). getD xs i d) n))
       ∙ paste-suc xs m (drop (suc m) xs) j d (omega arith) (omega (arith, length-drop (suc m) xs))
-      ∙ ap (λ (i : ℕ). closing m i xs) (sym (add-one j))
+      ∙ ap (λ (i : ℕ). closingUp m i xs) (sym (add-one j))
 
-  pub length-closing : (m j : ℕ) (xs : List A) → m + j < length xs → length (closing m j xs) ≡ length xs
-  length-closing m j xs h = length-paste xs m (drop (suc m) xs) j (omega arith) (omega (arith, length-drop (suc m) xs))
-
-  pub close-end : (m k : ℕ) (x : A) (xs : List A) → m + k < length xs → set (closing m k xs) (m + k) x ≡ closedUp m k x xs
+  pub close-end : (m k : ℕ) (x : A) (xs : List A) → m + k < length xs → set (closingUp m k xs) (m + k) x ≡ closedUp m k x xs
   close-end m k x xs h = lift-copied xs m k x (omega arith)
 
   -- ---- the last are blanked

@@ -1,13 +1,13 @@
 // What a rule does, carried out on stored sessions. Nothing is checked again: what is needed is required.
 
-ghost use Prim.Native.Nat.{ℕ, suc, _+_, _≤_, _<_};
+ghost use Prim.Native.Nat.{_+_, _≤_, _<_};
 ghost use mathlib.Core.Path.{_≡_};
 ghost use mathlib.Core.Bool.{true};
 ghost use mathlib.Core.List.{[], _∷_};
 ghost use lib.Dec.{eqb};
 ghost use Rattle.model.specs.Lists.{further};
-ghost use Rattle.model.specs.Session.{stack, front, height};
-ghost use Rattle.model.specs.declared.Change.{Change as ChangeOf};
+ghost use Rattle.model.specs.Session.{stack, front};
+ghost use Rattle.model.specs.declared.Change.{Change};
 ghost use Rattle.model.specs.Deeds.{mainMoved, move, putNew, changed as changedScreens, changeFront, carryOut};
 ghost use Rattle.session.specs.Stored.{view, viewTask, hold, holdTask, blankAbove, storageBlank};
 ghost use Rattle.deeds.specs.Carriable.{HasRoom, Carriable};
@@ -138,7 +138,7 @@ pub fn closed_up(t: Task, m: usize, k: usize, b: u8) -> Task
 // Clear to b: all above the topmost b goes.
 fn cleared(t: Task, b: u8) -> Task
     requires { ⌜ blankAbove t ≡ true ⌝ }
-    ensures { λ r. ⌜ r ≡ holdTask (stack (t .root) (changedScreens (eqb b) b ChangeOf.Clear (viewTask t .screens))) ⌝ }
+    ensures { λ r. ⌜ r ≡ holdTask (stack (t .root) (changedScreens (eqb b) b Change.Clear (viewTask t .screens))) ⌝ }
 {
     let place = search::topmost(t, b);
     if place == 0 {
@@ -150,7 +150,7 @@ fn cleared(t: Task, b: u8) -> Task
 // Lift: the topmost b goes to the top.
 fn lifted(t: Task, b: u8) -> Task
     requires { ⌜ blankAbove t ≡ true ⌝ }
-    ensures { λ r. ⌜ r ≡ holdTask (stack (t .root) (changedScreens (eqb b) b ChangeOf.Lift (viewTask t .screens))) ⌝ }
+    ensures { λ r. ⌜ r ≡ holdTask (stack (t .root) (changedScreens (eqb b) b Change.Lift (viewTask t .screens))) ⌝ }
 {
     let place = search::topmost(t, b);
     if place == 0 {

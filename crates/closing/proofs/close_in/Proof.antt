@@ -1,9 +1,8 @@
 -- `closing::close_in` meets its contract, change by change: first where the mark stands, then what closes.
 use mathlib.Core.Path.{_≡_, _∙_, ap, ap₂}
-use mathlib.Core.Bool.{Bool, true, false}
 use borrow.Author.Needs.{needs}
 use Rattle.model.specs.declared.Change.{Change}
-use Rattle.model.specs.Marks.{Mark, gone, stands, markIn}
+use Rattle.model.specs.Marks.{stands, markIn}
 use Rattle.session.specs.Stored.{view}
 use Rattle.session.proofs.Known.{sized}
 use Rattle.closing.proofs.Marked.{closable, closed-at, closed-gone}

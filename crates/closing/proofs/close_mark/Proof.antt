@@ -1,10 +1,8 @@
 -- `closing::close_mark` meets its contract, deed by deed: first where the mark stands, then what closes.
-use Prim.Native.Nat.{_≤_, _<_}
 use mathlib.Core.Path.{_≡_, _∙_, ap}
-use mathlib.Core.Bool.{Bool, true, false}
 use borrow.Author.Needs.{needs}
 use Rattle.model.specs.declared.Deed.{Deed}
-use Rattle.model.specs.Marks.{Mark, gone, stands, markIn, markAfter}
+use Rattle.model.specs.Marks.{stands, markIn, markAfter}
 use Rattle.session.specs.Stored.{view}
 use Rattle.closing.proofs.Marked.{marked-at, closable, closed-at, mark-first, mark-behind}
 use Rattle.closing.proofs.close_mark.Statement.{statement}

@@ -1,5 +1,4 @@
 -- `closing::main_without` meets its contract: the tests are those of the definition, in its order.
-use Prim.Native.Nat.{_<_}
 use mathlib.Core.Path.{sym}
 use borrow.Author.Needs.{needs}
 use Rattle.closing.proofs.Closed.{without-itself, without-behind, without-before}

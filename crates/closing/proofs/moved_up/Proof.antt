@@ -1,19 +1,19 @@
 -- `closing::moved_up` meets its contract. The loop's invariant: j tasks have come one place nearer.
-use Prim.Native.Nat.{ℕ, _+_, _-_, _*_, _≤_, _<_}
-use mathlib.Core.Path.{_≡_, sym, _∙_, ap}
+use Prim.Native.Nat.{ℕ, _+_, _-_, _≤_}
+use mathlib.Core.Path.{_≡_, _∙_, ap}
 use native.Mathlib.Omega.{arith}
 use borrow.Author.Needs.{needs}
 use lib.ListN.{length, getD, set}
 use Rattle.session.specs.declared.Session.{Session}
 use Rattle.session.specs.Stored.{noTask, blankTask}
 use Rattle.session.proofs.Known.{long}
-use Rattle.deeds.specs.Rows.{closedUp, withTasks}
-use Rattle.deeds.proofs.Rows.{closing, close-begin, close-step, close-end}
+use Rattle.deeds.specs.Rows.{withTasks}
+use Rattle.deeds.proofs.Rows.{closingUp, close-begin, close-step, close-end}
 use Rattle.closing.proofs.moved_up.Statement.{statement}
 use Rattle.closing.proofs.moved_up.Tie as tie
 
 abbrev Inv-loop : tie.InvT-loop
-Inv-loop m k s out₀ j₀ out j = (j ≤ k) × (out ≡ withTasks s (closing m j (s .tasks)))
+Inv-loop m k s out₀ j₀ out j = (j ≤ k) × (out ≡ withTasks s (closingUp m j (s .tasks)))
 
 abbrev μ-loop : tie.MeasureT-loop
 μ-loop m k s out₀ j₀ out j = k - j
@@ -56,7 +56,7 @@ loop-again c =
     let t = getD (a .t1 .tasks) (a .m + here .j + 1) noTask in (
       omega arith,
       ap (λ (o : Session). withTasks o (set (o .tasks) (a .m + here .j) t)) (here .inv .1)
-      ∙ ap (withTasks (a .t1)) (close-step noTask (a .m) (here .j) (a .t1 .tasks) (omega arith)),
+          ∙ ap (withTasks (a .t1)) (close-step noTask (a .m) (here .j) (a .t1 .tasks) (omega arith)),
     )
 
 add-blank : tie.Need-add-blank Inv-loop μ-loop
@@ -75,7 +75,7 @@ returns c =
     let l : length (a .t1 .tasks) ≡ 16 = search (needs, long) in
     let k : here .j ≡ a .k = omega arith in
     ap (λ (o : Session). withTasks o (set (o .tasks) (a .m + a .k) blankTask)) (here .inv .1)
-    ∙ ap (λ (j : ℕ). withTasks (a .t1) (set (closing (a .m) j (a .t1 .tasks)) (a .m + a .k) blankTask)) k
+    ∙ ap (λ (j : ℕ). withTasks (a .t1) (set (closingUp (a .m) j (a .t1 .tasks)) (a .m + a .k) blankTask)) k
     ∙ ap (withTasks (a .t1)) (close-end (a .m) (a .k) blankTask (a .t1 .tasks) (omega arith))
 
 pub moved-up-spec : {M : Type 1} → statement M

@@ -1,13 +1,12 @@
 -- `deeds::carry_out` meets its contract, deed by deed.
-use Prim.Native.Nat.{ℕ, _≤_, _<_}
+use Prim.Native.Nat.{ℕ, _≤_}
 use mathlib.Core.Path.{_≡_, sym, _∙_, ap, subst}
 use mathlib.Core.Bool.{true}
 use native.Mathlib.Omega.{arith}
 use borrow.Author.Needs.{needs}
 use lib.Dec.{eqb}
-use Rattle.model.specs.declared.Change.{Change}
 use Rattle.model.specs.declared.Deed.{Deed}
-use Rattle.model.specs.Session.{State, front, count}
+use Rattle.model.specs.Session.{State, front}
 use Rattle.model.specs.Deeds.{move, changed, changeFront, carryOut}
 use Rattle.session.specs.declared.Session.{Session}
 use Rattle.session.specs.Stored.{view, hold, storageBlank}
@@ -17,8 +16,6 @@ use Rattle.deeds.specs.Carriable.{HasRoom, Finds, Carriable}
 use Rattle.deeds.proofs.Fronts.{counted, moved-ready}
 use Rattle.deeds.proofs.carry_out.Statement.{statement}
 use Rattle.deeds.proofs.carry_out.Tie as tie
-use Rattle.deeds.proofs.carry_out.Reads as reads
-use Rattle.deeds.proofs.carry_out.Lts as lts
 
 -- what is required, and what the contract says, of the deed that the match found
 found : (s : Session) (p : ℕ) {deed d : Deed} → Carriable s deed p → deed ≡ d → Finds d p (view s)

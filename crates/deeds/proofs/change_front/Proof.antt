@@ -1,10 +1,8 @@
 -- `deeds::change_front` meets its contract: the front task is stored changed.
-use Prim.Native.Nat.{_≤_, _<_}
-use mathlib.Core.Path.{_≡_, sym, _∙_, ap}
+use mathlib.Core.Path.{sym, _∙_, ap}
 use borrow.Author.Needs.{needs}
 use lib.Dec.{eqb}
 use lib.ListN.{set}
-use Rattle.model.specs.Session.{Stack, height, mostHeight}
 use Rattle.model.specs.Deeds.{changed}
 use Rattle.session.specs.declared.Task.{Task}
 use Rattle.session.proofs.Known.{sized}
@@ -12,8 +10,6 @@ use Rattle.session.proofs.SessionLaws.{stored}
 use Rattle.deeds.proofs.Fronts.{stored-blank, front-is, changed-stored}
 use Rattle.deeds.proofs.change_front.Statement.{statement}
 use Rattle.deeds.proofs.change_front.Tie as tie
-use Rattle.deeds.proofs.change_front.Reads as reads
-use Rattle.deeds.proofs.change_front.Lts as lts
 
 element-copy-out-t : tie.Need-element-copy-out-t
 element-copy-out-t c = search needs

@@ -1,20 +1,18 @@
 -- `deeds::changed` meets its contract, change by change.
-use Prim.Native.Nat.{ℕ, _≤_, _<_}
+use Prim.Native.Nat.{ℕ}
 use mathlib.Core.Path.{_≡_, refl, sym, _∙_, ap}
 use native.Mathlib.Omega.{arith}
 use borrow.Author.Needs.{needs}
 use lib.Dec.{eqb}
 use lib.ListN.{length}
 use Rattle.model.specs.declared.Change.{Change}
-use Rattle.model.specs.Session.{stack, height}
+use Rattle.model.specs.Session.{stack}
 use Rattle.model.specs.Deeds.{changed}
 use Rattle.session.specs.declared.Task.{Task}
 use Rattle.session.specs.Stored.{viewTask, holdTask}
 use Rattle.deeds.proofs.Changes.{blank-height, kept, push-is}
 use Rattle.deeds.proofs.changed.Statement.{statement}
 use Rattle.deeds.proofs.changed.Tie as tie
-use Rattle.deeds.proofs.changed.Reads as reads
-use Rattle.deeds.proofs.changed.Lts as lts
 
 -- what the contract says, of the change that the match found
 told : (t : Task) (b : ℕ) {change d : Change} → change ≡ d

@@ -1,5 +1,4 @@
 -- `deeds::cleared` meets its contract: nothing where b does not stand, else what stands above the topmost b goes.
-use Prim.Native.Nat.{_+_, _-_, _≤_}
 use mathlib.Core.Path.{_≡_, sym, _∙_}
 use native.Mathlib.Omega.{arith}
 use borrow.Author.Needs.{needs}
@@ -7,8 +6,6 @@ use lib.ListN.{length}
 use Rattle.deeds.proofs.Changes.{blank-low, place-low, clear-nothing, clear-found}
 use Rattle.deeds.proofs.cleared.Statement.{statement}
 use Rattle.deeds.proofs.cleared.Tie as tie
-use Rattle.deeds.proofs.cleared.Reads as reads
-use Rattle.deeds.proofs.cleared.Lts as lts
 
 topmost-requires : tie.Need-topmost-requires
 topmost-requires c κs = blank-low (c .args .t) (c .pre)

@@ -1,19 +1,17 @@
 -- `deeds::closed_up` meets its contract. The loop's invariant: j screens have come down by one.
-use Prim.Native.Nat.{ℕ, _+_, _-_, _≤_, _<_}
-use mathlib.Core.Path.{_≡_, sym, _∙_, ap}
+use Prim.Native.Nat.{ℕ, _+_, _-_, _≤_}
+use mathlib.Core.Path.{_≡_, _∙_, ap}
 use native.Mathlib.Omega.{arith}
 use borrow.Author.Needs.{needs}
 use lib.ListN.{length, getD, set}
 use Rattle.session.specs.declared.Task.{Task}
-use Rattle.deeds.specs.Rows.{closedUp, withScreens}
-use Rattle.deeds.proofs.Rows.{closing, close-begin, close-step, close-end}
+use Rattle.deeds.specs.Rows.{withScreens}
+use Rattle.deeds.proofs.Rows.{closingUp, close-begin, close-step, close-end}
 use Rattle.deeds.proofs.closed_up.Statement.{statement}
 use Rattle.deeds.proofs.closed_up.Tie as tie
-use Rattle.deeds.proofs.closed_up.Reads as reads
-use Rattle.deeds.proofs.closed_up.Lts as lts
 
 abbrev Inv-loop : tie.InvT-loop
-Inv-loop m k b t out₀ j₀ out j = (j ≤ k) × (out ≡ withScreens t (closing m j (t .screens)))
+Inv-loop m k b t out₀ j₀ out j = (j ≤ k) × (out ≡ withScreens t (closingUp m j (t .screens)))
 
 abbrev μ-loop : tie.MeasureT-loop
 μ-loop m k b t out₀ j₀ out j = k - j
@@ -50,7 +48,7 @@ loop-again c =
     let x = getD (a .t1 .screens) (a .m + here .j + 1) 0 in (
       omega arith,
       ap (λ (o : Task). withScreens o (set (o .screens) (a .m + here .j) x)) (here .inv .1)
-      ∙ ap (withScreens (a .t1)) (close-step 0 (a .m) (here .j) (a .t1 .screens) (omega arith)),
+          ∙ ap (withScreens (a .t1)) (close-step 0 (a .m) (here .j) (a .t1 .screens) (omega arith)),
     )
 
 add-out-4 : tie.Need-add-out-4 Inv-loop μ-loop
@@ -66,7 +64,7 @@ returns c =
     let l : length (a .t1 .screens) ≡ 32 = search needs in
     let k : here .j ≡ a .k = omega arith in
     ap (λ (o : Task). withScreens o (set (o .screens) (a .m + a .k) (a .b))) (here .inv .1)
-    ∙ ap (λ (j : ℕ). withScreens (a .t1) (set (closing (a .m) j (a .t1 .screens)) (a .m + a .k) (a .b))) k
+    ∙ ap (λ (j : ℕ). withScreens (a .t1) (set (closingUp (a .m) j (a .t1 .screens)) (a .m + a .k) (a .b))) k
     ∙ ap (withScreens (a .t1)) (close-end (a .m) (a .k) (a .b) (a .t1 .screens) (omega arith))
 
 pub closed-up-spec : {M : Type 1} → statement M

@@ -1,5 +1,5 @@
 -- `deeds::lifted` meets its contract: nothing where b does not stand, else the topmost b goes to the top.
-use Prim.Native.Nat.{_+_, _-_, _≤_}
+use Prim.Native.Nat.{_≤_}
 use mathlib.Core.Path.{_≡_, sym, _∙_}
 use native.Mathlib.Omega.{arith}
 use borrow.Author.Needs.{needs}
@@ -7,8 +7,6 @@ use lib.ListN.{length}
 use Rattle.deeds.proofs.Changes.{blank-low, place-low, lift-nothing, lift-found}
 use Rattle.deeds.proofs.lifted.Statement.{statement}
 use Rattle.deeds.proofs.lifted.Tie as tie
-use Rattle.deeds.proofs.lifted.Reads as reads
-use Rattle.deeds.proofs.lifted.Lts as lts
 
 topmost-requires : tie.Need-topmost-requires
 topmost-requires c κs = blank-low (c .args .t) (c .pre)

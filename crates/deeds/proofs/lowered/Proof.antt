@@ -1,18 +1,16 @@
 -- `deeds::lowered` meets its contract. The loop's invariant: what stands at i and above is 0, the rest is as it was.
-use Prim.Native.Nat.{ℕ, _+_, _-_, _≤_, _<_}
+use Prim.Native.Nat.{ℕ, _-_, _≤_}
 use mathlib.Core.Path.{_≡_, sym, _∙_, ap}
 use mathlib.Core.List.{List, _++_}
 use native.Mathlib.Omega.{arith}
 use borrow.Author.Needs.{needs}
-use lib.ListN.{length, set, take, drop, replicate, take-append-drop}
+use lib.ListN.{length, set, take, replicate, take-append-drop}
 use Rattle.session.specs.declared.Task.{Task}
-use Rattle.deeds.specs.Rows.{lowest, withScreens}
+use Rattle.deeds.specs.Rows.{withScreens}
 use Rattle.deeds.proofs.Rows.{blank-step}
 use Rattle.deeds.proofs.Changes.{blank-low, blank-drop}
 use Rattle.deeds.proofs.lowered.Statement.{statement}
 use Rattle.deeds.proofs.lowered.Tie as tie
-use Rattle.deeds.proofs.lowered.Reads as reads
-use Rattle.deeds.proofs.lowered.Lts as lts
 
 abbrev withHeight : Task → ℕ → Task
 withHeight t h = record { root = t .root; height = h; screens = t .screens }
@@ -54,7 +52,7 @@ loop-again c =
       (
         omega arith,
         ap (λ (o : Task). withScreens o (set (o .screens) (i - 1) 0)) (here .inv .1 .1)
-        ∙ ap (withScreens (withHeight (a .t) (a .h))) (blank-step 32 0 0 i (a .t .screens) (omega arith) (omega arith) (here .inv .1 .0)),
+            ∙ ap (withScreens (withHeight (a .t) (a .h))) (blank-step 32 0 0 i (a .t .screens) (omega arith) (omega arith) (here .inv .1 .0)),
       ),
     )
 

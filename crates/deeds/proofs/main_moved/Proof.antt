@@ -1,13 +1,9 @@
 -- `deeds::main_moved` meets its contract: the tests are those of the definition, in its order.
-use Prim.Native.Nat.{_≤_}
 use mathlib.Core.Path.{sym}
-use native.Mathlib.Omega.{arith}
 use borrow.Author.Needs.{needs}
 use Rattle.deeds.proofs.Places.{moved-none, moved-itself, moved-before, moved-behind}
 use Rattle.deeds.proofs.main_moved.Statement.{statement}
 use Rattle.deeds.proofs.main_moved.Tie as tie
-use Rattle.deeds.proofs.main_moved.Reads as reads
-use Rattle.deeds.proofs.main_moved.Lts as lts
 
 returns : tie.Need-returns
 returns c = sym (moved-none _ _ (c .if1 .taken))

@@ -1,9 +1,9 @@
 -- `deeds::put_front` meets its contract. The loop's invariant: the first i tasks have gone one place back.
-use Prim.Native.Nat.{ℕ, _+_, _-_, _≤_, _<_}
-use mathlib.Core.Path.{_≡_, sym, _∙_, ap, ap₂}
+use Prim.Native.Nat.{ℕ, _+_, _-_, _≤_}
+use mathlib.Core.Path.{_≡_, _∙_, ap, ap₂}
 use native.Mathlib.Omega.{arith}
 use borrow.Author.Needs.{needs}
-use lib.ListN.{length, getD, set, length-set}
+use lib.ListN.{length, getD, set}
 use lib.Seq.{getD-set-same}
 use Rattle.session.specs.declared.Task.{Task}
 use Rattle.session.specs.declared.Session.{Session}
@@ -13,8 +13,6 @@ use Rattle.deeds.specs.Rows.{shifted, withTasks}
 use Rattle.deeds.proofs.Rows.{shift-begin, shift-step}
 use Rattle.deeds.proofs.put_front.Statement.{statement}
 use Rattle.deeds.proofs.put_front.Tie as tie
-use Rattle.deeds.proofs.put_front.Reads as reads
-use Rattle.deeds.proofs.put_front.Lts as lts
 
 abbrev Inv-loop : tie.InvT-loop
 Inv-loop k s out₀ i₀ out i = (i ≤ k) × (out ≡ withTasks s (shifted (getD (out₀ .tasks) 0 noTask) i (s .tasks)))
@@ -57,7 +55,7 @@ loop-again c =
     let x = getD (s .tasks) (here .i) noTask in (
       omega arith,
       ap (λ (o : Session). withTasks o (set (o .tasks) (here .i + 1) x)) (here .inv .1)
-      ∙ ap (withTasks s) (shift-step _ noTask (here .i) (s .tasks) (omega arith)),
+          ∙ ap (withTasks s) (shift-step _ noTask (here .i) (s .tasks) (omega arith)),
     )
 
 returns : tie.Need-returns Inv-loop μ-loop

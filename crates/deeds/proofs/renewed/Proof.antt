@@ -4,8 +4,6 @@ use borrow.Author.Needs.{needs}
 use Rattle.session.specs.Stored.{holdTask, pad}
 use Rattle.deeds.proofs.renewed.Statement.{statement}
 use Rattle.deeds.proofs.renewed.Tie as tie
-use Rattle.deeds.proofs.renewed.Reads as reads
-use Rattle.deeds.proofs.renewed.Lts as lts
 
 array-write-screens : tie.Need-array-write-screens
 array-write-screens c = search needs

@@ -1,6 +1,6 @@
 -- `deeds::to_front` meets its contract: the tasks before the place go one place back, and the task there comes first.
-use Prim.Native.Nat.{ℕ, _-_, _≤_, _<_}
-use mathlib.Core.Path.{_≡_, sym, _∙_, ap₂}
+use Prim.Native.Nat.{ℕ}
+use mathlib.Core.Path.{sym, _∙_, ap₂}
 use native.Mathlib.Omega.{arith}
 use borrow.Author.Needs.{needs}
 use Rattle.session.specs.declared.Session.{Session}
@@ -10,8 +10,6 @@ use Rattle.session.proofs.SessionLaws.{stored}
 use Rattle.deeds.proofs.Moves.{moved-stored}
 use Rattle.deeds.proofs.to_front.Statement.{statement}
 use Rattle.deeds.proofs.to_front.Tie as tie
-use Rattle.deeds.proofs.to_front.Reads as reads
-use Rattle.deeds.proofs.to_front.Lts as lts
 
 sub-k : tie.Need-sub-k
 sub-k c = search needs
