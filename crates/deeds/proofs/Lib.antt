@@ -3,3 +3,4 @@ pub mod Places
 pub mod Fronts
 pub mod Moves
 pub mod Changes
+pub mod Carried

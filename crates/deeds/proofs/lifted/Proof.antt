@@ -45,10 +45,10 @@ closed-up-requires c κs = let f = blank-low (c .before .before .before .args .t
 returns-2 : tie.Need-returns-2
 returns-2 c =
     let start = c .before .before .before .before in
-    let t = start .args .t in
-    let top = c .before .before .before .topmost in
-    let l : length (t .screens) ≡ 32 = search needs in
-    c .closed-up .ensures ∙ sym (lift-found t l (start .pre) (start .args .b) (top .result) (top .ensures) (c .before .before .if1 .left))
+    let l : length (start .args .t .screens) ≡ 32 = search needs in
+    c .closed-up .ensures
+    ∙ sym (lift-found (start .args .t) l (start .pre) (start .args .b) (c .before .before .before .topmost .result)
+    (c .before .before .before .topmost .ensures) (c .before .before .if1 .left))
 
 pub lifted-spec : {M : Type 1} → statement M
 lifted-spec = tie.close (tie.spec topmost-requires returns sub-closed-up cast-closed-up sub-closed-up-2 cast-closed-up-2 closed-up-requires returns-2)
