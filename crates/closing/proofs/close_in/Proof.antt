@@ -1,11 +1,12 @@
 -- `closing::close_in` meets its contract, change by change: first where the mark stands, then what closes.
 use mathlib.Core.Path.{_≡_, _∙_, ap, ap₂}
+use native.Mathlib.Omega.{arith}
 use borrow.Author.Needs.{needs}
 use Rattle.model.specs.declared.Change.{Change}
 use Rattle.model.specs.Marks.{stands, markIn}
 use Rattle.session.specs.Stored.{view}
 use Rattle.session.proofs.Known.{sized}
-use Rattle.closing.proofs.Marked.{closable, closed-at, closed-gone}
+use Rattle.closing.proofs.Marked.{marked-at, closable, closed-at, closed-gone}
 use Rattle.closing.proofs.close_in.Statement.{statement}
 use Rattle.closing.proofs.close_in.Tie as tie
 
@@ -76,7 +77,9 @@ lift-other c = ap₂ markIn (c .before .enum-told4 .given .1) (c .if2 .left)
 
 close-requires-4 : tie.Need-close-requires-4
 close-requires-4 c κs =
-    let start = c .before .before .before in closable (start .args .s) 0 1 (start .pre .0) (lift-other c) (start .pre .1)
+    let start = c .before .before .before in
+    let m = marked-at (view (start .args .s)) (lift-other c) (start .pre .1) in
+    record { blank = start .pre .0; there = omega arith }
 
 returns-6 : tie.Need-returns-6
 returns-6 c = c .close4 .ensures ∙ closed-at (view (c .before .before .before .before .args .s)) (lift-other (c .before))
@@ -87,7 +90,10 @@ push : (c : tie.After-enum-told5) → markIn (c .before .before .args .change) (
 push c = ap (λ (d : Change). markIn d (c .before .before .args .same)) (c .enum-told5 .given .1)
 
 close-requires-5 : tie.Need-close-requires-5
-close-requires-5 c κs = let start = c .before .before in closable (start .args .s) 0 1 (start .pre .0) (push c) (start .pre .1)
+close-requires-5 c κs =
+    let start = c .before .before in
+    let m = marked-at (view (start .args .s)) (push c) (start .pre .1) in
+    record { blank = start .pre .0; there = omega arith }
 
 returns-7 : tie.Need-returns-7
 returns-7 c = c .close5 .ensures ∙ closed-at (view (c .before .before .before .args .s)) (push (c .before))
