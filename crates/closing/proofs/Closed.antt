@@ -1,0 +1,89 @@
+-- Closing a screen of a stored session, by the height of its task; and the main place, by the tests that code makes.
+use Prim.Native.Nat.{ℕ, suc, _-_, _≤_, _<_, pred}
+use mathlib.Core.Path.{_≡_, refl, _∙_, ap, ap₂}
+use mathlib.Core.Bool.{Bool, true, false}
+use mathlib.Core.List.{List, [], _∷_}
+use native.Mathlib.Omega.{arith}
+use lib.ListN.{length, getD, set}
+use borrow.Author.Tests.{eq-eqb, ne-eqb, lt-ltb, le-ltb}
+use Rattle.model.specs.Lists.{isEmpty, omit, if_then_else_}
+use Rattle.model.specs.Session.{Stack, stack, state, noStack, height, count}
+use Rattle.model.specs.Deeds.{mainWithout, close}
+use Rattle.model.proofs.ListLaws.{omit-length}
+use Rattle.model.proofs.Close.{closeIn-emptied, closeIn-kept, shortened}
+use Rattle.session.specs.declared.Session.{Session}
+use Rattle.session.specs.declared.Task.{Task}
+use Rattle.session.specs.Stored.{view, viewTask, hold, holdTask, noTask}
+use Rattle.session.proofs.Known.{Sized}
+use Rattle.session.proofs.StoredLaws.{held, view-at, blank-few, sized-at}
+use Rattle.session.proofs.SessionLaws.{stored, hold-set}
+use Rattle.deeds.proofs.Changes.{blank-height}
+use Rattle.deeds.proofs.Fronts.{counted, stored-blank}
+use Rattle.closing.specs.Closable.{Closable}
+
+-- ---- the main place
+
+module _ (p m : ℕ) where
+  pub without-itself : m ≡ p → mainWithout p m ≡ 0
+  unfolding mainWithout
+  without-itself e = rw (eq-eqb m p e)
+
+  module _ (other : m ≡ p → ⊥) where
+    pub without-behind : p < m → mainWithout p m ≡ m - 1
+    unfolding mainWithout
+    without-behind l = let e : pred m ≡ m - 1 = omega arith in rw (ne-eqb m p other, lt-ltb p m l) e
+
+    pub without-before : m ≤ p → mainWithout p m ≡ m
+    unfolding mainWithout
+    without-before l = rw (ne-eqb m p other, le-ltb p m l)
+
+-- ---- closing
+
+empty-is : {A : Type 0} (xs : List A) → length xs ≡ 0 → isEmpty xs ≡ true
+empty-is [] e = refl
+empty-is (x ∷ xs) e = absurd (omega arith)
+
+filled-is : {A : Type 0} (xs : List A) → (length xs ≡ 0 → ⊥) → isEmpty xs ≡ false
+filled-is [] n = absurd (n refl)
+filled-is (x ∷ xs) n = refl
+
+module _ (s : Session) (z : Sized s) (k i : ℕ) (c : Closable s k i) where
+  abbrev t : Task
+  t = getD (s .tasks) k noTask
+
+  pub inside : k < s .n
+  inside = let n = counted s z (c .blank) in omega (arith, c .there .0)
+
+  abbrev xs : List ℕ
+  xs = getD (view s .tasks) k noStack .screens
+
+  pub tall : length xs ≡ t .height
+  tall =
+      let few = blank-few s (c .blank) in
+      let h = inside in
+      ap height (view-at s k h) ∙ blank-height t (sized-at s z k (omega arith)) (stored-blank s z (c .blank) k h)
+
+  pub below-low : i < t .height
+  below-low = let h = tall in omega (arith, c .there .1)
+
+  pub closed-last : t .height ≡ 1 → hold (close k i (view s)) ≡ hold (state (omit k (view s .tasks)) (mainWithout (suc k) (s .main)))
+  unfolding close view
+  closed-last one =
+      let h = tall in
+      let e = empty-is (omit i xs) (omega (arith, omit-length i xs (c .there .1))) in
+      ap₂ (λ (ts : List (Stack ℕ)) (b : Bool). hold (state ts (if b then mainWithout (suc k) (s .main) else s .main)))
+      (closeIn-emptied k i (view s .tasks) e) e
+
+  pub closed-kept : (t .height ≡ 1 → ⊥)
+      → hold (close k i (view s)) ≡ stored (set (s .tasks) k (holdTask (stack (t .root) (omit i (viewTask t .screens))))) (s .n) (s .main)
+  unfolding close view viewTask
+  closed-kept more =
+      let h = tall in
+      let n = counted s z (c .blank) in
+      let e = filled-is (omit i xs) (λ q. more (omega (arith, omit-length i xs (c .there .1)))) in
+      ap₂ (λ (ts : List (Stack ℕ)) (b : Bool). hold (state ts (if b then mainWithout (suc k) (s .main) else s .main)))
+      (closeIn-kept k i (view s .tasks) e) e
+      ∙ hold-set (view s) (s .main) k (shortened k i (view s .tasks)) (c .there .0)
+      ∙ ap₂ (λ (o : Session) (u : Stack ℕ). stored (set (o .tasks) k (holdTask (stack (u .root) (omit i (u .screens))))) (count (view s)) (s .main))
+      (held s z (c .blank)) (view-at s k inside)
+      ∙ ap (λ (j : ℕ). stored (set (s .tasks) k (holdTask (stack (t .root) (omit i (viewTask t .screens))))) j (s .main)) n

@@ -1,0 +1,85 @@
+-- One gone from a padded row, as a loop leaves it; so of a stored task's screens, and of a stored session's tasks.
+use Prim.Native.Nat.{ℕ, suc, _+_, _-_, _≤_, _<_}
+use mathlib.Core.Path.{_≡_, sym, _∙_, ap, ap₂}
+use mathlib.Core.Bool.{true}
+use mathlib.Core.List.{List, _++_, map, reverse, reverse-append}
+use native.Mathlib.Omega.{arith}
+use lib.ListN.{length, take, drop, replicate, length-map, length-drop, length-reverse}
+use lib.Seq.{take-at, take-append-le, drop-append-le}
+use Rattle.model.specs.Lists.{omit}
+use Rattle.model.specs.Session.{State, stack, state, count, height, mostTasks, mostHeight}
+use Rattle.model.proofs.ListLaws.{omit-length, omit-split, map-omit}
+use Rattle.session.specs.declared.Session.{Session}
+use Rattle.session.specs.declared.Task.{Task}
+use Rattle.session.specs.Stored.{view, viewTask, hold, holdTask, pad, blankTask, blankAbove, storageBlank}
+use Rattle.session.proofs.Known.{Sized, Screens32}
+use Rattle.session.proofs.Padding.{drop-pad}
+use Rattle.session.proofs.StoredLaws.{held, hold-viewTask, blank-few}
+use Rattle.session.proofs.SessionLaws.{stored}
+use Rattle.session.proofs.TaskLaws.{reverse-drop, reverse-take}
+use Rattle.deeds.specs.Rows.{closedUp}
+use Rattle.deeds.proofs.Changes.{blank-low, blank-height}
+use Rattle.deeds.proofs.Fronts.{counted}
+
+module _ {A : Type 0} where
+  pub pad-closed : (n : ℕ) (z : A) (m k : ℕ) (xs : List A) → m + suc k ≡ length xs → length xs ≤ n
+      → pad n z (omit m xs) ≡ closedUp m k z (pad n z xs)
+  unfolding pad
+  pad-closed n z m k xs e h =
+      let zs = replicate (n - length xs) z in
+      let g : n - length (omit m xs) ≡ suc (n - (m + suc k)) = omega (arith, omit-length m xs (omega arith)) in
+      let t : take k (drop (suc m) (xs ++ zs)) ≡ drop (suc m) xs =
+      rw (drop-append-le (suc m) xs zs (omega arith)) (take-at (drop (suc m) xs) zs k (omega (arith, length-drop (suc m) xs))) in
+      ap₂ (λ (ys : List A) (j : ℕ). ys ++ replicate j z) (omit-split m xs) g
+      ∙ sym (rw (t, take-append-le m xs zs (omega arith), drop-pad n z (m + suc k) xs (sym e)))
+
+  reverse-omit : (m k : ℕ) (xs : List A) → m + suc k ≡ length xs → reverse (omit k xs) ≡ omit m (reverse xs)
+  reverse-omit m k xs e =
+      ap reverse (omit-split k xs) ∙ reverse-append (take k xs) (drop (suc k) xs)
+      ∙ ap₂ _++_ (reverse-drop m (suc k) xs e) (reverse-take (suc m) k xs (omega arith))
+      ∙ sym (omit-split m (reverse xs))
+
+-- ---- a screen gone from a task
+
+hold-short : (r m k : ℕ) (xs : List ℕ) → m + suc k ≡ length xs → length xs ≤ mostHeight
+    → holdTask (stack r (omit k xs)) ≡ record { root = r; height = length xs - 1; screens = closedUp m k 0 (holdTask (stack r xs) .screens) }
+unfolding holdTask
+hold-short r m k xs e h =
+    let n : length (omit k xs) ≡ length xs - 1 = omega (arith, omit-length k xs (omega arith)) in
+    let s : pad mostHeight 0 (reverse (omit k xs)) ≡ closedUp m k 0 (pad mostHeight 0 (reverse xs)) =
+    ap (pad mostHeight 0) (reverse-omit m k xs e)
+    ∙ pad-closed mostHeight 0 m k (reverse xs) (omega (arith, length-reverse xs)) (omega (arith, length-reverse xs)) in
+    λ i. record { root = r; height = n i; screens = s i }
+
+pub screen-gone : (t : Task) → Screens32 t → blankAbove t ≡ true → (k : ℕ) → k < t .height
+    → holdTask (stack (t .root) (omit k (viewTask t .screens)))
+    ≡ record { root = t .root; height = t .height - 1; screens = closedUp (t .height - 1 - k) k 0 (t .screens) }
+unfolding viewTask
+screen-gone t l e k h =
+    let n = blank-height t l e in
+    let low = blank-low t e in
+    let m = t .height - 1 - k in
+    hold-short (t .root) m k (viewTask t .screens) (omega arith) (omega arith)
+    ∙ ap₂ (λ (j : ℕ) (u : Task). record { root = t .root; height = j - 1; screens = closedUp m k 0 (u .screens) }) n (hold-viewTask t l e)
+
+-- ---- a task gone from a session
+
+hold-gone : (v : State ℕ) (n m k : ℕ) → m + suc k ≡ count v → count v ≤ mostTasks
+    → hold (state (omit m (v .tasks)) n) ≡ stored (closedUp m k blankTask (hold v .tasks)) (count v - 1) n
+unfolding hold
+hold-gone v n m k e h =
+    let l : length (omit m (v .tasks)) ≡ count v - 1 = omega (arith, omit-length m (v .tasks) (omega arith)) in
+    let c = length-map (v .tasks) holdTask in
+    let s : pad mostTasks blankTask (map holdTask (omit m (v .tasks))) ≡ closedUp m k blankTask (pad mostTasks blankTask (map holdTask (v .tasks))) =
+    ap (pad mostTasks blankTask) (map-omit holdTask m (v .tasks))
+    ∙ pad-closed mostTasks blankTask m k (map holdTask (v .tasks)) (omega arith) (omega arith) in
+    λ i. stored (s i) (l i) n
+
+pub task-gone : (s : Session) → Sized s → storageBlank s ≡ true → (k n : ℕ) → k < s .n
+    → hold (state (omit k (view s .tasks)) n) ≡ stored (closedUp k (s .n - 1 - k) blankTask (s .tasks)) (s .n - 1) n
+task-gone s z e k n h =
+    let c = counted s z e in
+    let few = blank-few s e in
+    let j = s .n - 1 - k in
+    hold-gone (view s) n k j (omega arith) (omega arith)
+    ∙ ap₂ (λ (o : Session) (i : ℕ). stored (closedUp k j blankTask (o .tasks)) (i - 1) n) (held s z e) c

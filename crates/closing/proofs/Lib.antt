@@ -1,0 +1,4 @@
+pub mod Gaps
+pub mod Closed
+pub mod Marked
+pub mod Finished
