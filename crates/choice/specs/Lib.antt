@@ -1,0 +1,2 @@
+pub mod Startable
+pub mod Places
