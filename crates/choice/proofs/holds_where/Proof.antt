@@ -1,29 +1,16 @@
--- `choice::holds_where` meets its contract: the topmost has a place where there is one.
-use Prim.Native.Nat.{ℕ, zero, suc}
-use mathlib.Core.Path.{_≡_, refl, sym, _∙_, ap}
-use mathlib.Core.Bool.{Bool, true, not}
-use native.Mathlib.Omega.{arith}
+-- `choice::holds_where` meets its contract.
 use borrow.Author.Needs.{needs}
-use borrow.Author.Tests.{ne-eqb, not-true, not-false}
-use lib.Dec.{eqb}
-use Rattle.model.specs.Lists.{isPlace}
-use Rattle.model.specs.Search.{holds}
 use Rattle.choice.proofs.holds_where.Statement.{statement}
 use Rattle.choice.proofs.holds_where.Tie as tie
 
-topmost-requires : tie.Need-topmost-requires
-topmost-requires c κs = search needs
-
-not-zero : (p : ℕ) → not (eqb p 0) ≡ isPlace p
-not-zero zero = refl
-not-zero (suc p) = rw (ne-eqb (suc p) 0 (λ e. omega arith))
+holds-screen-requires : tie.Need-holds-screen-requires
+holds-screen-requires c κs = search needs
 
 returns : tie.Need-returns
-unfolding holds
-returns c = rw (c .before .if1 .taken) (not-zero (c .topmost .result) ∙ ap isPlace (c .topmost .ensures))
+returns c = rw (c .before .if1 .taken) (c .holds-screen .ensures)
 
 returns-2 : tie.Need-returns-2
 returns-2 c = rw (c .if1 .left)
 
 pub holds-where-spec : {M : Type 1} → statement M
-holds-where-spec = tie.close (tie.spec topmost-requires returns returns-2)
+holds-where-spec = tie.close (tie.spec holds-screen-requires returns returns-2)
