@@ -8,7 +8,7 @@ use native.Mathlib.Omega.{arith}
 use lib.ListN.{length, getD}
 use Rattle.model.specs.declared.Found.{Found}
 use Rattle.model.specs.Table.{sizeOf}
-use Rattle.model.specs.Session.{Stack, noStack, taskAt, height, top}
+use Rattle.model.specs.Session.{Stack, noStack, taskAt, frontScreen, top}
 use Rattle.model.specs.Search.{placeOf}
 use Rattle.model.proofs.Logic.{All-at}
 use Rattle.model.proofs.Sound.{TaskSound}
@@ -36,6 +36,10 @@ pub task-at : (c : Session) (p : ℕ) → IsPlace (c .n) p → taskAt (view c .t
 task-at c p h =
     let l : p - 1 < c .n = omega arith in
     ap (λ (i : ℕ). getD (view c .tasks) i noStack) (sym (sub-one p)) ∙ view-at c (p - 1) l
+
+-- "A is the front screen"
+pub front-screen : (c : Session) → 1 ≤ c .n → frontScreen (view c) ≡ top (viewTask (storedAt c 0))
+front-screen c some = ap top (view-at c 0 some)
 
 module _ (c : Session) (z : Sized c) (e : storageBlank c ≡ true) where
   -- a place is a place of the storage, and the task there fits

@@ -233,19 +233,27 @@ pub fn choose(table: &[u8], s: Session, b: u8, f: Flags) -> Choice
     }
 }
 
-// 24 where the change pushes onto a full task, else 0.
+// The change is a push, and not one after the task was emptied.
+fn is_push(change: Change) -> bool
+    ensures { λ r. ⌜ r ≡ isPush change ⌝ }
+{
+    match change {
+        Change::Keep => false,
+        Change::Renew => false,
+        Change::Clear => false,
+        Change::Lift => false,
+        Change::Push => true,
+    }
+}
+
+// 24 where the change pushes onto a task of 32, else 0.
 fn push_refusal(t: Task, change: Change) -> u8
     ensures { λ r. ⌜ r ≡ (if isPush change && eqb (t .height) mostHeight then 24 else 0) ⌝ }
 {
-    match change {
-        Change::Push => {
-            if (t.height as usize) == Session::SCREENS {
-                return 24;
-            }
-            0
-        }
-        _ => 0,
+    if is_push(change) & ((t.height as usize) == Session::SCREENS) {
+        return 24;
     }
+    0
 }
 
 // 23 where a new task is needed and there are 16, 24 for a push onto a task of 32, else 0.

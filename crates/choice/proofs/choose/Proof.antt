@@ -1,78 +1,114 @@
+-- `choice::choose` meets its contract: the mode of b and the front screen decide the group, and in it the task sought
+-- and the first rule that fits are those of the definition.
+use Prim.Native.Nat.{_≤_}
+use mathlib.Core.Path.{_≡_, refl, sym, _∙_, ap}
+use mathlib.Core.Bool.{_||_}
+use native.Mathlib.Omega.{arith}
 use borrow.Author.Needs.{needs}
+use Rattle.model.specs.Table.{isSingleInstance}
+use Rattle.model.specs.Session.{frontScreen}
+use Rattle.model.specs.Rules.{instanceGroup, taskGroup, nearGroup, apartGroup, soughtBy}
+use Rattle.session.specs.Stored.{view}
+use Rattle.session.proofs.Known.{sized}
+use Rattle.session.proofs.StoredLaws.{sound-blank, blank-few}
+use Rattle.choice.proofs.Tasks.{own-row, task-fits, top-row, front-screen}
+use Rattle.choice.proofs.Groups.{group-instance, group-task, group-apart, group-near, chosen-in}
+use Rattle.choice.proofs.Rooms.{seek-among, apart-among}
 use Rattle.choice.proofs.choose.Statement.{statement}
 use Rattle.choice.proofs.choose.Tie as tie
-use Rattle.choice.proofs.choose.Reads as reads
-use Rattle.choice.proofs.choose.Lts as lts
-use Rattle.choice.proofs.apart_rule.Reads as apart-rule-reads
-use Rattle.choice.proofs.instance_rule.Reads as instance-rule-reads
-use Rattle.choice.proofs.is_apart.Reads as is-apart-reads
-use Rattle.choice.proofs.near_rule.Reads as near-rule-reads
-use Rattle.choice.proofs.seek_apart.Reads as seek-apart-reads
-use Rattle.choice.proofs.task_rule.Reads as task-rule-reads
-use Rattle.choice.proofs.top.Reads as top-reads
-use Rattle.search.proofs.seek.Reads as seek-reads
-use Rattle.search.proofs.seek_root.Reads as seek-root-reads
-use Rattle.table.proofs.mode.Reads as mode-reads
 
--- src/lib.rt:203:9
 mode-requires : tie.Need-mode-requires
-mode-requires c κs = ?
+mode-requires c κs =
+    let start = c .before in
+    let a = start .args in
+    own-row (a .table .now) (a .t2) (a .b) (sized (a .t2) _ (start .good .1 .0)) (start .pre)
 
--- src/lib.rt:206:17
 seek-root-requires : tie.Need-seek-root-requires
-seek-root-requires c κs = ?
+seek-root-requires c κs =
+    let start = c .before .before .before in
+    blank-few (start .args .t2) (sound-blank _ _ (start .pre .ready .sound))
 
--- src/lib.rt:207:17
 instance-rule-requires : tie.Need-instance-rule-requires
 instance-rule-requires c κs = search needs
 
--- src/lib.rt:211:17
 seek-requires : tie.Need-seek-requires
 seek-requires c κs = search needs
 
--- src/lib.rt:212:17
 task-rule-requires : tie.Need-task-rule-requires
-task-rule-requires c κs = ?
+task-rule-requires c κs =
+    let start = c .before .before .before .before in
+    let a = start .args in (
+      sound-blank _ _ (start .pre .ready .sound),
+      rw (c .seek .ensures) (seek-among (a .table .now) (a .t2) (a .b) (sized (a .t2) _ (start .good .1 .0)) (start .pre)),
+    )
 
--- src/lib.rt:216:21
 element-copy-out-t : tie.Need-element-copy-out-t
 element-copy-out-t c = search needs
 
--- src/lib.rt:217:32
 top-requires : tie.Need-top-requires
-top-requires c κs = ?
+top-requires c κs =
+    let start = c .before .before .before .before in
+    let a = start .args in
+    task-fits (a .table .now) (a .t2) (a .b) (sized (a .t2) _ (start .good .1 .0)) (start .pre) 1 (omega arith, start .pre .some)
 
--- src/lib.rt:217:16
 is-apart-requires : tie.Need-is-apart-requires
-is-apart-requires c κs = ?
+is-apart-requires c κs =
+    let start = c .before .before .before .before .before in
+    let a = start .args in
+    rw (c .top .ensures) (top-row (a .table .now) (a .t2) (a .b) (sized (a .t2) _ (start .good .1 .0)) (start .pre) 1 (omega arith, start .pre .some))
 
--- src/lib.rt:218:21
 seek-apart-requires : tie.Need-seek-apart-requires
 seek-apart-requires c κs = search needs
 
--- src/lib.rt:219:21
 apart-rule-requires : tie.Need-apart-rule-requires
-apart-rule-requires c κs = ?
+apart-rule-requires c κs =
+    let start = c .before .before .before .before .before .before .before .before in
+    let a = start .args in
+    (start .pre, rw (c .seek-apart .ensures) (apart-among (a .table .now) (a .t2) (a .b) (sized (a .t2) _ (start .good .1 .0)) (start .pre) (a .f)))
 
--- src/lib.rt:220:17
 returns : tie.Need-returns
-returns c = ?
+returns c =
+    let apart = c .before .before .before in
+    let other = apart .before .before .before in
+    let start = other .before .before .before in
+    let a = start .args in
+    chosen-in (a .table .now) (view (a .t2)) (a .b) (a .f) apartGroup
+    (group-apart (a .table .now) (view (a .t2)) (a .b) (a .f) (other .before .mode .ensures) (other .match .rest .0 .1) (other .match .rest .1)
+    (apart .is-apart .ensures ∙ rw (apart .before .top .ensures, front-screen (a .t2) (start .pre .some))) (c .before .before .if1 .taken))
+    (c .before .seek-apart .ensures) (c .apart-rule .ensures)
 
--- src/lib.rt:222:17
 near-rule-requires : tie.Need-near-rule-requires
 near-rule-requires c κs = search needs
 
--- src/lib.rt:199:1
 returns-2 : tie.Need-returns-2
-returns-2 c = ?
+unfolding soughtBy
+returns-2 c =
+    let mode = c .before .before .before in
+    let a = mode .before .before .args in
+    chosen-in (a .table .now) (view (a .t2)) (a .b) (a .f) instanceGroup
+    (group-instance (a .table .now) (view (a .t2)) (a .b) (a .f) (mode .mode .ensures) (c .before .before .match .keys1))
+    (c .before .seek-root .ensures) (c .instance-rule .ensures _ _ _ _)
 
--- src/lib.rt:199:1
 returns-3 : tie.Need-returns-3
-returns-3 c = ?
+unfolding soughtBy
+returns-3 c =
+    let mode = c .before .before .before in
+    let a = mode .before .before .args in
+    chosen-in (a .table .now) (view (a .t2)) (a .b) (a .f) taskGroup
+    (group-task (a .table .now) (view (a .t2)) (a .b) (a .f) (mode .mode .ensures) (c .before .before .match .keys2))
+    (c .before .seek .ensures) (c .task-rule .ensures _)
 
--- src/lib.rt:199:1
 returns-4 : tie.Need-returns-4
-returns-4 c = ?
+unfolding soughtBy
+returns-4 c =
+    let apart = c .before .before in
+    let other = apart .before .before .before in
+    let start = other .before .before .before in
+    let a = start .args in
+    chosen-in (a .table .now) (view (a .t2)) (a .b) (a .f) nearGroup
+    (group-near (a .table .now) (view (a .t2)) (a .b) (a .f) (other .before .mode .ensures) (other .match .rest .0 .1) (other .match .rest .1)
+    (apart .is-apart .ensures ∙ rw (apart .before .top .ensures, front-screen (a .t2) (start .pre .some))) (c .before .if1 .left))
+    refl (c .near-rule .ensures)
 
 pub choose-spec : {M : Type 1} → statement M
 choose-spec =
