@@ -1,13 +1,12 @@
 -- The first rule that fits, group by group, as a chain of tests over what the code reads: in 01's order, but that
 -- "nothing found" is asked before the rules that need a task, for there is none to read.
-use Prim.Native.Nat.{ℕ, _+_, _-_, _≤_, _<_}
-use mathlib.Core.Path.{_≡_, refl, sym, _∙_, ap}
+use Prim.Native.Nat.{ℕ, _-_, _≤_}
+use mathlib.Core.Path.{_≡_, refl}
 use mathlib.Core.Bool.{Bool, true, false, not, _&&_, _||_}
 use mathlib.Core.List.{List}
 use native.Mathlib.Omega.{arith}
 use borrow.Author.Tests.{ne-eqb}
 use lib.Dec.{eqb}
-use Rattle.model.specs.declared.Choice.{Choice}
 use Rattle.model.specs.declared.Flags.{Flags}
 use Rattle.model.specs.declared.Found.{Found}
 use Rattle.model.specs.declared.Rule.{Rule}
@@ -19,7 +18,7 @@ use Rattle.model.specs.Rules.{Group, instanceGroup, taskGroup, nearGroup, apart
 use Rattle.session.specs.declared.Session.{Session}
 use Rattle.session.specs.Stored.{view, viewTask}
 use Rattle.session.proofs.StoredLaws.{view-at}
-use Rattle.choice.specs.Places.{IsPlace, FoundAmong}
+use Rattle.choice.specs.Places.{FoundAmong}
 use Rattle.choice.specs.Groups.{ruleOf}
 use Rattle.choice.proofs.Tasks.{storedAt, task-at}
 

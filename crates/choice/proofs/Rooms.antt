@@ -1,7 +1,7 @@
 -- The check for room by what is stored: the number of tasks, or the height of the task that the deed changes. And that
 -- the choice of a start can be checked so.
-use Prim.Native.Nat.{ℕ, _-_, _≤_, _<_}
-use mathlib.Core.Path.{_≡_, refl, sym, _∙_, ap}
+use Prim.Native.Nat.{ℕ, _-_}
+use mathlib.Core.Path.{_≡_, refl, sym, _∙_}
 use mathlib.Core.Bool.{Bool, true, false, _&&_}
 use mathlib.Core.List.{List}
 use native.Mathlib.Omega.{arith}
@@ -13,8 +13,8 @@ use Rattle.model.specs.declared.Deed.{Deed}
 use Rattle.model.specs.declared.Flags.{Flags}
 use Rattle.model.specs.declared.Found.{Found}
 use Rattle.model.specs.Lists.{if_then_else_}
-use Rattle.model.specs.Refusals.{Check, check, accepted, refusal}
-use Rattle.model.specs.Session.{Stack, height, count, mostTasks, mostHeight}
+use Rattle.model.specs.Refusals.{check, accepted, refusal}
+use Rattle.model.specs.Session.{height, count, mostTasks, mostHeight}
 use Rattle.model.specs.Search.{placeOf, seek}
 use Rattle.model.specs.Rules.{apartGroup, soughtBy, choose}
 use Rattle.model.specs.Deeds.{deedOf}
@@ -22,14 +22,13 @@ use Rattle.model.specs.Calls.{isPush, roomChecks}
 use Rattle.model.proofs.Logic.{if-elim}
 use Rattle.model.proofs.Deeds.{Ready}
 use Rattle.model.proofs.Start.{Sought, seek-sought, choose-ready}
-use Rattle.session.specs.declared.Task.{Task}
 use Rattle.session.specs.declared.Session.{Session}
 use Rattle.session.specs.Stored.{view, viewTask}
 use Rattle.session.proofs.Known.{Sized}
 use Rattle.session.proofs.StoredLaws.{view-count, sized-at, sound-view, sound-blank, blank-few}
 use Rattle.session.proofs.TaskLaws.{view-height}
 use Rattle.choice.specs.Startable.{Startable}
-use Rattle.choice.specs.Places.{IsPlace, FoundAmong, ChangesAmong, Placed}
+use Rattle.choice.specs.Places.{PlaceAmong, FoundAmong, ChangesAmong, Placed}
 use Rattle.choice.proofs.Tasks.{storedAt, task-at, task-low, place-inside}
 
 -- ---- the check
@@ -42,13 +41,13 @@ module _ (c : Session) (z : Sized c) (ch : Choice) (h : Placed c ch) {d : Deed} 
   changes : (u : Deed) → d ≡ u → ChangesAmong (c .n) u (placeOf (ch .found))
   changes u k = rw (sym e ∙ k) at (h .inside)
 
-  pub front-place : (x : Change) → d ≡ Deed.InFront x → IsPlace (c .n) 1
+  pub front-place : (x : Change) → d ≡ Deed.InFront x → PlaceAmong (c .n) 1
   front-place x k = (omega arith, changes (Deed.InFront x) k)
 
-  pub moved-place : (x : Change) → d ≡ Deed.MoveAnd x → {p : ℕ} → p ≡ placeOf (ch .found) → IsPlace (c .n) p
+  pub moved-place : (x : Change) → d ≡ Deed.MoveAnd x → {p : ℕ} → p ≡ placeOf (ch .found) → PlaceAmong (c .n) p
   moved-place x k q = rw q (changes (Deed.MoveAnd x) k)
 
-  height-at : (p : ℕ) → IsPlace (c .n) p → height (viewTask (storedAt c (p - 1))) ≡ storedAt c (p - 1) .height
+  height-at : (p : ℕ) → PlaceAmong (c .n) p → height (viewTask (storedAt c (p - 1))) ≡ storedAt c (p - 1) .height
   height-at p l =
       let low = task-low c z (h .blank) p l in
       let s : length (storedAt c (p - 1) .screens) ≡ 32 = sized-at c z (p - 1) (place-inside c z (h .blank) p l) in

@@ -1,4 +1,4 @@
-// Which rule a start uses, the task found for it, what the rule does, and whether there is room for that.
+// Which rule a start uses, the task found for it, what the rule does, and whether there is room for it.
 
 ghost use Prim.Native.Nat.{ℕ, _+_, _*_, _≤_, _<_};
 ghost use mathlib.Core.Path.{_≡_};
@@ -186,7 +186,8 @@ fn apart_rule(table: &[u8], s: Session, b: u8, f: Flags, found: Found) -> Rule
     if f.ctk {
         return Rule::R12;
     }
-    let k = (place - 1) as usize;
+    let before = place - 1;
+    let k = before as usize;
     let t = s.tasks[k];
     if holds_where(f.ctp, t, b) {
         return Rule::R13;
@@ -213,22 +214,34 @@ pub fn choose(table: &[u8], s: Session, b: u8, f: Flags) -> Choice
         3 => {
             let found = search::seek_root(s, b);
             let rule = instance_rule(found);
-            Choice { rule: rule, found: found }
+            Choice {
+                rule: rule,
+                found: found,
+            }
         }
         2 => {
             let found = search::seek(table, s, b);
             let rule = task_rule(s, b, f, found);
-            Choice { rule: rule, found: found }
+            Choice {
+                rule: rule,
+                found: found,
+            }
         }
         _ => {
             let t = s.tasks[0];
             if is_apart(table, top(t), f) {
                 let found = seek_apart(table, s, b, f);
                 let rule = apart_rule(table, s, b, f, found);
-                return Choice { rule: rule, found: found };
+                return Choice {
+                    rule: rule,
+                    found: found,
+                };
             }
             let rule = near_rule(table, s, b, f);
-            Choice { rule: rule, found: Found::Nowhere }
+            Choice {
+                rule: rule,
+                found: Found::Nowhere,
+            }
         }
     }
 }

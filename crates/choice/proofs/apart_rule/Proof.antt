@@ -1,7 +1,5 @@
 -- `choice::apart_rule` meets its contract: the tests of R11 to R17 over what was read of the task found.
-use Prim.Native.Nat.{_-_, _≤_, _<_}
-use mathlib.Core.Path.{_≡_, refl, sym, _∙_}
-use native.Mathlib.Omega.{arith}
+use mathlib.Core.Path.{refl, sym, _∙_}
 use borrow.Author.Needs.{needs}
 use borrow.Author.Tests.{eq-eqb, ne-eqb}
 use Rattle.session.proofs.Known.{sized}
@@ -40,8 +38,8 @@ returns-3 c =
     (apart-chain (a .table .now) (a .t2) (a .b) (a .f) (a .found) (start .pre .1) (place .place-of .ensures) refl refl refl refl
     ∙ rw (place .before .if1 .left, ne-eqb _ _ (c .before .if2 .left), c .if3 .taken))
 
-sub-k : tie.Need-sub-k
-sub-k c = search needs
+sub-before : tie.Need-sub-before
+sub-before c = search needs
 
 cast-k : tie.Need-cast-k
 cast-k c = search needs
@@ -147,7 +145,7 @@ apart-rule-spec =
     place-of-requires
     returns-2
     returns-3
-    sub-k
+    sub-before
     cast-k
     mul-t
     element-copy-out-t

@@ -1,12 +1,8 @@
 -- `choice::choose` meets its contract: the mode of b and the front screen decide the group, and in it the task sought
 -- and the first rule that fits are those of the definition.
-use Prim.Native.Nat.{_≤_}
-use mathlib.Core.Path.{_≡_, refl, sym, _∙_, ap}
-use mathlib.Core.Bool.{_||_}
+use mathlib.Core.Path.{refl, _∙_}
 use native.Mathlib.Omega.{arith}
 use borrow.Author.Needs.{needs}
-use Rattle.model.specs.Table.{isSingleInstance}
-use Rattle.model.specs.Session.{frontScreen}
 use Rattle.model.specs.Rules.{instanceGroup, taskGroup, nearGroup, apartGroup, soughtBy}
 use Rattle.session.specs.Stored.{view}
 use Rattle.session.proofs.Known.{sized}

@@ -1,5 +1,4 @@
 -- `choice::instance_rule` meets its contract: R1 where a task was found, else R2.
-use mathlib.Core.Path.{sym}
 use borrow.Author.Needs.{needs}
 use Rattle.model.specs.Rules.{rulesOf, fits}
 use Rattle.choice.proofs.instance_rule.Statement.{statement}

@@ -1,5 +1,4 @@
 -- `choice::is_apart` meets its contract.
-use mathlib.Core.Path.{sym}
 use borrow.Author.Needs.{needs}
 use Rattle.model.specs.Table.{isSingleInstance}
 use Rattle.choice.proofs.is_apart.Statement.{statement}

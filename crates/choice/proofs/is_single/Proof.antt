@@ -1,5 +1,4 @@
 -- `choice::is_single` meets its contract.
-use mathlib.Core.Path.{sym}
 use borrow.Author.Needs.{needs}
 use Rattle.model.specs.Table.{isSingleTop}
 use Rattle.choice.proofs.is_single.Statement.{statement}

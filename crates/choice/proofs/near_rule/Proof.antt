@@ -1,5 +1,4 @@
 -- `choice::near_rule` meets its contract: the tests of R7, R8 and R9 over what was read of the front task.
-use Prim.Native.Nat.{_≤_}
 use mathlib.Core.Path.{refl, sym, _∙_}
 use native.Mathlib.Omega.{arith}
 use borrow.Author.Needs.{needs}
