@@ -1,0 +1,4 @@
+pub mod Tags
+pub mod Tasks
+pub mod Groups
+pub mod Rooms
