@@ -1,7 +1,7 @@
 -- `line::put` meets its contract: by the number of digits, the stores one after the other are the bytes written.
 use Prim.Native.Nat.{_/_, _%_}
 use mathlib.Core.List.{[], _∷_}
-use native.Mathlib.Numerals.{add-one, add-two, add-three}
+use native.Mathlib.Numerals.{towards-suc}
 use native.Mathlib.Omega.{arith}
 use lib.ListN.{length-set}
 use Rattle.model.specs.Player.{digit}
@@ -33,7 +33,7 @@ returns : tie.Need-returns
 returns c =
     let a = c .before .args in
     let e = decimal-one (a .x) (c .if1 .taken) in
-    (rw e, (rw (e, add-one (a .at)) (written-sets (a .out .now) (a .at) (digit (a .x) ∷ a .end ∷ []) (omega arith)), omega arith))
+    (rw e, (rw e (simp towards-suc (written-sets (a .out .now) (a .at) (digit (a .x) ∷ a .end ∷ []) (omega arith))), omega arith))
 
 add-out-3 : tie.Need-add-out-3
 add-out-3 c = search needs
@@ -66,7 +66,7 @@ returns-2 : tie.Need-returns-2
 returns-2 c =
     let a = c .before .before .args in
     let e = decimal-two (a .x) (c .before .if1 .left) (c .if2 .taken) in
-    (rw e, (rw (e, add-one (a .at), add-two (a .at)) (written-sets (a .out .now) (a .at) (digit (a .x / 10) ∷ digit (a .x % 10) ∷ a .end ∷ []) (omega arith)), omega arith))
+    (rw e, (rw e (simp towards-suc (written-sets (a .out .now) (a .at) (digit (a .x / 10) ∷ digit (a .x % 10) ∷ a .end ∷ []) (omega arith))), omega arith))
 
 add-out-7 : tie.Need-add-out-7
 add-out-7 c = search needs
@@ -108,7 +108,7 @@ returns-3 : tie.Need-returns-3
 returns-3 c =
     let a = c .before .before .args in
     let e = decimal-three (a .x) (c .if2 .left) in
-    (rw e, (rw (e, add-one (a .at), add-two (a .at), add-three (a .at)) (written-sets (a .out .now) (a .at) (digit (a .x / 100) ∷ digit (a .x / 10 % 10) ∷ digit (a .x % 10) ∷ a .end ∷ []) (omega arith)), omega arith))
+    (rw e, (rw e (simp towards-suc (written-sets (a .out .now) (a .at) (digit (a .x / 100) ∷ digit (a .x / 10 % 10) ∷ digit (a .x % 10) ∷ a .end ∷ []) (omega arith))), omega arith))
 
 pub put-spec : {M : Type 1} → statement M
 put-spec =
