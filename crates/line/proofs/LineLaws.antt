@@ -53,12 +53,13 @@ unfolding lineOf
 line-length kind a = text-length kind (numbersOf a)
 
 -- its first number and the space, then the rest of the line
-pub line-cons : (n k : ℕ) (ns : List ℕ) {d d′ d″ : List ℕ} {at m r : ℕ} → Wrote d at (decimal n ++ space ∷ []) d′ m → m ≤ length d
-    → Wrote d′ m (lineText (k ∷ ns)) d″ r → Wrote d at (lineText (n ∷ k ∷ ns)) d″ r
+pub line-cons : (n k : ℕ) (ns : List ℕ) {d d′ d″ : List ℕ} {at m r : ℕ}
+    → Wrote d at (decimal n ++ space ∷ []) d′ m → m ≤ length d → Wrote d′ m (lineText (k ∷ ns)) d″ r → Wrote d at (lineText (n ∷ k ∷ ns)) d″ r
 unfolding lineText
 line-cons n k ns v fits w = rw append-snoc at (wrote-append v fits w)
 
 -- its last number and the newline
-pub line-end : (n : ℕ) {d d′ : List ℕ} {at r : ℕ} → Wrote d at (decimal n ++ newline ∷ []) d′ r → Wrote d at (lineText (n ∷ [])) d′ r
+pub line-end : (n : ℕ) {d d′ : List ℕ} {at r : ℕ}
+    → Wrote d at (decimal n ++ newline ∷ []) d′ r → Wrote d at (lineText (n ∷ [])) d′ r
 unfolding lineText
 line-end n w = w

@@ -16,7 +16,8 @@ module _ (d : List ℕ) (at : ℕ) where
   written-nil = rw (append-nil (take at d), add-zero at) (take-append-drop at d)
 
   -- one byte, then others behind it
-  pub written-cons : (x : ℕ) (b : List ℕ) {next : ℕ} → next ≡ at + 1 → next ≤ length d → written (set d at x) next b ≡ written d at (x ∷ b)
+  pub written-cons : (x : ℕ) (b : List ℕ) {next : ℕ} → next ≡ at + 1 → next ≤ length d
+      → written (set d at x) next b ≡ written d at (x ∷ b)
   unfolding written
   written-cons x b {next} behind fits =
       let e : next + length b ≡ at + suc (length b) = omega arith in
@@ -77,7 +78,8 @@ pub wrote-nil : (d : List ℕ) (at : ℕ) → Wrote d at [] d at
 wrote-nil d at = record { place = sym (add-zero at); text = sym (written-nil d at) }
 
 -- one writer behind another
-pub wrote-append : {d d′ d″ : List ℕ} {at m n : ℕ} {a b : List ℕ} → Wrote d at a d′ m → m ≤ length d → Wrote d′ m b d″ n → Wrote d at (a ++ b) d″ n
+pub wrote-append : {d d′ d″ : List ℕ} {at m n : ℕ} {a b : List ℕ}
+    → Wrote d at a d′ m → m ≤ length d → Wrote d′ m b d″ n → Wrote d at (a ++ b) d″ n
 wrote-append {d} {at} {m} {a} {b} v fits w =
     record {
       place = let p = v .place in let q = w .place in omega (arith, length-append a b);

@@ -33,7 +33,8 @@ returns : tie.Need-returns
 returns c =
     let a = c .before .args in
     let e = decimal-one (a .x) (c .if1 .taken) in
-    (rw e, (rw e (simp towards-suc (written-sets (a .out .now) (a .at) (digit (a .x) ∷ a .end ∷ []) (omega arith))), omega arith))
+    let w = written-sets (a .out .now) (a .at) (digit (a .x) ∷ a .end ∷ []) (omega arith) in
+    (rw e, (rw e (simp towards-suc w), omega arith))
 
 add-out-3 : tie.Need-add-out-3
 add-out-3 c = search needs
@@ -66,7 +67,8 @@ returns-2 : tie.Need-returns-2
 returns-2 c =
     let a = c .before .before .args in
     let e = decimal-two (a .x) (c .before .if1 .left) (c .if2 .taken) in
-    (rw e, (rw e (simp towards-suc (written-sets (a .out .now) (a .at) (digit (a .x / 10) ∷ digit (a .x % 10) ∷ a .end ∷ []) (omega arith))), omega arith))
+    let w = written-sets (a .out .now) (a .at) (digit (a .x / 10) ∷ digit (a .x % 10) ∷ a .end ∷ []) (omega arith) in
+    (rw e, (rw e (simp towards-suc w), omega arith))
 
 add-out-7 : tie.Need-add-out-7
 add-out-7 c = search needs
@@ -108,7 +110,8 @@ returns-3 : tie.Need-returns-3
 returns-3 c =
     let a = c .before .before .args in
     let e = decimal-three (a .x) (c .if2 .left) in
-    (rw e, (rw e (simp towards-suc (written-sets (a .out .now) (a .at) (digit (a .x / 100) ∷ digit (a .x / 10 % 10) ∷ digit (a .x % 10) ∷ a .end ∷ []) (omega arith))), omega arith))
+    let w = written-sets (a .out .now) (a .at) (digit (a .x / 100) ∷ digit (a .x / 10 % 10) ∷ digit (a .x % 10) ∷ a .end ∷ []) (omega arith) in
+    (rw e, (rw e (simp towards-suc w), omega arith))
 
 pub put-spec : {M : Type 1} → statement M
 put-spec =
