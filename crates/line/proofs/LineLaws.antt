@@ -1,0 +1,65 @@
+-- The text of a line, number by number: each is one to three digits and the byte behind it, and a line is at most 28 bytes.
+use Prim.Native.Nat.{ℕ, _+_, _*_, _/_, _%_, _≤_, _<_}
+use mathlib.Core.Path.{_≡_}
+use mathlib.Core.List.{List, [], _∷_, _++_}
+use native.Mathlib.Omega.{arith}
+use lib.Dec.{ltb}
+use lib.ListN.{length, length-append}
+use lib.Seq.{append-snoc}
+use borrow.Author.Tests.{lt-ltb, le-ltb}
+use Rattle.model.specs.declared.Answer.{Answer}
+use Rattle.model.specs.Answers.{numbersOf}
+use Rattle.model.specs.Player.{digit, space, newline, decimal, lineText, lineOf}
+use Rattle.model.proofs.Logic.{if-elim}
+use Rattle.line.proofs.WrittenLaws.{Wrote, wrote-append}
+
+-- ---- a number
+
+module _ (n : ℕ) where
+  pub decimal-one : n < 10 → decimal n ≡ digit n ∷ []
+  unfolding decimal
+  decimal-one h = rw (lt-ltb n 10 h)
+
+  pub decimal-two : 10 ≤ n → n < 100 → decimal n ≡ digit (n / 10) ∷ digit (n % 10) ∷ []
+  unfolding decimal
+  decimal-two l h = rw (le-ltb n 10 l, lt-ltb n 100 h)
+
+  pub decimal-three : 100 ≤ n → decimal n ≡ digit (n / 100) ∷ digit (n / 10 % 10) ∷ digit (n % 10) ∷ []
+  unfolding decimal
+  decimal-three l = rw (le-ltb n 10 (omega arith), le-ltb n 100 l)
+
+abbrev Short : List ℕ → Type 0
+Short l = length l ≤ 3
+
+pub decimal-length : (n : ℕ) → length (decimal n) ≤ 3
+unfolding decimal
+decimal-length n =
+    if-elim Short (ltb n 10) _ _ (λ e. omega arith)
+    (λ e. if-elim Short (ltb n 100) _ _ (λ f. omega arith) (λ f. omega arith))
+
+-- ---- a line
+
+-- each number has at most three digits and one byte behind it
+pub text-length : (n : ℕ) (ns : List ℕ) → length (lineText (n ∷ ns)) ≤ 4 * length (n ∷ ns)
+unfolding lineText
+text-length n [] = let l = decimal-length n in omega (arith, length-append (decimal n) (newline ∷ []))
+text-length n (k ∷ ns) =
+    let l = decimal-length n in
+    let ih = text-length k ns in
+    omega (arith, length-append (decimal n) (space ∷ lineText (k ∷ ns)))
+
+pub line-length : (kind : ℕ) (a : Answer) → length (lineOf kind a) ≤ 28
+unfolding lineOf
+line-length kind a = text-length kind (numbersOf a)
+
+-- its first number and the space, then the rest of the line
+pub line-cons : (n k : ℕ) (ns : List ℕ) {d d′ d″ : List ℕ} {at m r : ℕ}
+    → Wrote d at (decimal n ++ space ∷ []) d′ m → m ≤ length d → Wrote d′ m (lineText (k ∷ ns)) d″ r → Wrote d at (lineText (n ∷ k ∷ ns)) d″ r
+unfolding lineText
+line-cons n k ns v fits w = rw append-snoc at (wrote-append v fits w)
+
+-- its last number and the newline
+pub line-end : (n : ℕ) {d d′ : List ℕ} {at r : ℕ}
+    → Wrote d at (decimal n ++ newline ∷ []) d′ r → Wrote d at (lineText (n ∷ [])) d′ r
+unfolding lineText
+line-end n w = w

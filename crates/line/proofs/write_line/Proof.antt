@@ -1,0 +1,71 @@
+-- `line::write_line` meets its contract: seven numbers, each behind the one before it.
+use mathlib.Core.List.{_∷_}
+use native.Mathlib.Omega.{arith}
+use Rattle.model.specs.Answers.{numbersOf}
+use Rattle.model.specs.Player.{lineText, lineOf}
+use Rattle.line.proofs.WrittenLaws.{Wrote, wrote}
+use Rattle.line.proofs.LineLaws.{line-cons, line-end}
+use borrow.Author.Needs.{needs}
+use Rattle.line.proofs.write_line.Statement.{statement}
+use Rattle.line.proofs.write_line.Tie as tie
+
+put-requires : tie.Need-put-requires
+put-requires c κs = search needs
+
+put-requires-2 : tie.Need-put-requires-2
+put-requires-2 c κs = search needs
+
+put-requires-3 : tie.Need-put-requires-3
+put-requires-3 c κs = search needs
+
+put-requires-4 : tie.Need-put-requires-4
+put-requires-4 c κs = search needs
+
+put-requires-5 : tie.Need-put-requires-5
+put-requires-5 c κs = search needs
+
+put-requires-6 : tie.Need-put-requires-6
+put-requires-6 c κs = search needs
+
+put-requires-7 : tie.Need-put-requires-7
+put-requires-7 c κs = search needs
+
+same-length : tie.Need-same-length
+same-length c = search needs
+
+returns : tie.Need-returns
+unfolding lineOf
+returns c =
+    let p7 = c .before .before in
+    let p6 = p7 .before .before .before .before in
+    let p5 = p6 .before .before .before .before in
+    let p4 = p5 .before .before .before .before in
+    let p3 = p4 .before .before .before .before in
+    let p2 = p3 .before .before .before .before in
+    let p1 = p2 .before .before .before .before in
+    let start = p1 .before .before .before in
+    let k = start .args .kind in
+    let a = start .args .a in
+    let line : Wrote (start .args .out .now) (start .args .at) (lineText (k ∷ numbersOf a)) (p7 .put7 .last .0) (p7 .put7 .result) =
+    line-cons _ _ _ (wrote 4 (p1 .put .ensures)) (omega arith) (
+    line-cons _ _ _ (wrote 4 (p2 .put2 .ensures)) (omega arith) (
+    line-cons _ _ _ (wrote 4 (p3 .put3 .ensures)) (omega arith) (
+    line-cons _ _ _ (wrote 4 (p4 .put4 .ensures)) (omega arith) (
+    line-cons _ _ _ (wrote 4 (p5 .put5 .ensures)) (omega arith) (
+    line-cons _ _ _ (wrote 4 (p6 .put6 .ensures)) (omega arith) (
+    line-end _ (wrote 4 (p7 .put7 .ensures)))))))) in
+    (line .place, (line .text, omega arith))
+
+pub write-line-spec : {M : Type 1} → statement M
+write-line-spec =
+    tie.close
+    (tie.spec
+    put-requires
+    put-requires-2
+    put-requires-3
+    put-requires-4
+    put-requires-5
+    put-requires-6
+    put-requires-7
+    same-length
+    returns)

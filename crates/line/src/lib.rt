@@ -1,0 +1,50 @@
+// The player's line of text, byte for byte, into a lent buffer.
+
+ghost use Prim.Native.Nat.{_+_, _≤_};
+ghost use mathlib.Core.Path.{_≡_};
+ghost use mathlib.Core.List.{[], _∷_, _++_};
+ghost use lib.ListN.{length};
+ghost use Rattle.model.specs.Player.{decimal, lineOf};
+ghost use Rattle.line.specs.Written.{written};
+use model::Answer;
+
+// Writes a number in base ten, and then the byte `end`. Yields the place after it. Most numbers have one digit.
+fn put(out: &mut [u8], at: usize, x: u8, end: u8) -> usize
+    requires { ⌜ at + 4 ≤ length (now out) ⌝ }
+    ensures place { λ r. ⌜ r ≡ at + length (decimal x ++ end ∷ []) ⌝ }
+    ensures text { λ r. ⌜ now (out .exit) ≡ written (now (out .entry)) at (decimal x ++ end ∷ []) ⌝ }
+    ensures bound { λ r. ⌜ r ≤ at + 4 ⌝ }
+{
+    if x < 10 {
+        out[at] = b'0' + x;
+        out[at + 1] = end;
+        return at + 2;
+    }
+    if x < 100 {
+        out[at] = b'0' + x / 10;
+        out[at + 1] = b'0' + x % 10;
+        out[at + 2] = end;
+        return at + 3;
+    }
+    out[at] = b'0' + x / 100;
+    out[at + 1] = b'0' + x / 10 % 10;
+    out[at + 2] = b'0' + x % 10;
+    out[at + 3] = end;
+    at + 4
+}
+
+// Writes the line of a record: its kind, then the answer. Yields the place after it.
+pub fn write_line(out: &mut [u8], at: usize, kind: u8, a: Answer) -> usize
+    requires { ⌜ at + 28 ≤ length (now out) ⌝ }
+    ensures place { λ r. ⌜ r ≡ at + length (lineOf kind a) ⌝ }
+    ensures text { λ r. ⌜ now (out .exit) ≡ written (now (out .entry)) at (lineOf kind a) ⌝ }
+    ensures bound { λ r. ⌜ r ≤ at + 28 ⌝ }
+{
+    let refusal = put(out, at, kind, b' ');
+    let screen = put(out, refusal, a.refusal, b' ');
+    let root = put(out, screen, a.screen, b' ');
+    let height = put(out, root, a.root, b' ');
+    let tasks = put(out, height, a.height, b' ');
+    let main = put(out, tasks, a.tasks, b' ');
+    put(out, main, a.main, b'\n')
+}
