@@ -9,7 +9,7 @@ ghost use lib.ListN.{length};
 ghost use Rattle.model.specs.Lists.{if_then_else_};
 ghost use Rattle.model.specs.Refusals.{refusal};
 ghost use Rattle.model.specs.Table.{isSingleTop, isSingleInstance};
-ghost use Rattle.model.specs.Session.{State, mostHeight, top as topOf};
+ghost use Rattle.model.specs.Session.{State, mostHeight};
 ghost use Rattle.model.specs.Search.{placeOf, isFoundByRoot, holds};
 ghost use Rattle.model.specs.Rules.{instanceGroup, taskGroup, nearGroup, apartGroup, soughtBy, choose as chooseRule};
 ghost use Rattle.model.specs.Deeds.{deedOf};
@@ -64,15 +64,6 @@ pub fn deed_of(rule: Rule) -> Deed
         Rule::R5 | Rule::R14 | Rule::R17 => Deed::MoveAnd(Change::Push),
         Rule::R1 | Rule::R15 | Rule::R16 => Deed::MoveAnd(Change::Keep),
     }
-}
-
-// The top screen of a task.
-fn top(t: Task) -> u8
-    requires { ⌜ (1 ≤ t .height) × (t .height ≤ 32) ⌝ }
-    ensures { λ r. ⌜ r ≡ topOf (viewTask t) ⌝ }
-{
-    let h = (t.height - 1) as usize;
-    t.screens[h]
 }
 
 // b stands in the task.
@@ -147,7 +138,7 @@ fn near_rule(table: &[u8], s: Session, b: u8, f: Flags) -> Rule
     ensures { λ r. ⌜ r ≡ ruleOf nearGroup (now (table .entry)) (view s) b f Found.Nowhere ⌝ }
 {
     let t = s.tasks[0];
-    if (b == top(t)) & (is_single(table, b, f) | f.rtf | f.ctp) {
+    if (b == t.top()) & (is_single(table, b, f) | f.rtf | f.ctp) {
         return Rule::R7;
     }
     let held = holds_where(f.ctp | f.rtf, t, b);
@@ -198,7 +189,7 @@ fn apart_rule(table: &[u8], s: Session, b: u8, f: Flags, found: Found) -> Rule
     if is_by_root(found) & (place != s.main) {
         return Rule::R15;
     }
-    if is_single(table, b, f) & (top(t) == b) {
+    if is_single(table, b, f) & (t.top() == b) {
         return Rule::R16;
     }
     Rule::R17
@@ -229,7 +220,7 @@ pub fn choose(table: &[u8], s: Session, b: u8, f: Flags) -> Choice
         }
         _ => {
             let t = s.tasks[0];
-            if is_apart(table, top(t), f) {
+            if is_apart(table, t.top(), f) {
                 let found = seek_apart(table, s, b, f);
                 let rule = apart_rule(table, s, b, f, found);
                 return Choice {

@@ -1,4 +1,3 @@
 pub mod Gaps
 pub mod Closed
 pub mod Marked
-pub mod Finished

@@ -7,17 +7,17 @@ use Rattle.model.specs.declared.Change.{Change}
 use Rattle.model.specs.declared.Deed.{Deed}
 use Rattle.model.specs.Lists.{if_then_else_}
 use Rattle.model.specs.Session.{State}
-use Rattle.model.specs.Marks.{Mark, gone, stands, markIn, markAfter, closeAt}
+use Rattle.model.specs.Marks.{Mark, gone, stands, markIn, markAfter, closeAt, Stands}
 use Rattle.session.specs.declared.Session.{Session}
 use Rattle.session.specs.Stored.{view, hold, storageBlank}
 use Rattle.session.proofs.Known.{Sized}
 use Rattle.session.proofs.StoredLaws.{held}
-use Rattle.closing.specs.Closable.{Closable, IsMarked}
+use Rattle.closing.specs.Closable.{Closable}
 
-pub marked-at : (v : State ℕ) {m n : Mark} → m ≡ n → IsMarked m v → IsMarked n v
-marked-at v e h = subst (λ (k : Mark). IsMarked k v) e h
+pub marked-at : (v : State ℕ) {m n : Mark} → m ≡ n → Stands m v → Stands n v
+marked-at v e h = subst (λ (k : Mark). Stands k v) e h
 
-pub closable : (s : Session) (k i : ℕ) {m : Mark} → storageBlank s ≡ true → m ≡ stands k i → IsMarked m (view s) → Closable s k i
+pub closable : (s : Session) (k i : ℕ) {m : Mark} → storageBlank s ≡ true → m ≡ stands k i → Stands m (view s) → Closable s k i
 closable s k i b e h = record { blank = b; there = marked-at (view s) e h }
 
 pub closed-at : (v : State ℕ) {m n : Mark} → m ≡ n → hold (closeAt n v) ≡ hold (closeAt m v)

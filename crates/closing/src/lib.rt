@@ -6,10 +6,10 @@ ghost use mathlib.Core.Bool.{true};
 ghost use Rattle.model.specs.Lists.{omit};
 ghost use Rattle.model.specs.Session.{stack, state};
 ghost use Rattle.model.specs.Deeds.{mainWithout, close as closeScreen};
-ghost use Rattle.model.specs.Marks.{markIn, markAfter, closeAt};
+ghost use Rattle.model.specs.Marks.{markIn, markAfter, closeAt, Stands};
 ghost use Rattle.session.specs.Stored.{view, viewTask, hold, holdTask, blankTask, blankAbove, storageBlank};
 ghost use Rattle.deeds.specs.Rows.{closedUp, withTasks};
-ghost use Rattle.closing.specs.Closable.{Closable, IsMarked, Markable};
+ghost use Rattle.closing.specs.Closable.{Closable, Markable};
 use model::Change;
 use model::Deed;
 use session::Session;
@@ -97,7 +97,7 @@ pub fn close(s: Session, behind: u8, below: u8) -> Session
 
 // Where the front task was changed: the screen that was on top closes, if it still stands; same tells whether it is B.
 fn close_in(s: Session, change: Change, same: bool) -> Session
-    requires { ⌜ (storageBlank s ≡ true) × IsMarked (markIn change same) (view s) ⌝ }
+    requires { ⌜ (storageBlank s ≡ true) × Stands (markIn change same) (view s) ⌝ }
     ensures { λ r. ⌜ r ≡ hold (closeAt (markIn change same) (view s)) ⌝ }
 {
     match change {

@@ -1,7 +1,7 @@
 -- A finishing start on a sound session: the start, and then the screen at the mark's position closes, if it stands.
 -- So a finishing start keeps a session sound.
 use Prim.Native.Nat.{ℕ, zero, suc, _≤_}
-use mathlib.Core.Path.{_≡_, refl, sym, ap}
+use mathlib.Core.Path.{_≡_}
 use mathlib.Core.List.{List, [], _∷_}
 use native.Mathlib.Nat.{not-suc-le-zero}
 use native.Mathlib.Omega.{arith}
@@ -18,13 +18,13 @@ use Rattle.model.specs.Search.{placeOf}
 use Rattle.model.specs.Deeds.{deedOf}
 use Rattle.model.specs.Rules.{choose}
 use Rattle.model.specs.Calls.{chosen, startedBy, started, finishedBy, finished, startChecks}
-use Rattle.model.specs.Marks.{Mark, gone, stands, markAfter, closeAt}
+use Rattle.model.specs.Marks.{Mark, gone, stands, markAfter, closeAt, Stands}
 use Rattle.model.proofs.Sound.{Sound}
 use Rattle.model.proofs.Close.{close-sound}
 use Rattle.model.proofs.Deeds.{Suits, Ready}
 use Rattle.model.proofs.Marks.{AbleIn, Able, finished-carry}
-use Rattle.model.proofs.MarkStands.{Stands, mark-stands}
-use Rattle.model.proofs.Start.{Accepted, choose-ready, start-accepted, started-sound}
+use Rattle.model.proofs.MarkStands.{mark-stands}
+use Rattle.model.proofs.Start.{choose-ready, start-accepted, started-sound}
 
 module _ (tb : List ℕ) (b : ℕ) where
   suits-able : (c : Change) (t : Stack ℕ) → Suits tb b c t → AbleIn c b (t .screens)

@@ -1,27 +1,22 @@
 -- After a start the mark's position is one at which a screen stands: code may close it.
-use Prim.Native.Nat.{ℕ, zero, suc, pred, _≤_, _<_}
-use mathlib.Core.Path.{_≡_, refl, ap}
+use Prim.Native.Nat.{ℕ, zero, suc, pred, _≤_}
+use mathlib.Core.Path.{_≡_, refl}
 use mathlib.Core.Bool.{Bool, true, false, false≢true}
 use mathlib.Core.List.{List, [], _∷_}
 use native.Mathlib.Nat.{not-suc-le-zero}
 use native.Mathlib.Omega.{arith}
-use lib.Dec.{eqb, leb}
-use lib.ListN.{length, getD}
+use lib.Dec.{eqb}
+use lib.ListN.{length}
 use borrow.Author.Tests.{lt-leb}
 use Rattle.model.specs.declared.Change.{Change}
 use Rattle.model.specs.declared.Deed.{Deed}
-use Rattle.model.specs.Lists.{if_then_else_, isPlace, further, find, putSecond, toFront}
-use Rattle.model.specs.Session.{Stack, State, stack, state, noStack, height, count}
+use Rattle.model.specs.Lists.{find, putSecond, toFront}
+use Rattle.model.specs.Session.{Stack, State, stack, state}
 use Rattle.model.specs.Search.{holds}
 use Rattle.model.specs.Deeds.{mainMoved, move, changed, changeFront, putNew, carryOut}
-use Rattle.model.specs.Marks.{Mark, gone, stands, markIn, markAfter}
+use Rattle.model.specs.Marks.{stands, markIn, markAfter, Stands}
 use Rattle.model.proofs.ListLaws.{toFront-length}
 use Rattle.model.proofs.Marks.{AbleIn, Able}
-
--- a screen stands at the position
-abbrev pub Stands : Mark → State ℕ → Type 0
-Stands gone s = Unit {0}
-Stands (stands k i) s = (k < count s) × (i < height (getD (s .tasks) k noStack))
 
 -- a screen that stands below another top has company
 below-top : (b x : ℕ) (xs : List ℕ) → eqb b x ≡ false → holds b (x ∷ xs) ≡ true → 1 ≤ length xs

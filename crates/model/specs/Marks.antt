@@ -1,12 +1,13 @@
 -- The mark of a finishing start as a position, read off the deed: the shorter way that code takes.
 -- proofs/Marks.antt shows that it is the position of the screen whose mark travels (specs/Calls.antt).
-use Prim.Native.Nat.{ℕ}
+use Prim.Native.Nat.{ℕ, _<_}
 use mathlib.Core.Bool.{Bool}
 use lib.Dec.{leb}
+use lib.ListN.{getD}
 use Rattle.model.specs.declared.Change.{Change}
 use Rattle.model.specs.declared.Deed.{Deed}
 use Rattle.model.specs.Lists.{if_then_else_}
-use Rattle.model.specs.Session.{State}
+use Rattle.model.specs.Session.{State, noStack, height, count}
 use Rattle.model.specs.Deeds.{close}
 
 -- where the marked screen stands after the start: nowhere, or behind k tasks and below i screens
@@ -31,3 +32,8 @@ markAfter (Deed.MoveAnd c) p isB = if leb p 1 then markIn c isB else stands 1 0
 abbrev pub closeAt : {A : Type 0} → Mark → State A → State A
 closeAt gone s = s
 closeAt (stands k i) s = close k i s
+
+-- a screen stands at the position
+abbrev pub Stands : Mark → State ℕ → Type 0
+Stands gone s = Unit {0}
+Stands (stands k i) s = (k < count s) × (i < height (getD (s .tasks) k noStack))

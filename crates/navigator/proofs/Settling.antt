@@ -1,15 +1,18 @@
 -- A call on a stored session, by what its first checks said; and that what it leaves is sound.
-use Prim.Native.Nat.{ℕ, zero, suc}
+use Prim.Native.Nat.{ℕ, zero, suc, _≤_}
 use mathlib.Core.Path.{_≡_, refl, sym, _∙_, ap}
 use mathlib.Core.Bool.{Bool, true, false, not}
 use mathlib.Core.List.{List, [], _∷_}
+use native.Mathlib.Nat.{not-suc-le-zero}
 use native.Mathlib.Omega.{arith}
+use lib.ListN.{length}
 use borrow.Author.Tests.{not-false}
+use Rattle.model.specs.Lists.{isEmpty}
 use Rattle.model.specs.Refusals.{check, refusal}
 use Rattle.model.specs.Table.{tableRefusal, tableShaped, tableFilled, tableChecks}
-use Rattle.model.specs.Session.{State}
+use Rattle.model.specs.Session.{Stack, State}
 use Rattle.model.specs.Answers.{lookAt, refused}
-use Rattle.model.specs.Calls.{Call, look, checksIn, ownChecks, done}
+use Rattle.model.specs.Calls.{Call, launch, back, look, checksIn, ownChecks, done}
 use Rattle.model.proofs.RefusalLaws.{refusal-skip, refusal-passes, refusal-append-refused, checks-bad-table, checks-unsound, checks-own}
 use Rattle.model.proofs.Sound.{Sound}
 use Rattle.model.proofs.Keeps.{done-sound}
@@ -17,7 +20,7 @@ use Rattle.session.specs.declared.Session.{Session}
 use Rattle.session.specs.Stored.{view, hold, soundStored, Ready}
 use Rattle.answer.specs.Seen.{Seen}
 use Rattle.session.proofs.Known.{Sized}
-use Rattle.session.proofs.StoredLaws.{held, hold-sound, sound-blank, sound-view}
+use Rattle.session.proofs.StoredLaws.{held, view-hold, view-count, hold-sound, sound-blank, blank-few, sound-view}
 use Rattle.answer.proofs.LookLaws.{sound-seen}
 use Rattle.navigator.specs.declared.Reply.{Reply}
 use Rattle.navigator.specs.StoredCalls.{reply, settleStored, refusalStored, sharedRefusal, callStored, KeepsSound}
@@ -86,11 +89,56 @@ module _ (tb : List ℕ) (c : Session) where
     pub call-gives : (r : Reply) → r ≡ callStored tb c k → (r ≡ callStored tb c k) × KeepsSound tb c (r .session)
     call-gives r e = (e, rw e call-keeps)
 
+    -- refused by a check of its own
+    pub own-refused : Ready tb c → (n : ℕ) → refusal (ownChecks tb (view c) k) ≡ n → (n ≡ 0 → ⊥) → callStored tb c k ≡ reply c (refused n)
+    own-refused h zero e z = absurd (z refl)
+    own-refused h (suc n) e z = call-settled h ∙ ap (λ (r : ℕ). settleStored r c (done tb (view c) k)) e
+
+    -- accepted: the session that it makes, and a look at it
+    pub own-accepted : Ready tb c → refusal (ownChecks tb (view c) k) ≡ 0
+        → callStored tb c k ≡ reply (hold (done tb (view c) k)) (lookAt (view (hold (done tb (view c) k))))
+    own-accepted h e =
+        call-settled h ∙ ap (λ (r : ℕ). settleStored r c (done tb (view c) k)) e
+        ∙ ap (λ (v : State ℕ). reply (hold (done tb (view c) k)) (lookAt v)) (sym (view-hold (done tb (view c) k)))
+
+    -- which can be looked at
+    pub own-seen : Ready tb c → refusal (ownChecks tb (view c) k) ≡ 0 → Seen (hold (done tb (view c) k))
+    own-seen h e = sound-seen tb (done tb (view c) k) (done-sound tb (h .good) (view c) (sound-view tb c (h .sound)) k e)
+
   -- ---- look
 
   pub look-settled : Sized c → Ready tb c → callStored tb c look ≡ reply c (lookAt (view c))
   unfolding ownChecks done refusal
   look-settled z h = call-settled look h ∙ ap (λ (s : Session). reply s (lookAt (view c))) (held c z (sound-blank tb c (h .sound)))
+
+  -- ---- launch and Back
+
+  pub empty-view : c .n ≡ 0 → isEmpty (view c .tasks) ≡ true
+  unfolding view
+  empty-view e = rw e
+
+  pub filled-view : Sized c → Ready tb c → (c .n ≡ 0 → ⊥) → isEmpty (view c .tasks) ≡ false
+  filled-view z h n = filled (view c .tasks) (omega (arith, view-count c z (blank-few c (sound-blank tb c (h .sound)))))
+    where
+      filled : (ts : List (Stack ℕ)) → 1 ≤ length ts → isEmpty ts ≡ false
+      filled [] l = absurd (not-suc-le-zero l)
+      filled (t ∷ ts) l = refl
+
+  pub launch-own : isEmpty (view c .tasks) ≡ true → refusal (ownChecks tb (view c) launch) ≡ 0
+  unfolding ownChecks refusal
+  launch-own e = rw e
+
+  pub launch-22 : isEmpty (view c .tasks) ≡ false → refusal (ownChecks tb (view c) launch) ≡ 22
+  unfolding ownChecks refusal
+  launch-22 e = rw e
+
+  pub back-own : isEmpty (view c .tasks) ≡ false → refusal (ownChecks tb (view c) back) ≡ 0
+  unfolding ownChecks refusal
+  back-own e = rw e
+
+  pub back-21 : isEmpty (view c .tasks) ≡ true → refusal (ownChecks tb (view c) back) ≡ 21
+  unfolding ownChecks refusal
+  back-21 e = rw e
 
 -- a sound session can be looked at
 pub ready-seen : (tb : List ℕ) (c : Session) → Sized c → Ready tb c → Seen c

@@ -1,12 +1,15 @@
 -- Calls on stored sessions: what each function of this crate gives, refused or not.
 use Prim.Native.Nat.{ℕ, zero, suc}
 use mathlib.Core.Path.{_≡_}
-use mathlib.Core.Bool.{true}
-use mathlib.Core.List.{List, []}
+use mathlib.Core.Bool.{true, not}
+use mathlib.Core.List.{List, [], _∷_}
+use lib.Dec.{ltb}
 use Rattle.model.specs.declared.Answer.{Answer}
-use Rattle.model.specs.Refusals.{refusal}
-use Rattle.model.specs.Table.{tableRefusal}
+use Rattle.model.specs.Lists.{isEmpty}
+use Rattle.model.specs.Refusals.{check, refusal}
+use Rattle.model.specs.Table.{sizeOf, tableRefusal}
 use Rattle.model.specs.Session.{State}
+use Rattle.model.specs.Flags.{hasOtherBit}
 use Rattle.model.specs.Answers.{lookAt, refused}
 use Rattle.model.specs.Calls.{Call, checksIn, ownChecks, done}
 use Rattle.session.specs.declared.Session.{Session}
@@ -31,6 +34,18 @@ sharedRefusal tb c = refusal (checksIn tb (soundStored tb c) [])
 
 unfoldable pub callStored : List ℕ → Session → Call → Reply
 callStored tb c k = settleStored (refusalStored tb c k) c (done tb (view c) k)
+
+-- a start's checks before it looks for room: 1, 2, 20, 3, 4, 21, or 0
+unfoldable pub entryRefusal : List ℕ → Session → ℕ → ℕ → ℕ
+entryRefusal tb c b w =
+    refusal
+    (checksIn tb (soundStored tb c)
+    (check 3 (not (ltb b (sizeOf tb))) ∷ check 4 (hasOtherBit w) ∷ check 21 (isEmpty (view c .tasks)) ∷ []))
+
+-- a start that passed them, refused by 23 or 24 or not
+abbrev pub settleStart : ℕ → Session → Reply
+settleStart zero c = reply c (lookAt (view c))
+settleStart (suc k) c = reply c (refused (suc k))
 
 -- under a good table a sound session stays sound
 abbrev pub KeepsSound : List ℕ → Session → Session → Type 0

@@ -1,12 +1,12 @@
 -- Launch as the code makes it; that Back finds a screen to close; and the front screen as the code reads it.
 use Prim.Native.Nat.{ℕ, _≤_, _<_}
-use mathlib.Core.Path.{_≡_, refl, sym, _∙_, ap}
+use mathlib.Core.Path.{_≡_, ap}
 use mathlib.Core.Bool.{true}
-use mathlib.Core.List.{List, [], _∷_}
+use mathlib.Core.List.{List, []}
 use native.Mathlib.Omega.{arith}
 use lib.ListN.{getD}
 use Rattle.model.specs.Table.{mainScreen}
-use Rattle.model.specs.Session.{State, noStack, fresh, count, height, mostHeight, top, frontScreen}
+use Rattle.model.specs.Session.{noStack, fresh, count, height, mostHeight, top, frontScreen}
 use Rattle.model.specs.Deeds.{putNew}
 use Rattle.model.specs.Calls.{launched}
 use Rattle.model.proofs.Logic.{All-at}

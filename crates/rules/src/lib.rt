@@ -51,7 +51,11 @@ fn plan_start(table: &[u8], s: Session, b: u8, f: Flags) -> Plan
     let rule = c.rule;
     let found = c.found;
     let deed = choice::deed_of(rule);
-    Plan { refusal: choice::room_refusal(s, c), deed: deed, place: choice::place_of(found) }
+    Plan {
+        refusal: choice::room_refusal(s, c),
+        deed: deed,
+        place: choice::place_of(found),
+    }
 }
 
 // Start of b with the flags f.
@@ -61,11 +65,17 @@ pub fn start(table: &[u8], s: Session, b: u8, f: Flags) -> Started
 {
     let p = plan_start(table, s, b, f);
     if p.refusal != 0 {
-        return Started { refusal: p.refusal, session: s };
+        return Started {
+            refusal: p.refusal,
+            session: s,
+        };
     }
     let deed = p.deed;
     let out = deeds::carry_out(s, b, deed, p.place);
-    Started { refusal: 0, session: out }
+    Started {
+        refusal: 0,
+        session: out,
+    }
 }
 
 // Finishing start: the start, and then the screen that was in front closes, if it still stands.
@@ -75,11 +85,17 @@ pub fn finish_start(table: &[u8], s: Session, b: u8, f: Flags) -> Started
 {
     let p = plan_start(table, s, b, f);
     if p.refusal != 0 {
-        return Started { refusal: p.refusal, session: s };
+        return Started {
+            refusal: p.refusal,
+            session: s,
+        };
     }
     let deed = p.deed;
     let front = s.tasks[0];
     let same = b == front.top();
     let out = deeds::carry_out(s, b, deed, p.place);
-    Started { refusal: 0, session: closing::close_mark(out, deed, p.place, same) }
+    Started {
+        refusal: 0,
+        session: closing::close_mark(out, deed, p.place, same),
+    }
 }

@@ -1,7 +1,6 @@
 -- `rules::finish_start` meets its contract: refused where there is no room; else the deed of the rule that is chosen, and
 -- then the screen at the mark's position closes.
-use mathlib.Core.Path.{_≡_, sym, _∙_, ap}
-use native.Mathlib.Omega.{arith}
+use mathlib.Core.Path.{sym, _∙_, ap}
 use borrow.Author.Needs.{needs}
 use Rattle.session.proofs.Known.{sized}
 use Rattle.rules.specs.declared.Plan.{Plan}
@@ -29,9 +28,10 @@ top-requires : tie.Need-top-requires
 top-requires c κs =
     let start = c .before .before .before .before .before in
     let s = start .args .t2 in
-    let z = sized s _ (start .good .1 .0) in
-    (front-filled (start .args .table .now) s z (start .pre .ready) (start .pre .some),
-    front-low (start .args .table .now) s z (start .pre .ready) (start .pre .some))
+    let z = sized s _ (start .good .1 .0) in (
+      front-filled (start .args .table .now) s z (start .pre .ready) (start .pre .some),
+      front-low (start .args .table .now) s z (start .pre .ready) (start .pre .some),
+    )
 
 carry-out-requires : tie.Need-carry-out-requires
 carry-out-requires c κs =

@@ -1,5 +1,4 @@
 -- `rules::launch` meets its contract: a new task of the main screen in a fresh session, whose place is the main place.
-use mathlib.Core.Path.{_≡_, _∙_}
 use native.Mathlib.Omega.{arith}
 use borrow.Author.Needs.{needs}
 use Rattle.model.proofs.Tables.{good-shaped}

@@ -1,8 +1,7 @@
 -- `rules::plan_start` meets its contract: the rule that is chosen, taken apart.
-use mathlib.Core.Path.{_≡_, _∙_, ap}
 use borrow.Author.Needs.{needs}
 use Rattle.session.proofs.Known.{sized}
-use Rattle.rules.proofs.StartLaws.{start-placed}
+use Rattle.choice.proofs.Rooms.{choose-placed}
 use Rattle.rules.proofs.plan_start.Statement.{statement}
 use Rattle.rules.proofs.plan_start.Tie as tie
 
@@ -16,7 +15,7 @@ room-refusal-requires : tie.Need-room-refusal-requires
 room-refusal-requires c κs =
     let start = c .before .before .before in
     let a = start .args in
-    rw (c .before .choose .ensures) (start-placed (a .table .now) (a .s) (a .b) (a .f) (sized (a .s) _ (start .good .1 .0)) (start .pre))
+    rw (c .before .choose .ensures) (choose-placed (a .table .now) (a .s) (a .b) (sized (a .s) _ (start .good .1 .0)) (start .pre) (a .f))
 
 place-of-requires : tie.Need-place-of-requires
 place-of-requires c κs = search needs

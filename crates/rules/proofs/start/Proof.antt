@@ -1,5 +1,5 @@
 -- `rules::start` meets its contract: refused where there is no room, and else the deed of the rule that is chosen.
-use mathlib.Core.Path.{_≡_, sym, _∙_, ap}
+use mathlib.Core.Path.{sym, _∙_, ap}
 use borrow.Author.Needs.{needs}
 use Rattle.session.proofs.Known.{sized}
 use Rattle.rules.specs.declared.Plan.{Plan}
