@@ -1,7 +1,7 @@
 -- A call on a stored session, by what its first checks said; and that what it leaves is sound.
 use Prim.Native.Nat.{ℕ, zero, suc, _≤_}
 use mathlib.Core.Path.{_≡_, refl, sym, _∙_, ap}
-use mathlib.Core.Bool.{Bool, true, false, not}
+use mathlib.Core.Bool.{true, false, not}
 use mathlib.Core.List.{List, [], _∷_}
 use native.Mathlib.Nat.{not-suc-le-zero}
 use native.Mathlib.Omega.{arith}
@@ -9,12 +9,11 @@ use lib.ListN.{length}
 use borrow.Author.Tests.{not-false}
 use Rattle.model.specs.Lists.{isEmpty}
 use Rattle.model.specs.Refusals.{check, refusal}
-use Rattle.model.specs.Table.{tableRefusal, tableShaped, tableFilled, tableChecks}
+use Rattle.model.specs.Table.{tableRefusal, tableShaped, tableFilled}
 use Rattle.model.specs.Session.{Stack, State}
 use Rattle.model.specs.Answers.{lookAt, refused}
 use Rattle.model.specs.Calls.{Call, launch, back, look, checksIn, ownChecks, done}
 use Rattle.model.proofs.RefusalLaws.{refusal-skip, refusal-passes, refusal-append-refused, checks-bad-table, checks-unsound, checks-own}
-use Rattle.model.proofs.Sound.{Sound}
 use Rattle.model.proofs.Keeps.{done-sound}
 use Rattle.session.specs.declared.Session.{Session}
 use Rattle.session.specs.Stored.{view, hold, soundStored, Ready}

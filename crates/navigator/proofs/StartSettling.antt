@@ -1,7 +1,7 @@
 -- A start on a stored session, by what its checks said, and by what it made of the session; a finishing start likewise.
 use Prim.Native.Nat.{ℕ, zero, suc, _≤_, _<_}
 use mathlib.Core.Path.{_≡_, refl, sym, _∙_, ap}
-use mathlib.Core.Bool.{Bool, true, false, not}
+use mathlib.Core.Bool.{true, false, not}
 use mathlib.Core.List.{List, [], _∷_}
 use native.Mathlib.Omega.{arith}
 use lib.Dec.{ltb}
@@ -9,7 +9,7 @@ use borrow.Author.Tests.{ltb-true, lt-ltb, le-ltb, not-false}
 use Rattle.model.specs.Lists.{isEmpty}
 use Rattle.model.specs.Refusals.{Check, check, refusal}
 use Rattle.model.specs.Table.{sizeOf, tableShaped, tableFilled, tableRefusal}
-use Rattle.model.specs.Session.{State, count}
+use Rattle.model.specs.Session.{State}
 use Rattle.model.specs.Flags.{flagsOf, hasOtherBit}
 use Rattle.model.specs.Answers.{lookAt, refused}
 use Rattle.model.specs.Calls.{Call, start, finishingStart, chosen, started, finished, startChecks, roomChecks, checksIn, ownChecks, done}
@@ -23,7 +23,6 @@ use Rattle.answer.specs.Seen.{Seen}
 use Rattle.choice.specs.Startable.{Startable}
 use Rattle.rules.specs.declared.Started.{Started}
 use Rattle.rules.specs.Starts.{settleRoom, roomRefusal, startStored, finishStored}
-use Rattle.navigator.specs.declared.Reply.{Reply}
 use Rattle.navigator.specs.StoredCalls.{reply, settleStored, settleStart, refusalStored, sharedRefusal, entryRefusal, callStored}
 use Rattle.navigator.proofs.Settling.{call-settled, own-seen}
 
@@ -153,3 +152,11 @@ module _ (tb : List ℕ) (c : Session) (b w : ℕ) where
   pub finish-done : finishStored tb c b (flagsOf w) ≡ settleRoom roomOf c (done tb (view c) (finishingStart b w))
   unfolding finishStored done finished
   finish-done = refl
+
+-- what `settle` gives, by the refusal
+pub settle-refused : (c : Session) (k : ℕ) → (k ≡ 0 → ⊥) → settleStart k c ≡ reply c (refused k)
+settle-refused c zero n = absurd (n refl)
+settle-refused c (suc k) n = refl
+
+pub settle-accepted : (c : Session) (k : ℕ) → k ≡ 0 → settleStart k c ≡ reply c (lookAt (view c))
+settle-accepted c k e = rw e

@@ -83,19 +83,19 @@ pub fn finish_start(table: &[u8], s: Session, b: u8, f: Flags) -> Started
     requires { ⌜ Startable (now table) s b ⌝ }
     ensures { λ r. ⌜ r ≡ finishStored (now (table .entry)) s b f ⌝ }
 {
-    let p = plan_start(table, s, b, f);
-    if p.refusal != 0 {
+    let plan = plan_start(table, s, b, f);
+    if plan.refusal != 0 {
         return Started {
-            refusal: p.refusal,
+            refusal: plan.refusal,
             session: s,
         };
     }
-    let deed = p.deed;
+    let deed = plan.deed;
     let front = s.tasks[0];
     let same = b == front.top();
-    let out = deeds::carry_out(s, b, deed, p.place);
+    let out = deeds::carry_out(s, b, deed, plan.place);
     Started {
         refusal: 0,
-        session: closing::close_mark(out, deed, p.place, same),
+        session: closing::close_mark(out, deed, plan.place, same),
     }
 }

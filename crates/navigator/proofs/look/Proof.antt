@@ -1,5 +1,5 @@
 -- `navigator::look` meets its contract: refused by the shared checks, or the session as it is and what it shows.
-use mathlib.Core.Path.{_≡_, sym, _∙_}
+use mathlib.Core.Path.{sym, _∙_}
 use borrow.Author.Needs.{needs}
 use Rattle.model.specs.Calls.{look}
 use Rattle.session.proofs.Known.{sized}
@@ -20,8 +20,8 @@ returns c =
     call-gives (a .table .now) (a .s) look (c .refuse .result)
     (c .refuse .ensures ∙ sym (call-refused (a .table .now) (a .s) look (k .result) (sym (k .ensures)) (c .before .if1 .taken)))
 
-look-at-requires : tie.Need-look-at-requires
-look-at-requires c κs =
+accept-requires : tie.Need-accept-requires
+accept-requires c κs =
     let start = c .before .before .before in
     let a = start .args in
     ready-seen (a .table .now) (a .s) (sized (a .s) _ (start .good .1 .0))
@@ -32,8 +32,8 @@ returns-2 c =
     let start = c .before .before .before .before in
     let a = start .args in
     let h = shared-ready (a .table .now) (a .s) (sym (c .before .before .shared-refusal .ensures) ∙ c .before .if1 .left) in
-    call-gives (a .table .now) (a .s) look _
-    (rw (c .look-at .ensures) (sym (look-settled (a .table .now) (a .s) (sized (a .s) _ (start .good .1 .0)) h)))
+    call-gives (a .table .now) (a .s) look (c .accept .result)
+    (c .accept .ensures ∙ sym (look-settled (a .table .now) (a .s) (sized (a .s) _ (start .good .1 .0)) h))
 
 pub look-spec : {M : Type 1} → statement M
-look-spec = tie.close (tie.spec shared-refusal-requires refuse-requires returns look-at-requires returns-2)
+look-spec = tie.close (tie.spec shared-refusal-requires refuse-requires returns accept-requires returns-2)
