@@ -65,9 +65,9 @@ pub fn look(table: &[u8], s: Session) -> Reply
     ensures gives { λ r. ⌜ r ≡ callStored (now (table .entry)) s Call.look ⌝ }
     ensures keeps { λ r. ⌜ KeepsSound (now (table .entry)) s (r .session) ⌝ }
 {
-    let number = shared_refusal(table, s);
-    if number != 0 {
-        return refuse(s, number);
+    let refusal = shared_refusal(table, s);
+    if refusal != 0 {
+        return refuse(s, refusal);
     }
     accept(s)
 }
