@@ -1,21 +1,8 @@
--- `navigator::back` meets its contract: refused by the shared checks or by 21, or the session without its front screen.
+-- `navigator::back` meets its contract: refused by the shared checks, or what `calls::back` gives on a sound session.
 use mathlib.Core.Path.{sym, _∙_}
-use native.Mathlib.Omega.{arith}
 use borrow.Author.Needs.{needs}
-use Rattle.model.specs.Calls.{back, done}
-use Rattle.session.proofs.Known.{sized}
-use Rattle.navigator.proofs.Settling.{
-  shared-ready,
-  call-refused,
-  call-gives,
-  own-refused,
-  own-accepted,
-  own-seen,
-  empty-view,
-  filled-view,
-  back-own,
-  back-21,
-}
+use Rattle.model.specs.Calls.{back}
+use Rattle.calls.proofs.Settling.{shared-ready, call-refused, call-gives}
 use Rattle.navigator.proofs.back.Statement.{statement}
 use Rattle.navigator.proofs.back.Tie as tie
 
@@ -32,53 +19,15 @@ returns c =
     call-gives (a .table .now) (a .s) back (c .refuse .result)
     (c .refuse .ensures ∙ sym (call-refused (a .table .now) (a .s) back (k .result) (sym (k .ensures)) (c .before .if1 .taken)))
 
-refuse-requires-2 : tie.Need-refuse-requires-2
-refuse-requires-2 c κs = search needs
+back-requires : tie.Need-back-requires
+back-requires c κs =
+    let a = c .before .before .before .args in
+    shared-ready (a .table .now) (a .s) (sym (c .before .shared-refusal .ensures) ∙ c .if1 .left)
 
 returns-2 : tie.Need-returns-2
 returns-2 c =
-    let start = c .before .before .before .before .before .before in
-    let a = start .args in
-    let h = shared-ready (a .table .now) (a .s) (sym (c .before .before .before .before .shared-refusal .ensures) ∙ c .before .before .before .if1 .left) in
-    call-gives (a .table .now) (a .s) back (c .refuse2 .result)
-    (c .refuse2 .ensures
-    ∙ sym (own-refused (a .table .now) (a .s) back h 21 (back-21 (a .table .now) (a .s) (empty-view (a .table .now) (a .s) (c .before .if2 .taken))) (λ e. omega arith)))
-
-back-requires : tie.Need-back-requires
-back-requires c κs =
-    let start = c .before .before .before .before .before in
-    let a = start .args in
-    let h = shared-ready (a .table .now) (a .s) (sym (c .before .before .before .shared-refusal .ensures) ∙ c .before .before .if1 .left) in
-    (h, omega arith)
-
-accept-requires : tie.Need-accept-requires
-unfolding done
-accept-requires c κs =
-    let start = c .before .before .before .before .before .before in
-    let a = start .args in
-    let h = shared-ready (a .table .now) (a .s) (sym (c .before .before .before .before .shared-refusal .ensures) ∙ c .before .before .before .if1 .left) in
-    rw (c .back .ensures) (own-seen (a .table .now) (a .s) back h (back-own (a .table .now) (a .s) (filled-view (a .table .now) (a .s) (sized (a .s) _ (start .good .1 .0)) h (c .before .if2 .left))))
-
-returns-3 : tie.Need-returns-3
-unfolding done
-returns-3 c =
-    let start = c .before .before .before .before .before .before .before in
-    let a = start .args in
-    let h = shared-ready (a .table .now) (a .s) (sym (c .before .before .before .before .before .shared-refusal .ensures) ∙ c .before .before .before .before .if1 .left) in
-    call-gives (a .table .now) (a .s) back (c .accept .result)
-    (c .accept .ensures
-    ∙ rw (c .before .back .ensures)
-    (sym (own-accepted (a .table .now) (a .s) back h (back-own (a .table .now) (a .s) (filled-view (a .table .now) (a .s) (sized (a .s) _ (start .good .1 .0)) h (c .before .before .if2 .left))))))
+    let a = c .before .before .before .before .args in
+    call-gives (a .table .now) (a .s) back (c .back .result) (c .back .ensures)
 
 pub back-spec : {M : Type 1} → statement M
-back-spec =
-    tie.close
-    (tie.spec
-    shared-refusal-requires
-    refuse-requires
-    returns
-    refuse-requires-2
-    returns-2
-    back-requires
-    accept-requires
-    returns-3)
+back-spec = tie.close (tie.spec shared-refusal-requires refuse-requires returns back-requires returns-2)

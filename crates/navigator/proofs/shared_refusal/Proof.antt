@@ -1,7 +1,7 @@
 -- `navigator::shared_refusal` meets its contract: the table's refusal, then 20, then 0.
 use mathlib.Core.Path.{sym, _∙_}
 use borrow.Author.Needs.{needs}
-use Rattle.navigator.proofs.Settling.{shared-bad-table, shared-unsound, shared-passed}
+use Rattle.calls.proofs.Settling.{shared-bad-table, shared-unsound, shared-passed}
 use Rattle.navigator.proofs.shared_refusal.Statement.{statement}
 use Rattle.navigator.proofs.shared_refusal.Tie as tie
 

@@ -1,4 +1,4 @@
--- Calls on stored sessions: what each function of this crate gives, refused or not.
+-- Calls on stored sessions: what the program gives for each, refused or not.
 use Prim.Native.Nat.{ℕ, zero, suc}
 use mathlib.Core.Path.{_≡_}
 use mathlib.Core.Bool.{true, not}
@@ -6,7 +6,7 @@ use mathlib.Core.List.{List, [], _∷_}
 use lib.Dec.{ltb}
 use Rattle.model.specs.declared.Answer.{Answer}
 use Rattle.model.specs.Lists.{isEmpty}
-use Rattle.model.specs.Refusals.{check, refusal}
+use Rattle.model.specs.Refusals.{Check, check, refusal}
 use Rattle.model.specs.Table.{sizeOf, tableRefusal}
 use Rattle.model.specs.Session.{State}
 use Rattle.model.specs.Flags.{hasOtherBit}
@@ -14,7 +14,7 @@ use Rattle.model.specs.Answers.{lookAt, refused}
 use Rattle.model.specs.Calls.{Call, checksIn, ownChecks, done}
 use Rattle.session.specs.declared.Session.{Session}
 use Rattle.session.specs.Stored.{view, hold, soundStored}
-use Rattle.navigator.specs.declared.Reply.{Reply}
+use Rattle.calls.specs.declared.Reply.{Reply}
 
 abbrev pub reply : Session → Answer → Reply
 reply c a = record { session = c; answer = a }
@@ -35,12 +35,10 @@ sharedRefusal tb c = refusal (checksIn tb (soundStored tb c) [])
 unfoldable pub callStored : List ℕ → Session → Call → Reply
 callStored tb c k = settleStored (refusalStored tb c k) c (done tb (view c) k)
 
--- a start's checks before it looks for room: 1, 2, 20, 3, 4, 21, or 0
-unfoldable pub entryRefusal : List ℕ → Session → ℕ → ℕ → ℕ
-entryRefusal tb c b w =
-    refusal
-    (checksIn tb (soundStored tb c)
-    (check 3 (not (ltb b (sizeOf tb))) ∷ check 4 (hasOtherBit w) ∷ check 21 (isEmpty (view c .tasks)) ∷ []))
+-- a start's own checks before it looks for room: 3, 4, 21, or 0
+abbrev pub entryChecks : List ℕ → Session → ℕ → ℕ → List Check
+entryChecks tb c b w =
+    check 3 (not (ltb b (sizeOf tb))) ∷ check 4 (hasOtherBit w) ∷ check 21 (isEmpty (view c .tasks)) ∷ []
 
 -- a start that passed them, refused by 23 or 24 or not
 abbrev pub settleStart : ℕ → Session → Reply

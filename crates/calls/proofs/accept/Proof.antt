@@ -1,7 +1,7 @@
--- `navigator::accept` meets its contract: the session, and what a look at it shows.
+-- `calls::accept` meets its contract: the session, and what a look at it shows.
 use borrow.Author.Needs.{needs}
-use Rattle.navigator.proofs.accept.Statement.{statement}
-use Rattle.navigator.proofs.accept.Tie as tie
+use Rattle.calls.proofs.accept.Statement.{statement}
+use Rattle.calls.proofs.accept.Tie as tie
 
 look-at-requires : tie.Need-look-at-requires
 look-at-requires c κs = search needs

@@ -1,7 +1,7 @@
--- `navigator::refuse` meets its contract: the session as it was, and the answer of the refusal.
+-- `calls::refuse` meets its contract: the session as it was, and the answer of the refusal.
 use borrow.Author.Needs.{needs}
-use Rattle.navigator.proofs.refuse.Statement.{statement}
-use Rattle.navigator.proofs.refuse.Tie as tie
+use Rattle.calls.proofs.refuse.Statement.{statement}
+use Rattle.calls.proofs.refuse.Tie as tie
 
 refused-requires : tie.Need-refused-requires
 refused-requires c κs = search needs

@@ -21,8 +21,8 @@ use Rattle.answer.specs.Seen.{Seen}
 use Rattle.session.proofs.Known.{Sized}
 use Rattle.session.proofs.StoredLaws.{held, view-hold, view-count, hold-sound, sound-blank, blank-few, sound-view}
 use Rattle.answer.proofs.LookLaws.{sound-seen}
-use Rattle.navigator.specs.declared.Reply.{Reply}
-use Rattle.navigator.specs.StoredCalls.{reply, settleStored, refusalStored, sharedRefusal, callStored, KeepsSound}
+use Rattle.calls.specs.declared.Reply.{Reply}
+use Rattle.calls.specs.StoredCalls.{reply, settleStored, refusalStored, sharedRefusal, callStored, KeepsSound}
 
 -- ---- the shared checks
 

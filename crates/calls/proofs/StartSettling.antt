@@ -7,56 +7,43 @@ use native.Mathlib.Omega.{arith}
 use lib.Dec.{ltb}
 use borrow.Author.Tests.{ltb-true, lt-ltb, le-ltb, not-false}
 use Rattle.model.specs.Lists.{isEmpty}
-use Rattle.model.specs.Refusals.{Check, check, refusal}
-use Rattle.model.specs.Table.{sizeOf, tableShaped, tableFilled, tableRefusal}
+use Rattle.model.specs.Refusals.{check, refusal}
+use Rattle.model.specs.Table.{sizeOf}
 use Rattle.model.specs.Session.{State}
 use Rattle.model.specs.Flags.{flagsOf, hasOtherBit}
 use Rattle.model.specs.Answers.{lookAt, refused}
-use Rattle.model.specs.Calls.{Call, start, finishingStart, chosen, started, finished, startChecks, roomChecks, checksIn, ownChecks, done}
-use Rattle.model.proofs.RefusalLaws.{refusal-skip, refusal-applies, refusal-passes, refusal-append-refused, checks-own}
+use Rattle.model.specs.Calls.{Call, start, finishingStart, chosen, started, finished, startChecks, roomChecks, ownChecks, done}
+use Rattle.model.proofs.RefusalLaws.{refusal-skip, refusal-applies, refusal-passes, refusal-append-refused}
 use Rattle.model.proofs.ListLaws.{isEmpty-length}
 use Rattle.session.specs.declared.Session.{Session}
-use Rattle.session.specs.Stored.{view, hold, soundStored, Ready}
+use Rattle.session.specs.Stored.{view, hold, Ready}
 use Rattle.session.proofs.Known.{Sized}
 use Rattle.session.proofs.StoredLaws.{view-hold, view-count, blank-few, sound-blank}
 use Rattle.answer.specs.Seen.{Seen}
 use Rattle.choice.specs.Startable.{Startable}
 use Rattle.rules.specs.declared.Started.{Started}
 use Rattle.rules.specs.Starts.{settleRoom, roomRefusal, startStored, finishStored}
-use Rattle.navigator.specs.StoredCalls.{reply, settleStored, settleStart, refusalStored, sharedRefusal, entryRefusal, callStored}
-use Rattle.navigator.proofs.Settling.{call-settled, own-seen}
+use Rattle.calls.specs.StoredCalls.{reply, settleStored, settleStart, entryChecks, callStored}
+use Rattle.calls.proofs.Settling.{call-settled, own-refused, own-seen}
 
 module _ (tb : List ℕ) (c : Session) (b w : ℕ) where
-  -- 3, 4 and 21
-  abbrev entryChecks : List Check
-  entryChecks = check 3 (not (ltb b (sizeOf tb))) ∷ check 4 (hasOtherBit w) ∷ check 21 (isEmpty (view c .tasks)) ∷ []
+  -- ---- the number that the entry checks give
 
-  -- ---- the number that the checks give
+  pub entry-3 : sizeOf tb ≤ b → refusal (entryChecks tb c b w) ≡ 3
+  entry-3 l = refusal-applies 3 _ _ (rw (le-ltb b (sizeOf tb) l))
 
-  pub entry-shared : (k : ℕ) → sharedRefusal tb c ≡ k → (k ≡ 0 → ⊥) → entryRefusal tb c b w ≡ k
-  unfolding sharedRefusal entryRefusal
-  entry-shared zero e n = absurd (n refl)
-  entry-shared (suc k) e n = refusal-append-refused k (checksIn tb (soundStored tb c) []) entryChecks e
+  module _ (known : b < sizeOf tb) where
+    pass-3 : refusal (entryChecks tb c b w) ≡ refusal (check 4 (hasOtherBit w) ∷ check 21 (isEmpty (view c .tasks)) ∷ [])
+    pass-3 = refusal-passes 3 _ _ (rw (lt-ltb b (sizeOf tb) known))
 
-  entry-own : Ready tb c → entryRefusal tb c b w ≡ refusal entryChecks
-  unfolding entryRefusal
-  entry-own h = rw (h .sound) (checks-own tb entryChecks (h .good))
-
-  pub entry-3 : Ready tb c → sizeOf tb ≤ b → entryRefusal tb c b w ≡ 3
-  entry-3 h l = entry-own h ∙ refusal-applies 3 _ _ (rw (le-ltb b (sizeOf tb) l))
-
-  module _ (h : Ready tb c) (known : b < sizeOf tb) where
-    pass-3 : entryRefusal tb c b w ≡ refusal (check 4 (hasOtherBit w) ∷ check 21 (isEmpty (view c .tasks)) ∷ [])
-    pass-3 = entry-own h ∙ refusal-passes 3 _ _ (rw (lt-ltb b (sizeOf tb) known))
-
-    pub entry-4 : hasOtherBit w ≡ true → entryRefusal tb c b w ≡ 4
+    pub entry-4 : hasOtherBit w ≡ true → refusal (entryChecks tb c b w) ≡ 4
     entry-4 e = pass-3 ∙ refusal-applies 4 _ _ e
 
     module _ (six : hasOtherBit w ≡ false) where
-      pub entry-21 : isEmpty (view c .tasks) ≡ true → entryRefusal tb c b w ≡ 21
+      pub entry-21 : isEmpty (view c .tasks) ≡ true → refusal (entryChecks tb c b w) ≡ 21
       entry-21 e = pass-3 ∙ refusal-passes 4 _ _ six ∙ refusal-applies 21 _ _ e
 
-      pub entry-0 : isEmpty (view c .tasks) ≡ false → entryRefusal tb c b w ≡ 0
+      pub entry-0 : isEmpty (view c .tasks) ≡ false → refusal (entryChecks tb c b w) ≡ 0
       unfolding refusal
       entry-0 e = pass-3 ∙ rw (six, e)
 
@@ -68,26 +55,12 @@ module _ (tb : List ℕ) (c : Session) (b w : ℕ) where
     pub six : hasOtherBit w ≡ false
     pub some : isEmpty (view c .tasks) ≡ false
 
-  refusal-none : refusal [] ≡ 0
-  unfolding refusal
-  refusal-none = refl
-
-  pub entered : entryRefusal tb c b w ≡ 0 → Entered
-  unfolding entryRefusal tableRefusal
-  entered e =
-      let c₁ = refusal-skip 0 (not (tableShaped tb)) _ e in
-      let c₂ = refusal-skip 1 (not (tableFilled tb)) _ (c₁ .1) in
-      let c₂₀ = refusal-skip 19 (not (soundStored tb c)) _ (c₂ .1) in
-      let c₃ = refusal-skip 2 (not (ltb b (sizeOf tb))) _ (c₂₀ .1) in
+  pub entered : Ready tb c → refusal (entryChecks tb c b w) ≡ 0 → Entered
+  entered h e =
+      let c₃ = refusal-skip 2 (not (ltb b (sizeOf tb))) _ e in
       let c₄ = refusal-skip 3 (hasOtherBit w) _ (c₃ .1) in
       let c₂₁ = refusal-skip 20 (isEmpty (view c .tasks)) _ (c₄ .1) in
-      record {
-        ready =
-            record { good = refusal-passes 1 _ _ (c₁ .0) ∙ refusal-passes 2 _ _ (c₂ .0) ∙ refusal-none; sound = not-false _ (c₂₀ .0) };
-        known = ltb-true b (sizeOf tb) (not-false _ (c₃ .0));
-        six = c₄ .0;
-        some = c₂₁ .0;
-      }
+      record { ready = h; known = ltb-true b (sizeOf tb) (not-false _ (c₃ .0)); six = c₄ .0; some = c₂₁ .0 }
 
   pub entered-startable : Sized c → Entered → Startable tb c b
   entered-startable z h =
@@ -111,13 +84,11 @@ module _ (tb : List ℕ) (c : Session) (b w : ℕ) where
 
   -- a call with the checks of a start; of both kinds of start
   module _ (k : Call) (checks : ownChecks tb (view c) k ≡ startChecks tb (view c) b w) where
-    pub entry-refused : (n : ℕ) → entryRefusal tb c b w ≡ n → (n ≡ 0 → ⊥) → callStored tb c k ≡ reply c (refused n)
-    unfolding callStored refusalStored entryRefusal
-    entry-refused zero e z = absurd (z refl)
-    entry-refused (suc n) e z =
-        ap (λ (r : ℕ). settleStored r c (done tb (view c) k))
-        (ap (λ (own : List Check). refusal (checksIn tb (soundStored tb c) own)) checks
-        ∙ refusal-append-refused n (checksIn tb (soundStored tb c) entryChecks) (roomChecks (chosen tb (view c) b w) (view c)) e)
+    pub entry-refused : Ready tb c → (n : ℕ) → refusal (entryChecks tb c b w) ≡ n → (n ≡ 0 → ⊥) → callStored tb c k ≡ reply c (refused n)
+    entry-refused h zero e z = absurd (z refl)
+    entry-refused h (suc n) e z =
+        own-refused tb c k h (suc n)
+        (ap refusal checks ∙ refusal-append-refused n (entryChecks tb c b w) (roomChecks (chosen tb (view c) b w) (view c)) e) z
 
     own-room : Entered → refusal (ownChecks tb (view c) k) ≡ roomOf
     own-room h = ap refusal checks ∙ room-left h

@@ -1,9 +1,9 @@
--- `navigator::settle` meets its contract: refused by 23 or 24, or the session after the start.
+-- `calls::settle` meets its contract: refused by 23 or 24, or the session after the start.
 use mathlib.Core.Path.{sym, _∙_}
 use borrow.Author.Needs.{needs}
-use Rattle.navigator.proofs.StartSettling.{settle-refused, settle-accepted}
-use Rattle.navigator.proofs.settle.Statement.{statement}
-use Rattle.navigator.proofs.settle.Tie as tie
+use Rattle.calls.proofs.StartSettling.{settle-refused, settle-accepted}
+use Rattle.calls.proofs.settle.Statement.{statement}
+use Rattle.calls.proofs.settle.Tie as tie
 
 refuse-requires : tie.Need-refuse-requires
 refuse-requires c κs = search needs
