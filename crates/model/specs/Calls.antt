@@ -35,6 +35,7 @@ chosen tb s b w = choose tb s b (flagsOf w)
 abbrev pub carryChoice : {A : Type 0} → (A → Bool) → ℕ → A → Choice → State A → State A
 carryChoice isB b newB c s = carryOut isB b newB (deedOf (c .rule)) (placeOf (c .found)) s
 
+-- a start by the rule chosen
 abbrev pub startedBy : Choice → ℕ → State ℕ → State ℕ
 startedBy c b s = carryChoice (eqb b) b b c s
 
@@ -82,7 +83,9 @@ closeMarked s = closeMarkAt (find holdsMark (s .tasks)) s
 -- "Finishing start: mark the front screen, start B, then remove the marked screen if it still stands, as Back would
 -- in its task. A mark travels with its screen; an emptied screen is gone, and the pushed B is unmarked."
 abbrev pub finishedBy : Choice → ℕ → State ℕ → State ℕ
-finishedBy c b s = mapState (λ x. x .screen) (closeMarked (carryChoice (λ x. eqb b (x .screen)) b (unmarked b) c (markFront s)))
+finishedBy c b s =
+    mapState (λ x. x .screen)
+    (closeMarked (carryChoice (λ x. eqb b (x .screen)) b (unmarked b) c (markFront s)))
 
 unfoldable pub finished : List ℕ → State ℕ → ℕ → ℕ → State ℕ
 finished tb s b w = finishedBy (chosen tb s b w) b s
@@ -128,7 +131,8 @@ roomChecks c s =
 -- "21: start, Back: empty"
 abbrev pub startChecks : List ℕ → State ℕ → ℕ → ℕ → List Check
 startChecks tb s b w =
-    check 3 (not (ltb b (sizeOf tb))) ∷ check 4 (hasOtherBit w) ∷ check 21 (isEmpty (s .tasks)) ∷ roomChecks (chosen tb s b w) s
+    check 3 (not (ltb b (sizeOf tb))) ∷ check 4 (hasOtherBit w) ∷ check 21 (isEmpty (s .tasks))
+    ∷ roomChecks (chosen tb s b w) s
 
 -- "those named for the call". "A finishing start has the same checks, made before the removal." "22: launch: not empty"
 unfoldable pub ownChecks : List ℕ → State ℕ → Call → List Check
@@ -175,7 +179,8 @@ saveChecks s buffer = check 8 (ltb (length buffer) (length (image s))) ∷ []
 
 -- "Save writes it at the buffer's start, leaves the rest, and returns 0 and its length."
 abbrev pub settleSave : ℕ → State ℕ → List ℕ → Saved
-settleSave zero s buffer = record { refusal = 0; length = length (image s); buffer = image s ++ drop (length (image s)) buffer }
+settleSave zero s buffer =
+    record { refusal = 0; length = length (image s); buffer = image s ++ drop (length (image s)) buffer }
 settleSave (suc k) s buffer = record { refusal = suc k; length = 0; buffer = buffer }
 
 unfoldable pub save : List ℕ → State ℕ → List ℕ → Saved

@@ -5,7 +5,8 @@ use Rattle.model.specs.declared.Answer.{Answer}
 use Rattle.model.specs.Session.{State}
 use Rattle.model.specs.Calls.{Call, launch, start, finishingStart, back, look, restore, call}
 
--- the session after a list. "Each call gets the session that the call before it left, after a refusal the unchanged one"
+-- the session after a list. "Each call gets the session that the call before it left, after a refusal the unchanged
+-- one"
 unfoldable pub after : List ℕ → State ℕ → List Call → State ℕ
 after tb s [] = s
 after tb s (c ∷ cs) = after tb (call tb s c .session) cs

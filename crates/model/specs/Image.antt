@@ -44,7 +44,8 @@ mainIn bytes = getD (trailerIn bytes) 3 0
 unfoldable pub imageShaped : List ℕ → Bool
 imageShaped bytes =
     leb 6 (length bytes)
-    && ((eqb (getD (trailerIn bytes) 4 0) 0x08 && eqb (getD (trailerIn bytes) 5 0) 0x42) && eqb (length bytes) (lengthIn bytes + 6))
+    && ((eqb (getD (trailerIn bytes) 4 0) 0x08 && eqb (getD (trailerIn bytes) 5 0) 0x42)
+    && eqb (length bytes) (lengthIn bytes + 6))
 
 -- the tasks read from a body, or that they cannot be read
 pub data Reading : Type 0 where
@@ -63,7 +64,8 @@ readTasks zero (x ∷ xs) = unreadable
 readTasks (suc n) [] = unreadable
 readTasks (suc n) (r ∷ []) = unreadable
 readTasks (suc n) (r ∷ h ∷ l) =
-    if leb 1 h && (leb h mostHeight && leb h (length l)) then readMore (stack r (take h l)) (readTasks n (drop h l)) else unreadable
+    if leb 1 h && (leb h mostHeight && leb h (length l)) then readMore (stack r (take h l)) (readTasks n (drop h l))
+    else unreadable
 
 abbrev pub isReadable : Reading → Bool
 isReadable unreadable = false
@@ -84,4 +86,5 @@ sessionIn bytes = state (tasksRead (readTasks (countIn bytes) (bodyIn bytes))) (
 -- 5, 6, and "7: restore: the session read from the image is not sound under the table"
 abbrev pub imageChecks : List ℕ → List ℕ → List Check
 imageChecks tb bytes =
-    check 5 (not (imageShaped bytes)) ∷ check 6 (not (imageReadable bytes)) ∷ check 7 (not (sound tb (sessionIn bytes))) ∷ []
+    check 5 (not (imageShaped bytes)) ∷ check 6 (not (imageReadable bytes))
+    ∷ check 7 (not (sound tb (sessionIn bytes))) ∷ []

@@ -85,7 +85,8 @@ reply tb s (asks c) = call tb s c
 -- "One line a record": the text of a list of records, and the session after it
 unfoldable pub textOf : List ℕ → State ℕ → List Record → List ℕ
 textOf tb s [] = []
-textOf tb s (r ∷ rs) = lineOf (r .kind) (reply tb s (r .request) .answer) ++ textOf tb (reply tb s (r .request) .session) rs
+textOf tb s (r ∷ rs) =
+    lineOf (r .kind) (reply tb s (r .request) .answer) ++ textOf tb (reply tb s (r .request) .session) rs
 
 unfoldable pub sessionAfter : List ℕ → State ℕ → List Record → State ℕ
 sessionAfter tb s [] = s
@@ -102,7 +103,8 @@ recordBytes input = drop (2 + 2 * sizeOf input) input
 
 -- not "N bad or the table cut"
 unfoldable pub startsWithTable : List ℕ → Bool
-startsWithTable input = (leb 1 (sizeOf input) && leb (sizeOf input) mostScreens) && leb (2 + 2 * sizeOf input) (length input)
+startsWithTable input =
+    (leb 1 (sizeOf input) && leb (sizeOf input) mostScreens) && leb (2 + 2 * sizeOf input) (length input)
 
 -- "With N bad or the table cut it prints 0 and the answer of refusal 1, `0 1 0 0 0 0 0`, and stops."
 unfoldable pub playerText : List ℕ → List ℕ

@@ -26,7 +26,8 @@ pub record ImagesExact (tb : List ℕ) : Type 0 where
   -- what is accepted reads as a sound session
   pub soundOnly : (bytes : List ℕ) → refusal (imageChecks tb bytes) ≡ 0 → sound tb (sessionIn bytes) ≡ true
   -- whose image it is
-  pub imagesOnly : (bytes : List ℕ) → All IsByte bytes → refusal (imageChecks tb bytes) ≡ 0 → image (sessionIn bytes) ≡ bytes
+  pub imagesOnly : (bytes : List ℕ) → All IsByte bytes → refusal (imageChecks tb bytes) ≡ 0
+      → image (sessionIn bytes) ≡ bytes
 
 -- Promise 3: "each task has a screen, a single-instance screen is alone in its task, and no single-task or
 -- single-instance screen is the root of two tasks"

@@ -36,7 +36,8 @@ unfoldable pub seekRoot : ℕ → List (Stack ℕ) → Found
 seekRoot b ts = if isPlace (find (hasRoot b) ts) then Found.ByRoot (find (hasRoot b) ts) else Found.Nowhere
 
 unfoldable pub seekAffinity : List ℕ → ℕ → List (Stack ℕ) → Found
-seekAffinity tb b ts = if isPlace (find (hasAffinity tb b) ts) then Found.ByAffinity (find (hasAffinity tb b) ts) else Found.Nowhere
+seekAffinity tb b ts =
+    if isPlace (find (hasAffinity tb b) ts) then Found.ByAffinity (find (hasAffinity tb b) ts) else Found.Nowhere
 
 -- "sought by root, then by affinity": all tasks by root first
 unfoldable pub seek : List ℕ → ℕ → List (Stack ℕ) → Found

@@ -81,7 +81,8 @@ module _ (tb : List ℕ) where
   -- "a task with a single-instance root is that screen alone; such a screen stands nowhere else"
   unfoldable pub instanceAlone : Stack ℕ → Bool
   instanceAlone t =
-      if isSingleInstance tb (t .root) then isAlone (t .root) (t .screens) else all (λ x. not (isSingleInstance tb x)) (t .screens)
+      if isSingleInstance tb (t .root) then isAlone (t .root) (t .screens)
+      else all (λ x. not (isSingleInstance tb x)) (t .screens)
 
   unfoldable pub taskSound : Stack ℕ → Bool
   taskSound t = heightFits t && (screensKnown t && instanceAlone t)
@@ -97,4 +98,5 @@ module _ (tb : List ℕ) where
   -- "A session is sound under a table when .."; what is said of storage is said where sessions are stored
   unfoldable pub sound : State ℕ → Bool
   sound s =
-      (leb (count s) mostTasks && all taskSound (s .tasks)) && (pairwise rootsDiffer (s .tasks) && mainSound (s .tasks) (s .main))
+      (leb (count s) mostTasks && all taskSound (s .tasks))
+      && (pairwise rootsDiffer (s .tasks) && mainSound (s .tasks) (s .main))

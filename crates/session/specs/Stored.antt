@@ -63,7 +63,8 @@ unfoldable pub isBlank : Task → Bool
 isBlank t = eqb (t .root) 0 && (eqb (t .height) 0 && all (eqb 0) (t .screens))
 
 unfoldable pub storageBlank : Session → Bool
-storageBlank c = leb (c .n) mostTasks && (all blankAbove (take (c .n) (c .tasks)) && all isBlank (drop (c .n) (c .tasks)))
+storageBlank c =
+    leb (c .n) mostTasks && (all blankAbove (take (c .n) (c .tasks)) && all isBlank (drop (c .n) (c .tasks)))
 
 -- "A session is sound under a table when: limits hold; the storage just named holds 0; .."
 unfoldable pub soundStored : List ℕ → Session → Bool

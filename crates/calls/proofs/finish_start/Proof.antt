@@ -40,8 +40,8 @@ settle-requires c κs =
     let here = c .before .before .before .before .before in
     let a = here .args in
     let h =
-        entered (a .table .now) (a .s) (a .b) (a .word) (here .pre)
-        (sym (c .before .before .before .entry-refusal .ensures) ∙ c .before .before .if1 .left) in
+    entered (a .table .now) (a .s) (a .b) (a .word) (here .pre)
+    (sym (c .before .before .before .entry-refusal .ensures) ∙ c .before .before .if1 .left) in
     start-seen (a .table .now) (a .s) (a .b) (a .word) (finishingStart (a .b) (a .word)) (finish-checks (a .table .now) (a .s) (a .b) (a .word)) h
     (c .finish-start .result)
     (c .finish-start .ensures ∙ ap (λ (f : Flags). finishStored (a .table .now) (a .s) (a .b) f) (c .before .read .ensures)
@@ -52,8 +52,8 @@ returns-2 c =
     let here = c .before .before .before .before .before .before in
     let a = here .args in
     let h =
-        entered (a .table .now) (a .s) (a .b) (a .word) (here .pre)
-        (sym (c .before .before .before .before .entry-refusal .ensures) ∙ c .before .before .before .if1 .left) in
+    entered (a .table .now) (a .s) (a .b) (a .word) (here .pre)
+    (sym (c .before .before .before .before .entry-refusal .ensures) ∙ c .before .before .before .if1 .left) in
     c .settle .ensures
     ∙ start-settled (a .table .now) (a .s) (a .b) (a .word) (finishingStart (a .b) (a .word)) (finish-checks (a .table .now) (a .s) (a .b) (a .word)) h
     (c .before .finish-start .result)
