@@ -1,0 +1,4 @@
+// An empty input. The expected lines are from the second navigator.
+fn main() {
+    playing::play_all();
+}

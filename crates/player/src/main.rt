@@ -1,0 +1,4 @@
+// The player of document 01, on standard input and output. Its stdin and stdout here are the document's example.
+fn main() {
+    playing::play_all();
+}

@@ -1,0 +1,4 @@
+pub mod Entry
+pub mod Replies
+pub mod Records
+pub mod Playing

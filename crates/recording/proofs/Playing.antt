@@ -1,0 +1,151 @@
+-- Records played one after the other: the text and the session of one record more.
+use Prim.Native.Nat.{ℕ, _+_, _*_, _≤_}
+use mathlib.Core.Path.{_≡_, refl, sym, _∙_, ap}
+use mathlib.Core.List.{List, [], _∷_, _++_, append-nil, append-assoc}
+use native.Mathlib.Nat.{zero-add}
+use native.Mathlib.Omega.{arith}
+use lib.ListN.{length, length-append}
+use Rattle.model.specs.Session.{State}
+use Rattle.model.specs.Answers.{Outcome, refused}
+use Rattle.model.specs.Player.{Record, recordOf, Request, unplayable, reply, lineOf, textOf, sessionAfter}
+use Rattle.model.proofs.Sound.{Sound}
+use Rattle.session.specs.declared.Session.{Session}
+use Rattle.session.specs.Stored.{view, hold}
+use Rattle.session.proofs.Known.{Sized}
+use Rattle.session.proofs.StoredLaws.{held, view-hold, sound-view}
+use Rattle.line.specs.Written.{written}
+use Rattle.line.proofs.WrittenLaws.{Wrote, wrote-nil, wrote-append}
+use Rattle.answer.specs.Seen.{Seen}
+use Rattle.answer.proofs.LookLaws.{sound-seen}
+use Rattle.rules.specs.declared.Started.{Started}
+use Rattle.recording.specs.declared.Played.{Played}
+use Rattle.recording.specs.Steps.{Playable, entryRefusal, stepOf, answerAfter}
+use Rattle.recording.specs.Fitting.{longestLine, fitting, bytesOf, Plays}
+use Rattle.recording.proofs.Entry.{entry-good}
+use Rattle.recording.proofs.Replies.{answer-after, sound-playable, sound-sized, reply-sound, entry-refused}
+
+module _ (tb : List ℕ) where
+  after-append : (rs qs : List Record) (s : State ℕ) → sessionAfter tb s (rs ++ qs) ≡ sessionAfter tb (sessionAfter tb s rs) qs
+  unfolding sessionAfter
+  after-append [] qs s = refl
+  after-append (r ∷ rs) qs s = after-append rs qs (reply tb s (r .request) .session)
+
+  text-append : (rs qs : List Record) (s : State ℕ) → textOf tb s (rs ++ qs) ≡ textOf tb s rs ++ textOf tb (sessionAfter tb s rs) qs
+  unfolding textOf sessionAfter
+  text-append [] qs s = refl
+  text-append (r ∷ rs) qs s =
+      ap (λ (l : List ℕ). lineOf (r .kind) (reply tb s (r .request) .answer) ++ l) (text-append rs qs (reply tb s (r .request) .session))
+      ∙ sym (append-assoc (lineOf (r .kind) (reply tb s (r .request) .answer)) (textOf tb (reply tb s (r .request) .session) rs) (textOf tb (sessionAfter tb (reply tb s (r .request) .session) rs) qs))
+
+-- the session c and the text d′ up to `at` that the records rs leave, from the session v and the buffer d
+pub record Reached (tb : List ℕ) (v : State ℕ) (rs : List Record) (d : List ℕ) (c : Session) (d′ : List ℕ) (at : ℕ) : Type 0 where
+  pub session : view c ≡ sessionAfter tb v rs
+  pub playable : Playable tb c
+  pub sized : Sized c
+  pub wrote : Wrote d 0 (textOf tb v rs) d′ at
+
+-- the session that one record leaves
+pub record Left (tb : List ℕ) (c : Session) (r : Record) (c′ : Session) : Type 0 where
+  pub session : view c′ ≡ reply tb (view c) (r .request) .session
+  pub playable : Playable tb c′
+  pub sized : Sized c′
+
+pub reached-none : (tb d : List ℕ) (c : Session) → Playable tb c → Sized c → Reached tb (view c) [] d c d 0
+unfolding textOf sessionAfter
+reached-none tb d c p z = record { session = refl; playable = p; sized = z; wrote = wrote-nil d 0 }
+
+-- one record more
+pub reached-more : {tb d d′ d″ : List ℕ} {v : State ℕ} {rs : List Record} {c c′ : Session} {at next : ℕ}
+    → Reached tb v rs d c d′ at → at ≤ length d → (r : Record) → Left tb c r c′
+    → Wrote d′ at (lineOf (r .kind) (reply tb (view c) (r .request) .answer)) d″ next
+    → Reached tb v (rs ++ (r ∷ [])) d c′ d″ next
+unfolding textOf sessionAfter
+reached-more {tb} {d} {d′} {d″} {v} {rs} {c} {c′} {at} {next} h fits r k w =
+    let line = lineOf (r .kind) (reply tb (view c) (r .request) .answer) in
+    let e : textOf tb v (rs ++ (r ∷ [])) ≡ textOf tb v rs ++ line =
+    text-append tb rs (r ∷ []) v ∙ rw (← (h .session)) (ap (λ (l : List ℕ). textOf tb v rs ++ l) (append-nil line)) in
+    record {
+      session = k .session ∙ rw (h .session) (sym (after-append tb rs (r ∷ []) v));
+      playable = k .playable;
+      sized = k .sized;
+      wrote = rw e (wrote-append (h .wrote) fits w);
+    }
+
+-- ---- a record that its checks refuse
+
+pub reached-refused : {tb d d′ d″ : List ℕ} {v : State ℕ} {rs : List Record} {c : Session} {at next : ℕ}
+    → Reached tb v rs d c d′ at → at ≤ length d → (r : Record) (n : ℕ) → entryRefusal tb (c .n) (r .request) ≡ n → (n ≡ 0 → ⊥)
+    → Wrote d′ at (lineOf (r .kind) (refused n)) d″ next → Reached tb v (rs ++ (r ∷ [])) d c d″ next
+reached-refused {tb} {d} {d′} {d″} {v} {rs} {c} {at} {next} h fits r n e f w =
+    let k = entry-refused tb c (h .sized) (h .playable) (r .request) n e f in
+    reached-more h fits r
+    (record { session = sym (ap (λ (o : Outcome). o .session) k); playable = h .playable; sized = h .sized })
+    (rw k w)
+
+-- ---- a record whose call was made
+
+module _ (tb : List ℕ) (c : Session) (p : Playable tb c) (q : Request) (e : entryRefusal tb (c .n) q ≡ 0) where
+  sound-after : Sound tb (reply tb (view c) q .session)
+  sound-after = let ok = entry-good tb (c .n) q e in reply-sound tb ok (view c) (sound-view tb c (p .sound ok)) q
+
+  -- what it leaves can be looked at
+  pub performed-seen : (o : Started) → o ≡ stepOf tb c q → Seen (o .session)
+  unfolding stepOf
+  performed-seen o f = rw f (sound-seen tb (reply tb (view c) q .session) sound-after)
+
+pub reached-performed : {tb d d′ d″ : List ℕ} {v : State ℕ} {rs : List Record} {c : Session} {at next : ℕ}
+    → Reached tb v rs d c d′ at → at ≤ length d → (r : Record) → entryRefusal tb (c .n) (r .request) ≡ 0
+    → (o : Started) → o ≡ stepOf tb c (r .request) → Wrote d′ at (lineOf (r .kind) (answerAfter (o .refusal) (o .session))) d″ next
+    → Reached tb v (rs ++ (r ∷ [])) d (o .session) d″ next
+unfolding stepOf
+reached-performed {tb} {d} {d′} {d″} {v} {rs} {c} {at} {next} h fits r e o f w =
+    let s = sound-after tb c (h .playable) (r .request) e in
+    let u = reply tb (view c) (r .request) .session in
+    let a : answerAfter (o .refusal) (o .session) ≡ reply tb (view c) (r .request) .answer = rw f (answer-after tb c (r .request)) in
+    reached-more h fits r
+    (rw f (record { session = view-hold u; playable = sound-playable tb u s; sized = sound-sized tb u s }))
+    (rw (← a) w)
+
+-- ---- all of them
+
+pub reached-plays : {tb d d′ : List ℕ} {rs : List Record} {s c : Session} {at : ℕ}
+    → Reached tb (view s) rs d c d′ at → at ≤ longestLine * length rs
+    → (used : ℕ) → Plays tb s rs d d′ (record { session = c; used = used; written = at })
+reached-plays {tb} {d} {d′} {rs} {s} {c} {at} h b used =
+    record {
+      session = sym (held c (h .sized) (h .playable .blank)) ∙ ap hold (h .session);
+      keeps = h .playable;
+      written = h .wrote .place ∙ zero-add (length (textOf tb (view s) rs));
+      text = h .wrote .text;
+      bound = b;
+    }
+
+-- and a cut record behind them
+pub plays-cut : {tb d d′ d″ : List ℕ} {rs : List Record} {s : Session} {p : Played} {next : ℕ}
+    → Plays tb s rs d d′ p → (kind : ℕ) → Wrote d′ (p .written) (lineOf kind (refused 9)) d″ next → p .written ≤ length d → next ≤ p .written + longestLine
+    → (used : ℕ) → Plays tb s (rs ++ (recordOf kind unplayable ∷ [])) d d″ (record { session = p .session; used = used; written = next })
+unfolding textOf sessionAfter reply
+plays-cut {tb} {d} {d′} {d″} {rs} {s} {p} {next} h kind w fits b used =
+    let line = lineOf kind (refused 9) in
+    let e : textOf tb (view s) (rs ++ (recordOf kind unplayable ∷ [])) ≡ textOf tb (view s) rs ++ line =
+    text-append tb rs (recordOf kind unplayable ∷ []) (view s) ∙ ap (λ (l : List ℕ). textOf tb (view s) rs ++ l) (append-nil line) in
+    let all : Wrote d 0 (textOf tb (view s) rs ++ line) d″ next =
+    wrote-append (record { place = h .written ∙ sym (zero-add (length (textOf tb (view s) rs))); text = h .text }) fits w in
+    record {
+      session = h .session ∙ ap hold (sym (after-append tb rs (recordOf kind unplayable ∷ []) (view s)));
+      keeps = h .keeps;
+      written = rw e (all .place ∙ zero-add (length (textOf tb (view s) rs ++ line)));
+      text = rw e (all .text);
+      bound = let k = h .bound in omega (arith, length-append rs (recordOf kind unplayable ∷ []));
+    }
+
+-- the clauses of `play`, where rs are the records that fit
+pub plays-clauses : {tb d d′ : List ℕ} {rs : List Record} {s : Session} {p : Played}
+    → Plays tb s rs d d′ p → (input : List ℕ) → fitting input d ≡ rs → p .used ≡ bytesOf input rs → longestLine * length rs ≤ length d
+    → (p .session ≡ hold (sessionAfter tb (view s) (fitting input d)))
+    × ((p .used ≡ bytesOf input (fitting input d))
+    × ((p .written ≡ length (textOf tb (view s) (fitting input d)))
+    × ((d′ ≡ written d 0 (textOf tb (view s) (fitting input d)))
+    × (Playable tb (p .session) × (p .written ≤ length d)))))
+plays-clauses {tb} {d} {d′} {rs} {s} {p} h input e u b =
+    rw e (h .session, (u, (h .written, (h .text, (h .keeps, let k = h .bound in omega arith)))))

@@ -1,0 +1,36 @@
+-- How many records one call plays, and what playing them gives: a line has at most 28 bytes, and none is begun for which
+-- the buffer has less room than that.
+use Prim.Native.Nat.{ℕ, _+_, _*_, _/_, _≤_, min}
+use mathlib.Core.Path.{_≡_}
+use mathlib.Core.List.{List}
+use lib.ListN.{length, getD, take}
+use Rattle.model.specs.Player.{Record, recordOf, requestOf, wordOf, recordsIn, textOf, sessionAfter}
+use Rattle.session.specs.declared.Session.{Session}
+use Rattle.session.specs.Stored.{view, hold}
+use Rattle.line.specs.Written.{written as writtenInto}
+use Rattle.recording.specs.declared.Played.{Played}
+use Rattle.recording.specs.Steps.{Playable}
+
+-- the longest line, in bytes
+abbrev pub longestLine : ℕ
+longestLine = 28
+
+-- the records of the input for whose lines the buffer has room
+abbrev pub fitting : List ℕ → List ℕ → List Record
+fitting input out = take (length out / longestLine) (recordsIn input)
+
+-- the bytes of these records, of which the input's last one may be cut
+abbrev pub bytesOf : List ℕ → List Record → ℕ
+bytesOf input rs = min (length input) (6 * length rs)
+
+-- "flag word high byte first", of the record at a place
+abbrev pub wordAt : List ℕ → ℕ → ℕ
+wordAt l p = wordOf (getD l (p + 2) 0) (getD l (p + 3) 0) (getD l (p + 4) 0) (getD l (p + 5) 0)
+
+-- what playing the records rs from the session c gives
+pub record Plays (tb : List ℕ) (c : Session) (rs : List Record) (out out′ : List ℕ) (r : Played) : Type 0 where
+  pub session : r .session ≡ hold (sessionAfter tb (view c) rs)
+  pub keeps : Playable tb (r .session)
+  pub written : r .written ≡ length (textOf tb (view c) rs)
+  pub text : out′ ≡ writtenInto out 0 (textOf tb (view c) rs)
+  pub bound : r .written ≤ longestLine * length rs

@@ -1,0 +1,61 @@
+-- One record played on a stored session, in two steps: its checks, which read no more than the number of tasks, and the call.
+use Prim.Native.Nat.{ℕ, zero, suc}
+use mathlib.Core.Path.{_≡_}
+use mathlib.Core.Bool.{true, not}
+use mathlib.Core.List.{List, [], _∷_}
+use lib.Dec.{ltb, eqb}
+use Rattle.model.specs.declared.Answer.{Answer}
+use Rattle.model.specs.Refusals.{Check, check, refusal}
+use Rattle.model.specs.Table.{sizeOf, tableRefusal}
+use Rattle.model.specs.Flags.{hasOtherBit}
+use Rattle.model.specs.Answers.{Outcome, lookAt, refused}
+use Rattle.model.specs.Calls.{Call, launch, start, finishingStart, back, look, restore}
+use Rattle.model.specs.Player.{Request, unplayable, asks, reply}
+use Rattle.session.specs.declared.Session.{Session}
+use Rattle.session.specs.Stored.{view, hold, storageBlank, soundStored}
+use Rattle.rules.specs.declared.Started.{Started}
+
+-- storage beyond what stands in it holds 0; and under a table that is not refused the session is sound
+pub record Playable (tb : List ℕ) (c : Session) : Type 0 where
+  pub blank : storageBlank c ≡ true
+  pub sound : tableRefusal tb ≡ 0 → soundStored tb c ≡ true
+
+-- ---- checks
+
+-- 3, 4 and 21, of a start where n tasks stand; 23 and 24 come after them
+abbrev pub startEntry : List ℕ → ℕ → ℕ → ℕ → List Check
+startEntry tb n b w = check 3 (not (ltb b (sizeOf tb))) ∷ check 4 (hasOtherBit w) ∷ check 21 (eqb n 0) ∷ []
+
+-- the checks named for a call, but for 23 and 24, where n tasks stand. No record asks for a restore.
+unfoldable pub entryChecks : List ℕ → ℕ → Call → List Check
+entryChecks tb n launch = check 22 (not (eqb n 0)) ∷ []
+entryChecks tb n (start b w) = startEntry tb n b w
+entryChecks tb n (finishingStart b w) = startEntry tb n b w
+entryChecks tb n back = check 21 (eqb n 0) ∷ []
+entryChecks tb n look = []
+entryChecks tb n (restore bytes) = []
+
+-- the first of two refusals, where 0 is none
+abbrev pub firstOf : ℕ → ℕ → ℕ
+firstOf zero k = k
+firstOf (suc j) k = suc j
+
+-- "Refusal 9 comes before all checks of the call"; then the table's, and those of the call
+unfoldable pub entryRefusal : List ℕ → ℕ → Request → ℕ
+entryRefusal tb n unplayable = 9
+entryRefusal tb n (asks k) = firstOf (tableRefusal tb) (refusal (entryChecks tb n k))
+
+-- ---- the call
+
+-- the refusal (0 if none) and the stored session of what a call gives
+abbrev pub stored : Outcome → Started
+stored o = record { refusal = o .answer .refusal; session = hold (o .session) }
+
+-- what a record leaves of the stored session c
+unfoldable pub stepOf : List ℕ → Session → Request → Started
+stepOf tb c q = stored (reply tb (view c) q)
+
+-- its answer, by that refusal and that session
+abbrev pub answerAfter : ℕ → Session → Answer
+answerAfter zero c = lookAt (view c)
+answerAfter (suc k) c = refused (suc k)
