@@ -35,13 +35,14 @@ fn start_refusal(table: &[u8], number: u8, n: u8, b: u8, word: u32) -> u8
     requires { ⌜ number ≡ tableRefusal (now table) ⌝ }
     ensures { λ r. ⌜ r ≡ firstOf number (refusal (startEntry (now (table .entry)) n b word)) ⌝ }
 {
+    let other = flags::has_other_bit(word);
     if number != 0 {
         return number;
     }
     if b >= table::size(table) {
         return 3;
     }
-    if flags::has_other_bit(word) {
+    if other {
         return 4;
     }
     if n == 0 {
