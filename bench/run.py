@@ -16,13 +16,13 @@ ROOT = os.path.dirname(os.path.dirname(os.path.abspath(__file__)))
 PLAYERS = {"proved": "target/bin/player", "second": "target/second/release/player"}
 TABLE = bytes.fromhex("0600000100010101020203010002")
 FLAGS = [0, 0, 0, 0, 0x10000000, 0x20000000, 0x04000000, 0x00020000, 0x18000000, 0x10008000, 0x14000000]
-KINDS = [1] + [2] * 58 + [3] * 10 + [4] * 26 + [5] * 5
+KINDS = [1] * 6 + [2] * 58 + [3] * 8 + [4] * 24 + [5] * 4
 
 
-def recording(count):
-    """A table and `count` records, from a fixed generator: a million of them, again and again."""
+def write_recording(file, count):
+    """A table and `count` records, from a fixed generator: 100,000 of them, again and again."""
     state, block = 0x2545F491, bytearray()
-    for _ in range(min(count, 1_000_000)):
+    for _ in range(min(count, 100_000)):
         state ^= state << 13 & 0xFFFFFFFF
         state ^= state >> 17
         state ^= state << 5 & 0xFFFFFFFF
@@ -30,7 +30,11 @@ def recording(count):
         screen = (state >> 8) % 6
         block += bytes((kind, screen)) + FLAGS[(state >> 16) % len(FLAGS)].to_bytes(4, "big")
     whole, rest = divmod(count, len(block) // 6)
-    return TABLE + bytes(block) * whole + bytes(block[: 6 * rest])
+    file.write(TABLE)
+    for _ in range(whole):
+        file.write(block)
+    file.write(block[: 6 * rest])
+    file.flush()
 
 
 def turn(player, path):
@@ -60,10 +64,8 @@ def main():
     subprocess.run(["cargo", "build", "--release", "--offline", "--quiet", "--manifest-path", "second/Cargo.toml"],
                    check=True, env=env)
     with tempfile.NamedTemporaryFile() as long, tempfile.NamedTemporaryFile() as short:
-        long.write(recording(count))
-        long.flush()
-        short.write(recording(100_000))
-        short.flush()
+        write_recording(long, count)
+        write_recording(short, 100_000)
         turns = {name: [] for name in PLAYERS}
         for _ in range(5):
             for name, player in PLAYERS.items():
