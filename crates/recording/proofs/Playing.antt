@@ -34,8 +34,9 @@ module _ (tb : List ℕ) where
   unfolding textOf sessionAfter
   text-append [] qs s = refl
   text-append (r ∷ rs) qs s =
-      ap (λ (l : List ℕ). lineOf (r .kind) (reply tb s (r .request) .answer) ++ l) (text-append rs qs (reply tb s (r .request) .session))
-      ∙ sym (append-assoc (lineOf (r .kind) (reply tb s (r .request) .answer)) (textOf tb (reply tb s (r .request) .session) rs) (textOf tb (sessionAfter tb (reply tb s (r .request) .session) rs) qs))
+      let line = lineOf (r .kind) (reply tb s (r .request) .answer) in
+      let u = reply tb s (r .request) .session in
+      ap (λ (l : List ℕ). line ++ l) (text-append rs qs u) ∙ sym (append-assoc line (textOf tb u rs) (textOf tb (sessionAfter tb u rs) qs))
 
 -- the session c and the text d′ up to `at` that the records rs leave, from the session v and the buffer d
 pub record Reached (tb : List ℕ) (v : State ℕ) (rs : List Record) (d : List ℕ) (c : Session) (d′ : List ℕ) (at : ℕ) : Type 0 where
@@ -122,7 +123,8 @@ reached-plays {tb} {d} {d′} {rs} {s} {c} {at} h b used =
 
 -- and a cut record behind them
 pub plays-cut : {tb d d′ d″ : List ℕ} {rs : List Record} {s : Session} {p : Played} {next : ℕ}
-    → Plays tb s rs d d′ p → (kind : ℕ) → Wrote d′ (p .written) (lineOf kind (refused 9)) d″ next → p .written ≤ length d → next ≤ p .written + longestLine
+    → Plays tb s rs d d′ p → (kind : ℕ) → Wrote d′ (p .written) (lineOf kind (refused 9)) d″ next
+    → p .written ≤ length d → next ≤ p .written + longestLine
     → (used : ℕ) → Plays tb s (rs ++ (recordOf kind unplayable ∷ [])) d d″ (record { session = p .session; used = used; written = next })
 unfolding textOf sessionAfter reply
 plays-cut {tb} {d} {d′} {d″} {rs} {s} {p} {next} h kind w fits b used =

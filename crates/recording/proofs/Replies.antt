@@ -2,19 +2,18 @@
 -- after it can be played on and looked at.
 use Prim.Native.Nat.{ℕ, zero, suc, _≤_}
 use mathlib.Core.Path.{_≡_, refl, sym, _∙_, ap}
-use mathlib.Core.Bool.{Bool, true, false, not}
 use mathlib.Core.List.{List, [], _∷_, _++_}
 use native.Mathlib.Omega.{arith}
 use lib.Dec.{eqb}
 use lib.ListN.{length}
 use borrow.Author.Tests.{ne-eqb}
 use Rattle.model.specs.Lists.{isEmpty}
-use Rattle.model.specs.Refusals.{Check, check, refusal}
+use Rattle.model.specs.Refusals.{Check, refusal}
 use Rattle.model.specs.Table.{tableRefusal}
 use Rattle.model.specs.Session.{Stack, State, fresh, sound}
 use Rattle.model.specs.Flags.{flagsOf}
 use Rattle.model.specs.Image.{imageChecks}
-use Rattle.model.specs.Answers.{Outcome, outcome, lookAt, refused, settle}
+use Rattle.model.specs.Answers.{outcome, lookAt, refused, settle}
 use Rattle.model.specs.Calls.{Call, launch, start, finishingStart, back, look, restore, chosen, roomChecks, ownChecks, launched, backed, started, finished, done, refusalOf, call}
 use Rattle.model.specs.Player.{Request, unplayable, asks, reply}
 use Rattle.model.proofs.RefusalLaws.{refusal-append-refused, refusal-append-passed, checks-bad-table}
@@ -24,10 +23,7 @@ use Rattle.session.specs.declared.Session.{Session}
 use Rattle.session.specs.Stored.{freshSession, view, hold, Ready}
 use Rattle.session.proofs.Known.{Sized}
 use Rattle.session.proofs.StoredLaws.{fresh-held, held, view-hold, view-count, hold-sound, hold-blank, hold-sized, sound-fits, blank-few, sound-view}
-use Rattle.answer.specs.Seen.{Seen}
-use Rattle.answer.proofs.LookLaws.{sound-seen}
 use Rattle.choice.specs.Startable.{Startable}
-use Rattle.rules.specs.declared.Started.{Started}
 use Rattle.rules.specs.Starts.{settleRoom, startStored, finishStored}
 use Rattle.recording.specs.Steps.{Playable, firstOf, startEntry, entryChecks, entryRefusal, stored, stepOf, answerAfter}
 use Rattle.recording.proofs.Entry.{refusal-none, start-entered, entry-numbers, entry-none, back-entered}

@@ -4,7 +4,7 @@ use Prim.Native.Nat.{ℕ, _+_, _*_, _/_, _≤_, min}
 use mathlib.Core.Path.{_≡_}
 use mathlib.Core.List.{List}
 use lib.ListN.{length, getD, take}
-use Rattle.model.specs.Player.{Record, recordOf, requestOf, wordOf, recordsIn, textOf, sessionAfter}
+use Rattle.model.specs.Player.{Record, wordOf, recordsIn, textOf, sessionAfter}
 use Rattle.session.specs.declared.Session.{Session}
 use Rattle.session.specs.Stored.{view, hold}
 use Rattle.line.specs.Written.{written as writtenInto}

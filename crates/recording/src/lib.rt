@@ -1,10 +1,10 @@
 // Recordings: calls as records of six bytes, played from a session into lines of text.
 // The table is checked once and the session not at all: each record leaves it sound. A refused record copies no session.
 
-ghost use Prim.Native.Nat.{ℕ, _+_, _*_, _<_, _≤_};
+ghost use Prim.Native.Nat.{_+_, _*_, _<_, _≤_};
 ghost use mathlib.Core.Path.{_≡_};
 ghost use mathlib.Core.List.{[], _∷_};
-ghost use lib.ListN.{length, take, getD};
+ghost use lib.ListN.{length, take};
 ghost use Rattle.model.specs.Refusals.{check, refusal};
 ghost use Rattle.model.specs.Table.{tableRefusal};
 ghost use Rattle.model.specs.Player.{requestOf, recordsIn, textOf, sessionAfter};

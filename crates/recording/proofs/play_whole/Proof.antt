@@ -1,12 +1,11 @@
 -- The loop's invariant: the first i records are played, with the session and the text that they leave, and each line has at
 -- most 28 bytes.
-use Prim.Native.Nat.{ℕ, suc, _+_, _*_, _-_, _≤_, _<_}
-use mathlib.Core.Path.{_≡_, refl, sym, _∙_, ap}
+use Prim.Native.Nat.{_+_, _*_, _-_, _≤_, _<_}
+use mathlib.Core.Path.{_≡_, refl, sym, _∙_}
 use native.Mathlib.Numerals.{add-one}
 use native.Mathlib.Omega.{arith}
 use borrow.Author.Needs.{needs}
-use lib.ListN.{length, getD}
-use Rattle.model.specs.Player.{requestOf}
+use lib.ListN.{length}
 use Rattle.session.specs.Stored.{view}
 use Rattle.session.proofs.Known.{sized}
 use Rattle.line.proofs.WrittenLaws.{wrote}
