@@ -82,14 +82,18 @@ fn read_table(table: &mut [u8]) -> usize
     long
 }
 
-// The table, then the records. What is read and written no contract can say; what a block gives is `recording::play`'s.
-pub fn play_all() {
+// The table, then the records. Yields the length of the table, or 0 where there was none to play under. What is read and
+// written no contract can say; what a block gives is `recording::play`'s.
+pub fn play_all() -> usize
+    ensures { λ r. ⌜ r ≤ 130 ⌝ }
+{
     let mut table = [0u8; 130];
     let long = read_table(&mut table);
     if long == 0 {
         let line = b"0 1 0 0 0 0 0\n";
         io::write_all(1, line);
-        return;
+        return 0;
     }
     run(&table[..long]);
+    long
 }
