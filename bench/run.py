@@ -37,15 +37,27 @@ def write_recording(file, count):
     file.flush()
 
 
+def peak(pid):
+    """Peak memory in KiB so far, of the program alone; 0 when it has ended."""
+    try:
+        with open(f"/proc/{pid}/status") as status:
+            return next((int(line.split()[1]) for line in status if line.startswith("VmHWM")), 0)
+    except OSError:
+        return 0
+
+
 def turn(player, path):
-    """Seconds and peak memory in KiB of one run."""
+    """Seconds and peak memory in KiB of one run, looked at a hundred times a second."""
+    most = 0
     begun = time.perf_counter()
     with open(path, "rb") as stdin, open(os.devnull, "wb") as null:
         child = subprocess.Popen([player], stdin=stdin, stdout=null)
-        _, status, usage = os.wait4(child.pid, 0)
-    if status:
+        while child.poll() is None:
+            most = max(most, peak(child.pid))
+            time.sleep(0.01)
+    if child.returncode:
         sys.exit(f"{player} failed")
-    return time.perf_counter() - begun, usage.ru_maxrss
+    return time.perf_counter() - begun, most
 
 
 def instructions(player, path):

@@ -1,4 +1,4 @@
-// The trace of a single-task main screen printed in document 001. The expected lines are from the document.
+// The trace of a single-task main screen printed in document 001. The lines of the starts follow the stacks printed there.
 fn main() {
     playing::play_all();
 }
