@@ -1,2 +1,1 @@
-pub mod WrittenLaws
 pub mod LineLaws

@@ -11,7 +11,7 @@ use Rattle.model.specs.declared.Answer.{Answer}
 use Rattle.model.specs.Answers.{numbersOf}
 use Rattle.model.specs.Player.{digit, space, newline, decimal, lineText, lineOf}
 use Rattle.model.proofs.Logic.{if-elim}
-use Rattle.line.proofs.WrittenLaws.{Wrote, wrote-append}
+use Rattle.model.proofs.WrittenLaws.{Wrote, wrote-append}
 
 -- ---- a number
 

@@ -5,7 +5,7 @@ ghost use mathlib.Core.Path.{_≡_};
 ghost use mathlib.Core.List.{[], _∷_, _++_};
 ghost use lib.ListN.{length};
 ghost use Rattle.model.specs.Player.{decimal, lineOf};
-ghost use Rattle.line.specs.Written.{written};
+ghost use Rattle.model.specs.Written.{written};
 use model::Answer;
 
 // Writes a number in base ten, and then the byte `end`. Yields the place after it. Most numbers have one digit.

@@ -1,5 +1,6 @@
 pub mod Logic
 pub mod ListLaws
+pub mod WrittenLaws
 pub mod Walks
 pub mod RefusalLaws
 pub mod Tables

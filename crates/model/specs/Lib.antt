@@ -1,4 +1,5 @@
 pub mod Lists
+pub mod Written
 pub mod Refusals
 pub mod Table
 pub mod Session

@@ -1,5 +1,5 @@
 // The player: a table and then records on standard input, a line of text for each record on standard output.
-// It only reads, calls and writes, in blocks; what it writes is the business of `recording`. Memory does not grow.
+// It only reads, calls and writes, in blocks; what it writes is the business of `play`. Memory does not grow.
 
 ghost use Prim.Native.Nat.{ℕ, _+_, _*_, _≤_};
 ghost use mathlib.Core.Path.{_≡_};
@@ -8,7 +8,7 @@ ghost use lib.Dec.{leb};
 ghost use lib.ListN.{length};
 ghost use Rattle.model.specs.Lists.{if_then_else_};
 ghost use Rattle.model.specs.Table.{mostScreens};
-ghost use Rattle.recording.specs.Steps.{Playable};
+ghost use Rattle.play.specs.Steps.{Playable};
 use session::Session;
 
 // What is left after a block: the session, and whether to go on.
@@ -26,7 +26,7 @@ fn turn(table: &[u8], s: Session) -> Turned
     let mut input = [0u8; 60000];
     let mut output = [0u8; 280000];
     let got = io::read_full(0, &mut input);
-    let played = recording::play(table, s, &input[..got], &mut output);
+    let played = play::play(table, s, &input[..got], &mut output);
     let written = played.written;
     let went = io::write_all(1, &output[..written]);
     let after = played.session;
@@ -83,7 +83,7 @@ fn read_table(table: &mut [u8]) -> usize
 }
 
 // The table, then the records. Yields the length of the table, or 0 where there was none to play under. What is read and
-// written no contract can say; what a block gives is `recording::play`'s.
+// written no contract can say; what a block gives is `play::play`'s.
 pub fn play_all() -> usize
     ensures { λ r. ⌜ r ≤ 130 ⌝ }
 {

@@ -5,7 +5,7 @@ use native.Mathlib.Numerals.{towards-suc}
 use native.Mathlib.Omega.{arith}
 use lib.ListN.{length-set}
 use Rattle.model.specs.Player.{digit}
-use Rattle.line.proofs.WrittenLaws.{written-sets}
+use Rattle.model.proofs.WrittenLaws.{written-sets}
 use Rattle.line.proofs.LineLaws.{decimal-one, decimal-two, decimal-three}
 use borrow.Author.Needs.{needs}
 use Rattle.line.proofs.put.Statement.{statement}

@@ -3,7 +3,7 @@ use mathlib.Core.List.{_∷_}
 use native.Mathlib.Omega.{arith}
 use Rattle.model.specs.Answers.{numbersOf}
 use Rattle.model.specs.Player.{lineText, lineOf}
-use Rattle.line.proofs.WrittenLaws.{Wrote, wrote}
+use Rattle.model.proofs.WrittenLaws.{Wrote, wrote}
 use Rattle.line.proofs.LineLaws.{line-cons, line-end}
 use borrow.Author.Needs.{needs}
 use Rattle.line.proofs.write_line.Statement.{statement}

@@ -1,7 +1,7 @@
 -- The loop's invariant: the session can be played on. The number of blocks left falls.
 use borrow.Author.Needs.{needs}
-use Rattle.recording.specs.Steps.{Playable}
-use Rattle.recording.proofs.Replies.{fresh-playable}
+use Rattle.play.specs.Steps.{Playable}
+use Rattle.play.proofs.Replies.{fresh-playable}
 use Rattle.playing.proofs.run.Statement.{statement}
 use Rattle.playing.proofs.run.Tie as tie
 

@@ -8,7 +8,7 @@ use native.Mathlib.Numerals.{add-one}
 use native.Mathlib.Omega.{arith}
 use lib.ListN.{length, take, drop, set, length-append, length-drop, take-append-drop}
 use lib.Seq.{length-take-le, take-at, drop-at, drop-drop, take-suc-set, drop-set-lt, append-snoc, sets, sets-eq}
-use Rattle.line.specs.Written.{written}
+use Rattle.model.specs.Written.{written}
 
 module _ (d : List ℕ) (at : ℕ) where
   pub written-nil : written d at [] ≡ d

@@ -6,10 +6,10 @@ use Rattle.session.specs.declared.Session.{Session}
 use Rattle.session.proofs.Known.{sized}
 use Rattle.rules.specs.declared.Started.{Started}
 use Rattle.rules.specs.Starts.{startStored, finishStored}
-use Rattle.recording.proofs.Entry.{request-1, request-2, request-3, request-4, request-look, entry-none}
-use Rattle.recording.proofs.Replies.{startable, finishable, back-ready, step-launch, step-start, step-finish, step-back, step-look}
-use Rattle.recording.proofs.perform.Statement.{statement}
-use Rattle.recording.proofs.perform.Tie as tie
+use Rattle.play.proofs.Entry.{request-1, request-2, request-3, request-4, request-look, entry-none}
+use Rattle.play.proofs.Replies.{startable, finishable, back-ready, step-launch, step-start, step-finish, step-back, step-look}
+use Rattle.play.proofs.perform.Statement.{statement}
+use Rattle.play.proofs.perform.Tie as tie
 
 abbrev accepted : Session → Started
 accepted d = record { refusal = 0; session = d }

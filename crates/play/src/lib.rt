@@ -1,4 +1,4 @@
-// Recordings: calls as records of six bytes, played from a session into lines of text.
+// Calls as records of six bytes, played from a session into lines of text.
 // The table is checked once and the session not at all: each record leaves it sound. A refused record copies no session.
 
 ghost use Prim.Native.Nat.{_+_, _*_, _<_, _≤_};
@@ -10,9 +10,9 @@ ghost use Rattle.model.specs.Table.{tableRefusal};
 ghost use Rattle.model.specs.Player.{requestOf, recordsIn, textOf, sessionAfter};
 ghost use Rattle.session.specs.Stored.{view, hold};
 ghost use Rattle.answer.specs.Seen.{Seen};
-ghost use Rattle.recording.specs.Steps.{Playable, firstOf, startEntry, entryRefusal, stepOf, answerAfter};
-ghost use Rattle.recording.specs.Fitting.{fitting, bytesOf, wordAt, Plays};
-ghost use Rattle.line.specs.Written.{written as writtenInto};
+ghost use Rattle.play.specs.Steps.{Playable, firstOf, startEntry, entryRefusal, stepOf, answerAfter};
+ghost use Rattle.play.specs.Fitting.{fitting, bytesOf, wordAt, Plays};
+ghost use Rattle.model.specs.Written.{written as writtenInto};
 use model::Answer;
 use rules::Started;
 use session::Session;

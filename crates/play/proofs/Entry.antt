@@ -13,7 +13,7 @@ use Rattle.model.specs.Flags.{hasOtherBit}
 use Rattle.model.specs.Calls.{Call, launch, start, finishingStart, back, look, restore}
 use Rattle.model.specs.Player.{Request, unplayable, asks, requestOf}
 use Rattle.model.proofs.RefusalLaws.{refusal-skip, refusal-applies, refusal-passes}
-use Rattle.recording.specs.Steps.{firstOf, startEntry, entryChecks, entryRefusal}
+use Rattle.play.specs.Steps.{firstOf, startEntry, entryChecks, entryRefusal}
 
 pub refusal-none : refusal [] ≡ 0
 unfolding refusal

@@ -7,9 +7,9 @@ use lib.ListN.{length, getD, take}
 use Rattle.model.specs.Player.{Record, wordOf, recordsIn, textOf, sessionAfter}
 use Rattle.session.specs.declared.Session.{Session}
 use Rattle.session.specs.Stored.{view, hold}
-use Rattle.line.specs.Written.{written as writtenInto}
-use Rattle.recording.specs.declared.Played.{Played}
-use Rattle.recording.specs.Steps.{Playable}
+use Rattle.model.specs.Written.{written as writtenInto}
+use Rattle.play.specs.declared.Played.{Played}
+use Rattle.play.specs.Steps.{Playable}
 
 -- the longest line, in bytes
 abbrev pub longestLine : ℕ

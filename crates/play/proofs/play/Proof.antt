@@ -6,11 +6,11 @@ use mathlib.Core.List.{[], _∷_}
 use native.Mathlib.Omega.{arith}
 use lib.ListN.{length, getD, take, length-append}
 use Rattle.model.specs.Player.{recordsIn}
-use Rattle.line.proofs.WrittenLaws.{wrote}
-use Rattle.recording.proofs.Records.{cutAt, firsts-length, records-end, records-cut-end}
-use Rattle.recording.proofs.Playing.{plays-cut, plays-clauses}
-use Rattle.recording.proofs.play.Statement.{statement}
-use Rattle.recording.proofs.play.Tie as tie
+use Rattle.model.proofs.WrittenLaws.{wrote}
+use Rattle.play.proofs.Records.{cutAt, firsts-length, records-end, records-cut-end}
+use Rattle.play.proofs.Playing.{plays-cut, plays-clauses}
+use Rattle.play.proofs.play.Statement.{statement}
+use Rattle.play.proofs.play.Tie as tie
 
 play-whole-requires : tie.Need-play-whole-requires
 play-whole-requires c κs = search needs

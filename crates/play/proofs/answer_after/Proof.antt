@@ -1,9 +1,9 @@
 -- The answer of a refusal, else a look at the session.
 use borrow.Author.Needs.{needs}
 use mathlib.Core.Path.{sym, _∙_}
-use Rattle.recording.proofs.Replies.{after-refused, after-accepted}
-use Rattle.recording.proofs.answer_after.Statement.{statement}
-use Rattle.recording.proofs.answer_after.Tie as tie
+use Rattle.play.proofs.Replies.{after-refused, after-accepted}
+use Rattle.play.proofs.answer_after.Statement.{statement}
+use Rattle.play.proofs.answer_after.Tie as tie
 
 refused-requires : tie.Need-refused-requires
 refused-requires c κs = search needs

@@ -8,12 +8,12 @@ use borrow.Author.Needs.{needs}
 use lib.ListN.{length}
 use Rattle.session.specs.Stored.{view}
 use Rattle.session.proofs.Known.{sized}
-use Rattle.line.proofs.WrittenLaws.{wrote}
-use Rattle.recording.specs.Steps.{entryRefusal, stepOf}
-use Rattle.recording.proofs.Records.{recordAt, wholes, wholes-length, firsts}
-use Rattle.recording.proofs.Playing.{Reached, reached-none, reached-refused, reached-performed, performed-seen, reached-plays}
-use Rattle.recording.proofs.play_whole.Statement.{statement}
-use Rattle.recording.proofs.play_whole.Tie as tie
+use Rattle.model.proofs.WrittenLaws.{wrote}
+use Rattle.play.specs.Steps.{entryRefusal, stepOf}
+use Rattle.play.proofs.Records.{recordAt, wholes, wholes-length, firsts}
+use Rattle.play.proofs.Playing.{Reached, reached-none, reached-refused, reached-performed, performed-seen, reached-plays}
+use Rattle.play.proofs.play_whole.Statement.{statement}
+use Rattle.play.proofs.play_whole.Tie as tie
 
 abbrev Inv-loop : tie.InvT-loop
 Inv-loop table input count out₀ number s₀ at₀ i₀ out s at i =

@@ -25,8 +25,8 @@ use Rattle.session.proofs.Known.{Sized}
 use Rattle.session.proofs.StoredLaws.{fresh-held, held, view-hold, view-count, hold-sound, hold-blank, hold-sized, sound-fits, blank-few, sound-view}
 use Rattle.choice.specs.Startable.{Startable}
 use Rattle.rules.specs.Starts.{settleRoom, startStored, finishStored}
-use Rattle.recording.specs.Steps.{Playable, firstOf, startEntry, entryChecks, entryRefusal, stored, stepOf, answerAfter}
-use Rattle.recording.proofs.Entry.{refusal-none, start-entered, entry-numbers, entry-none, back-entered}
+use Rattle.play.specs.Steps.{Playable, firstOf, startEntry, entryChecks, entryRefusal, stored, stepOf, answerAfter}
+use Rattle.play.proofs.Entry.{refusal-none, start-entered, entry-numbers, entry-none, back-entered}
 
 -- ---- the answer
 

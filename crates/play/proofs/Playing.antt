@@ -13,16 +13,16 @@ use Rattle.session.specs.declared.Session.{Session}
 use Rattle.session.specs.Stored.{view, hold}
 use Rattle.session.proofs.Known.{Sized}
 use Rattle.session.proofs.StoredLaws.{held, view-hold, sound-view}
-use Rattle.line.specs.Written.{written}
-use Rattle.line.proofs.WrittenLaws.{Wrote, wrote-nil, wrote-append}
+use Rattle.model.specs.Written.{written}
+use Rattle.model.proofs.WrittenLaws.{Wrote, wrote-nil, wrote-append}
 use Rattle.answer.specs.Seen.{Seen}
 use Rattle.answer.proofs.LookLaws.{sound-seen}
 use Rattle.rules.specs.declared.Started.{Started}
-use Rattle.recording.specs.declared.Played.{Played}
-use Rattle.recording.specs.Steps.{Playable, entryRefusal, stepOf, answerAfter}
-use Rattle.recording.specs.Fitting.{longestLine, fitting, bytesOf, Plays}
-use Rattle.recording.proofs.Entry.{entry-good}
-use Rattle.recording.proofs.Replies.{answer-after, sound-playable, sound-sized, reply-sound, entry-refused}
+use Rattle.play.specs.declared.Played.{Played}
+use Rattle.play.specs.Steps.{Playable, entryRefusal, stepOf, answerAfter}
+use Rattle.play.specs.Fitting.{longestLine, fitting, bytesOf, Plays}
+use Rattle.play.proofs.Entry.{entry-good}
+use Rattle.play.proofs.Replies.{answer-after, sound-playable, sound-sized, reply-sound, entry-refused}
 
 module _ (tb : List ℕ) where
   after-append : (rs qs : List Record) (s : State ℕ) → sessionAfter tb s (rs ++ qs) ≡ sessionAfter tb (sessionAfter tb s rs) qs

@@ -1,10 +1,10 @@
 -- What the record asks for, by its kind, and the checks of that.
 use borrow.Author.Needs.{needs}
 use mathlib.Core.Path.{sym}
-use Rattle.recording.specs.Steps.{entryChecks, entryRefusal}
-use Rattle.recording.proofs.Entry.{request-1, request-2, request-3, request-4, request-5, request-none, first-nothing}
-use Rattle.recording.proofs.entry_refusal.Statement.{statement}
-use Rattle.recording.proofs.entry_refusal.Tie as tie
+use Rattle.play.specs.Steps.{entryChecks, entryRefusal}
+use Rattle.play.proofs.Entry.{request-1, request-2, request-3, request-4, request-5, request-none, first-nothing}
+use Rattle.play.proofs.entry_refusal.Statement.{statement}
+use Rattle.play.proofs.entry_refusal.Tie as tie
 
 first-refusal-requires : tie.Need-first-refusal-requires
 first-refusal-requires c κs = search needs

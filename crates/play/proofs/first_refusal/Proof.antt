@@ -1,9 +1,9 @@
 -- The refusal that was found, else the other one where it applies.
 use mathlib.Core.Path.{sym, _∙_}
 use Rattle.model.proofs.RefusalLaws.{refusal-applies, refusal-passes}
-use Rattle.recording.proofs.Entry.{refusal-none, first-found, first-next}
-use Rattle.recording.proofs.first_refusal.Statement.{statement}
-use Rattle.recording.proofs.first_refusal.Tie as tie
+use Rattle.play.proofs.Entry.{refusal-none, first-found, first-next}
+use Rattle.play.proofs.first_refusal.Statement.{statement}
+use Rattle.play.proofs.first_refusal.Tie as tie
 
 returns : tie.Need-returns
 returns c = sym (first-found _ _ (c .if1 .taken))
