@@ -1,14 +1,13 @@
 //! Compares an outside player program with this package's navigator.
 //!
-//!     compare [--player PATH] [--seed N] [--records N] [--sweep] [--steps N]
+//!     compare [--player PATH] [--seed N] [--records N] [--sweep]
 //!
 //! Inputs are made from a seed, played through the outside program and through
 //! the library here, and compared line by line. At the first difference the
 //! smallest example that can be found is printed and the exit code is 1. With
-//! `--sweep`, every call from every small session follows (see `sweep`, where
-//! `--steps` bounds the paths under tables of three screens). At the end it
-//! prints how often each rule and each refusal came up, and exits with 1 if one
-//! never did.
+//! `--sweep`, every call from every small session follows (see `sweep`). At the
+//! end it prints how often each rule and each refusal came up, and exits with 1
+//! if one never did.
 
 mod check;
 mod counts;
@@ -31,7 +30,6 @@ struct Options {
     seed: u64,
     records: u64,
     sweep: bool,
-    steps: usize,
 }
 
 fn options() -> Option<Options> {
@@ -40,7 +38,6 @@ fn options() -> Option<Options> {
         seed: 1,
         records: 3_000_000,
         sweep: false,
-        steps: 2,
     };
     let mut arguments = std::env::args().skip(1);
     while let Some(argument) = arguments.next() {
@@ -49,7 +46,6 @@ fn options() -> Option<Options> {
             "--seed" => options.seed = arguments.next()?.parse().ok()?,
             "--records" => options.records = arguments.next()?.parse().ok()?,
             "--sweep" => options.sweep = true,
-            "--steps" => options.steps = arguments.next()?.parse().ok()?,
             _ => return None,
         }
     }
@@ -78,7 +74,7 @@ fn run(options: &Options, checker: &mut Checker) -> Result<(), Box<Difference>> 
 
     if options.sweep {
         let begun = Instant::now();
-        let swept = sweep::sweep(checker, options.steps)?;
+        let swept = sweep::sweep(checker)?;
         checker.tell(&format!("sweep ({swept})"), begun);
     }
     Ok(())
@@ -86,7 +82,7 @@ fn run(options: &Options, checker: &mut Checker) -> Result<(), Box<Difference>> 
 
 fn main() -> ExitCode {
     let Some(options) = options() else {
-        eprintln!("usage: compare [--player PATH] [--seed N] [--records N] [--sweep] [--steps N]");
+        eprintln!("usage: compare [--player PATH] [--seed N] [--records N] [--sweep]");
         return ExitCode::from(2);
     };
     if !options.player.is_file() {

@@ -1,8 +1,9 @@
-//! The sweep: under every table of two screens, every session of up to 3 tasks
-//! of height up to 2 that starts and Backs reach from launch; from each of them
-//! every screen with all 64 flag words by a start and by a finishing start. The
-//! same under every table of three screens, for the sessions that are reached
-//! in a few steps; all of them would be about three million.
+//! The sweep: under every table of two or three screens, every session of up to
+//! 3 tasks of height up to 2 that plain starts (no flag set) and Backs reach
+//! from launch; from each of them every screen with all 64 flag words by a start
+//! and by a finishing start. Under tables of two screens the starts that reach a
+//! session may have any flags; with three screens those sessions are about three
+//! million.
 //!
 //! A player knows only a fresh session, so each session is reached by its path
 //! of records; after the call come Backs until the session is empty, so that
@@ -41,18 +42,17 @@ impl fmt::Display for Swept {
     }
 }
 
-/// The sessions that are small enough, each with a shortest path to it, of at
-/// most these many steps after launch.
-fn reach(table: &Table, screens: u8, steps: usize) -> Vec<(Session, Vec<u8>)> {
+/// The sessions that are small enough, each with a shortest path to it.
+fn reach(table: &Table, screens: u8) -> Vec<(Session, Vec<u8>)> {
     let launch = record(1, 0, 0);
     let launched = session_after(table, &Session::fresh(), &launch);
     let mut seen = HashSet::from([launched.clone()]);
     let mut reached = vec![(launched, launch.to_vec())];
     let mut next = 0;
-    while next < reached.len() && reached[next].1.len() / RECORD <= steps {
+    while next < reached.len() {
         let (from, path) = reached[next].clone();
         next += 1;
-        let starts = calls(screens).filter(|call| call[0] == 2);
+        let starts = calls(screens).filter(|call| call[0] == 2 && (screens == 2 || is_plain(call)));
         for step in starts.chain([record(4, 0, 0)]) {
             let session = session_after(table, &from, &step);
             if is_small(&session) && seen.insert(session.clone()) {
@@ -61,6 +61,10 @@ fn reach(table: &Table, screens: u8, steps: usize) -> Vec<(Session, Vec<u8>)> {
         }
     }
     reached
+}
+
+fn is_plain(call: &[u8; RECORD]) -> bool {
+    call[2..] == [0; 4]
 }
 
 fn is_small(session: &Session) -> bool {
@@ -97,14 +101,12 @@ fn tables() -> Vec<Vec<u8>> {
     tables
 }
 
-/// Sweeps all small tables. Under tables of three screens only those sessions
-/// are taken whose path has at most these many steps after launch.
-pub fn sweep(checker: &mut Checker, steps: usize) -> Result<Swept, Box<Difference>> {
+/// Sweeps all small tables.
+pub fn sweep(checker: &mut Checker) -> Result<Swept, Box<Difference>> {
     let mut swept = Swept::default();
     for bytes in tables() {
         let table = Table::parse(&bytes).expect("the table is good");
-        let steps = if bytes[0] == 2 { usize::MAX } else { steps };
-        let sessions = reach(&table, bytes[0], steps);
+        let sessions = reach(&table, bytes[0]);
         let mut batch = Batch::new("sweep", bytes);
         for (session, path) in &sessions {
             batch.all_calls(checker, session, path)?;
