@@ -10,13 +10,16 @@
 //! - `image`: the image of a session and how it is read back
 //! - `calls`: every call with all its checks, from bytes to an answer
 //! - `play`: the player, from standard input's format to lines
+//! - `random`, `hex`: random numbers and tables, bytes as text, for comparisons
 //!
 //! Two layers: the methods of `Session` want a good table and a sound session
 //! and keep the session sound; the functions of `calls` check both first.
 
 pub mod calls;
+pub mod hex;
 pub mod image;
 pub mod play;
+pub mod random;
 pub mod rules;
 pub mod session;
 pub mod table;

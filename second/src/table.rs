@@ -15,9 +15,27 @@ pub const REORDER_TO_FRONT: u32 = 0x0002_0000;
 /// CTK, clear task.
 pub const CLEAR_TASK: u32 = 0x0000_8000;
 
+/// The six flags, one by one.
+pub const FLAGS: [u32; 6] = [
+    NEW_TASK,
+    SINGLE_TOP,
+    MULTIPLE_TASK,
+    CLEAR_TOP,
+    REORDER_TO_FRONT,
+    CLEAR_TASK,
+];
+
 /// All six flags.
 pub const ALL_FLAGS: u32 =
     NEW_TASK | SINGLE_TOP | MULTIPLE_TASK | CLEAR_TOP | REORDER_TO_FRONT | CLEAR_TASK;
+
+/// The set of flags whose number, below 64, has these bits.
+pub fn flag_word(number: u32) -> u32 {
+    (0..6)
+        .filter(|bit| number >> bit & 1 == 1)
+        .map(|bit| FLAGS[bit as usize])
+        .sum()
+}
 
 /// The largest number of screens a table lists.
 pub const MAX_SCREENS: u8 = 64;

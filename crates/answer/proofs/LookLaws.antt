@@ -1,13 +1,12 @@
 -- A look at a stored session, by the bytes that it reads; and that sessions which hold a sound one can be looked at.
-use Prim.Native.Nat.{ℕ, zero, suc, _+_, _-_, _≤_, _<_}
-use mathlib.Core.Path.{_≡_, refl, sym, _∙_, ap}
+use Prim.Native.Nat.{ℕ, _-_, _≤_}
+use mathlib.Core.Path.{_≡_, _∙_, ap}
 use mathlib.Core.List.{List, [], _∷_}
 use native.Mathlib.Nat.{not-suc-le-zero}
 use native.Mathlib.Omega.{arith}
 use lib.ListN.{length, getD}
-use Rattle.model.specs.declared.Answer.{Answer}
 use Rattle.model.specs.Lists.{All}
-use Rattle.model.specs.Session.{Stack, State, state, height, front, top, mostTasks, mostHeight}
+use Rattle.model.specs.Session.{Stack, State, state, height, top, mostHeight}
 use Rattle.model.specs.Answers.{lookAt}
 use Rattle.model.proofs.Logic.{All-at}
 use Rattle.model.proofs.Sound.{TaskSound, Sound}

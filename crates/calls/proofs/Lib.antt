@@ -1,2 +1,6 @@
 pub mod Settling
 pub mod StartSettling
+pub mod RestoreSettling
+pub mod RestoreLaws
+pub mod Saving
+pub mod HistoryLaws

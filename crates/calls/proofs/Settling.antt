@@ -8,7 +8,7 @@ use native.Mathlib.Omega.{arith}
 use lib.ListN.{length}
 use borrow.Author.Tests.{not-false}
 use Rattle.model.specs.Lists.{isEmpty}
-use Rattle.model.specs.Refusals.{check, refusal}
+use Rattle.model.specs.Refusals.{Check, refusal}
 use Rattle.model.specs.Table.{tableRefusal, tableShaped, tableFilled}
 use Rattle.model.specs.Session.{Stack, State}
 use Rattle.model.specs.Answers.{lookAt, refused}
@@ -45,16 +45,20 @@ module _ (tb : List ℕ) (c : Session) where
   shared-passed e f = rw f (checks-own tb [] e)
 
   -- a call that passes them is on a sound session under a good table
-  pub shared-ready : sharedRefusal tb c ≡ 0 → Ready tb c
-  unfolding sharedRefusal tableRefusal
-  shared-ready e =
+  pub checks-ready : (own : List Check) → refusal (checksIn tb (soundStored tb c) own) ≡ 0 → Ready tb c
+  unfolding tableRefusal
+  checks-ready own e =
       let c₁ = refusal-skip 0 (not (tableShaped tb)) _ e in
       let c₂ = refusal-skip 1 (not (tableFilled tb)) _ (c₁ .1) in
-      let c₂₀ = refusal-skip 19 (not (soundStored tb c)) _ (c₂ .1) in
+      let c₂₀ = refusal-skip 19 (not (soundStored tb c)) own (c₂ .1) in
       record {
         good = refusal-passes 1 _ _ (c₁ .0) ∙ refusal-passes 2 _ _ (c₂ .0) ∙ refusal-none;
         sound = not-false _ (c₂₀ .0);
       }
+
+  pub shared-ready : sharedRefusal tb c ≡ 0 → Ready tb c
+  unfolding sharedRefusal
+  shared-ready e = checks-ready [] e
 
   -- ---- calls
 

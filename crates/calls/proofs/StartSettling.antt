@@ -1,7 +1,7 @@
 -- A start on a stored session, by what its checks said, and by what it made of the session; a finishing start likewise.
 use Prim.Native.Nat.{ℕ, zero, suc, _≤_, _<_}
 use mathlib.Core.Path.{_≡_, refl, sym, _∙_, ap}
-use mathlib.Core.Bool.{true, false, not}
+use mathlib.Core.Bool.{Bool, true, false, not}
 use mathlib.Core.List.{List, [], _∷_}
 use native.Mathlib.Omega.{arith}
 use lib.Dec.{ltb}
@@ -12,7 +12,7 @@ use Rattle.model.specs.Table.{sizeOf}
 use Rattle.model.specs.Session.{State}
 use Rattle.model.specs.Flags.{flagsOf, hasOtherBit}
 use Rattle.model.specs.Answers.{lookAt, refused}
-use Rattle.model.specs.Calls.{Call, start, finishingStart, chosen, started, finished, startChecks, roomChecks, ownChecks, done}
+use Rattle.model.specs.Calls.{Call, chosen, started, finished, startChecks, roomChecks, ownChecks, done}
 use Rattle.model.proofs.RefusalLaws.{refusal-skip, refusal-applies, refusal-passes, refusal-append-refused}
 use Rattle.model.proofs.ListLaws.{isEmpty-length}
 use Rattle.session.specs.declared.Session.{Session}
@@ -22,8 +22,8 @@ use Rattle.session.proofs.StoredLaws.{view-hold, view-count, blank-few, sound-b
 use Rattle.answer.specs.Seen.{Seen}
 use Rattle.choice.specs.Startable.{Startable}
 use Rattle.rules.specs.declared.Started.{Started}
-use Rattle.rules.specs.Starts.{settleRoom, roomRefusal, startStored, finishStored}
-use Rattle.calls.specs.StoredCalls.{reply, settleStored, settleStart, entryChecks, callStored}
+use Rattle.rules.specs.Starts.{settleRoom, roomRefusal, startStored, finishStored, madeStored}
+use Rattle.calls.specs.StoredCalls.{reply, settleStored, startCall, settleStart, entryChecks, callStored}
 use Rattle.calls.proofs.Settling.{call-settled, own-refused, own-seen}
 
 module _ (tb : List ℕ) (c : Session) (b w : ℕ) where
@@ -108,21 +108,16 @@ module _ (tb : List ℕ) (c : Session) (b w : ℕ) where
         go zero f r e z = rw e (own-seen tb c k (h .ready) (own-room h ∙ f))
         go (suc n) f r e z = absurd (let q : suc n ≡ 0 = sym (ap (λ (x : Started). x .refusal) e) ∙ z in omega arith)
 
-  pub start-checks : ownChecks tb (view c) (start b w) ≡ startChecks tb (view c) b w
+  -- both kinds of start have the checks of a start
+  pub start-checks : (finishing : Bool) → ownChecks tb (view c) (startCall finishing b w) ≡ startChecks tb (view c) b w
   unfolding ownChecks
-  start-checks = refl
+  start-checks true = refl
+  start-checks false = refl
 
-  pub finish-checks : ownChecks tb (view c) (finishingStart b w) ≡ startChecks tb (view c) b w
-  unfolding ownChecks
-  finish-checks = refl
-
-  pub start-done : startStored tb c b (flagsOf w) ≡ settleRoom roomOf c (done tb (view c) (start b w))
-  unfolding startStored done started
-  start-done = refl
-
-  pub finish-done : finishStored tb c b (flagsOf w) ≡ settleRoom roomOf c (done tb (view c) (finishingStart b w))
-  unfolding finishStored done finished
-  finish-done = refl
+  pub start-done : (finishing : Bool) → madeStored finishing tb c b (flagsOf w) ≡ settleRoom roomOf c (done tb (view c) (startCall finishing b w))
+  unfolding startStored finishStored done started finished
+  start-done true = refl
+  start-done false = refl
 
 -- what `settle` gives, by the refusal
 pub settle-refused : (c : Session) (k : ℕ) → (k ≡ 0 → ⊥) → settleStart k c ≡ reply c (refused k)

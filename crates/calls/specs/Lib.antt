@@ -1,1 +1,4 @@
 pub mod StoredCalls
+pub mod Restores
+pub mod StoredSaves
+pub mod StoredHistories

@@ -1,7 +1,7 @@
 -- Calls on stored sessions: what the program gives for each, refused or not.
 use Prim.Native.Nat.{ℕ, zero, suc}
 use mathlib.Core.Path.{_≡_}
-use mathlib.Core.Bool.{true, not}
+use mathlib.Core.Bool.{Bool, true, false, not}
 use mathlib.Core.List.{List, [], _∷_}
 use lib.Dec.{ltb}
 use Rattle.model.specs.declared.Answer.{Answer}
@@ -11,7 +11,7 @@ use Rattle.model.specs.Table.{sizeOf, tableRefusal}
 use Rattle.model.specs.Session.{State}
 use Rattle.model.specs.Flags.{hasOtherBit}
 use Rattle.model.specs.Answers.{lookAt, refused}
-use Rattle.model.specs.Calls.{Call, checksIn, ownChecks, done}
+use Rattle.model.specs.Calls.{Call, start, finishingStart, checksIn, ownChecks, done}
 use Rattle.session.specs.declared.Session.{Session}
 use Rattle.session.specs.Stored.{view, hold, soundStored}
 use Rattle.calls.specs.declared.Reply.{Reply}
@@ -34,6 +34,11 @@ sharedRefusal tb c = refusal (checksIn tb (soundStored tb c) [])
 
 unfoldable pub callStored : List ℕ → Session → Call → Reply
 callStored tb c k = settleStored (refusalStored tb c k) c (done tb (view c) k)
+
+-- a finishing start, or a start
+abbrev pub startCall : Bool → ℕ → ℕ → Call
+startCall true b w = finishingStart b w
+startCall false b w = start b w
 
 -- a start's own checks before it looks for room: 3, 4, 21, or 0
 abbrev pub entryChecks : List ℕ → Session → ℕ → ℕ → List Check

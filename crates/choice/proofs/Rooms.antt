@@ -1,35 +1,57 @@
--- The check for room by what is stored: the number of tasks, or the height of the task that the deed changes. And that
--- the choice of a start can be checked so.
-use Prim.Native.Nat.{ℕ, _-_}
-use mathlib.Core.Path.{_≡_, refl, sym, _∙_}
+-- The check for room by what is stored: the number of tasks, or the height of the task that the deed changes.
+use Prim.Native.Nat.{ℕ, _≤_}
+use mathlib.Core.Path.{_≡_, refl, _∙_}
 use mathlib.Core.Bool.{Bool, true, false, _&&_}
-use mathlib.Core.List.{List}
-use native.Mathlib.Omega.{arith}
+use mathlib.Core.List.{List, [], _∷_}
 use lib.Dec.{eqb}
 use lib.ListN.{length}
-use Rattle.model.specs.declared.Change.{Change}
-use Rattle.model.specs.declared.Choice.{Choice}
 use Rattle.model.specs.declared.Deed.{Deed}
 use Rattle.model.specs.declared.Flags.{Flags}
 use Rattle.model.specs.declared.Found.{Found}
-use Rattle.model.specs.Lists.{if_then_else_}
+use Rattle.model.specs.declared.Group.{Group}
+use Rattle.model.specs.declared.Rule.{Rule}
+use Rattle.model.specs.Lists.{if_then_else_, All, first}
 use Rattle.model.specs.Refusals.{check, accepted, refusal}
-use Rattle.model.specs.Session.{height, count, mostTasks, mostHeight}
-use Rattle.model.specs.Search.{placeOf, seek}
-use Rattle.model.specs.Rules.{apartGroup, soughtBy, choose}
+use Rattle.model.specs.Session.{State, count, mostTasks, mostHeight}
+use Rattle.model.specs.Search.{placeOf}
+use Rattle.model.specs.Rules.{rulesOf, groupOf, soughtBy, fits, chooseIn, choose}
 use Rattle.model.specs.Deeds.{deedOf}
-use Rattle.model.specs.Calls.{isPush, roomChecks}
+use Rattle.model.specs.Calls.{isPush, makesTask, overfills, roomChecks}
 use Rattle.model.proofs.Logic.{if-elim}
-use Rattle.model.proofs.Deeds.{Ready}
-use Rattle.model.proofs.Start.{Sought, seek-sought, choose-ready}
-use Rattle.session.specs.declared.Session.{Session}
-use Rattle.session.specs.Stored.{view, viewTask}
-use Rattle.session.proofs.Known.{Sized}
-use Rattle.session.proofs.StoredLaws.{view-count, sized-at, sound-view, sound-blank, blank-few}
+use Rattle.session.specs.declared.Task.{Task}
 use Rattle.session.proofs.TaskLaws.{view-height}
-use Rattle.choice.specs.Startable.{Startable}
-use Rattle.choice.specs.Places.{PlaceAmong, FoundAmong, ChangesAmong, Placed}
-use Rattle.choice.proofs.Tasks.{storedAt, task-at, task-low, place-inside}
+use Rattle.choice.specs.Shows.{Shows}
+
+-- ---- only the group that seeks no task changes the front task
+
+-- what holds of each rule of a group holds of the first that fits
+first-all : {A : Type 0} (P : A → Type 0) (d : A) (p : A → Bool) (xs : List A) → P d → All P xs → P (first d p xs)
+first-all P d p [] z h = z
+first-all P d p (x ∷ xs) z h = if-elim P (p x) x (first d p xs) (λ _. h .0) (λ _. first-all P d p xs z (h .1))
+
+-- a deed that changes the front task comes only where t is no task
+abbrev pub FrontUnsought : Found → Deed → Type 0
+FrontUnsought t Deed.New = Unit {0}
+FrontUnsought t (Deed.InFront x) = t ≡ Found.Nowhere
+FrontUnsought t (Deed.MoveAnd x) = Unit {0}
+
+module _ (tb : List ℕ) (v : State ℕ) (b : ℕ) (f : Flags) where
+  unsought-each : (g : Group) → All (λ r. FrontUnsought (soughtBy tb v b f g) (deedOf r)) (rulesOf g)
+  unfolding rulesOf soughtBy deedOf
+  unsought-each Group.Instance = (tt, (tt, tt))
+  unsought-each Group.Task = (tt, (tt, (tt, (tt, tt))))
+  unsought-each Group.Near = (refl, (refl, (refl, (refl, tt))))
+  unsought-each Group.Apart = (tt, (tt, (tt, (tt, (tt, (tt, (tt, (tt, tt))))))))
+
+  unsought-in : (g : Group) → FrontUnsought (chooseIn tb v b f g .found) (deedOf (chooseIn tb v b f g .rule))
+  unfolding chooseIn deedOf
+  unsought-in g =
+      let t = soughtBy tb v b f g in
+      first-all (λ r. FrontUnsought t (deedOf r)) Rule.R18 (fits tb v b f t) (rulesOf g) tt (unsought-each g)
+
+  pub unsought : FrontUnsought (choose tb v b f .found) (deedOf (choose tb v b f .rule))
+  unfolding choose
+  unsought = unsought-in (groupOf tb v b f)
 
 -- ---- the check
 
@@ -37,68 +59,21 @@ one-check : (k : ℕ) (b : Bool) → (if b then check k b else accepted) .number
 one-check k true = refl
 one-check k false = refl
 
-module _ (c : Session) (z : Sized c) (ch : Choice) (h : Placed c ch) {d : Deed} (e : d ≡ deedOf (ch .rule)) where
-  changes : (u : Deed) → d ≡ u → ChangesAmong (c .n) u (placeOf (ch .found))
-  changes u k = rw (sym e ∙ k) at (h .inside)
+-- with n tasks, and h screens in the task that the deed changes
+abbrev pub roomBy : ℕ → ℕ → Deed → ℕ
+roomBy n h Deed.New = if eqb n mostTasks then 23 else 0
+roomBy n h (Deed.InFront x) = if isPush x && eqb h mostHeight then 24 else 0
+roomBy n h (Deed.MoveAnd x) = if isPush x && eqb h mostHeight then 24 else 0
 
-  pub front-place : (x : Change) → d ≡ Deed.InFront x → PlaceAmong (c .n) 1
-  front-place x k = (omega arith, changes (Deed.InFront x) k)
-
-  pub moved-place : (x : Change) → d ≡ Deed.MoveAnd x → {p : ℕ} → p ≡ placeOf (ch .found) → PlaceAmong (c .n) p
-  moved-place x k q = rw q (changes (Deed.MoveAnd x) k)
-
-  height-at : (p : ℕ) → PlaceAmong (c .n) p → height (viewTask (storedAt c (p - 1))) ≡ storedAt c (p - 1) .height
-  height-at p l =
-      let low = task-low c z (h .blank) p l in
-      let s : length (storedAt c (p - 1) .screens) ≡ 32 = sized-at c z (p - 1) (place-inside c z (h .blank) p l) in
-      view-height (storedAt c (p - 1)) (omega arith)
-
-  pub room-new : d ≡ Deed.New → refusal (roomChecks ch (view c)) ≡ (if eqb (c .n) mostTasks then 23 else 0)
+module _ (v : State ℕ) (t : Task) (l : t .height ≤ length (t .screens)) where
+  room-by : (found : Found) (d : Deed) → FrontUnsought found d → Shows v found t
+      → refusal (check 23 (makesTask d && eqb (count v) mostTasks) ∷ check 24 (overfills d (placeOf found) v) ∷ []) ≡ roomBy (count v) (t .height) d
   unfolding refusal
-  room-new k = rw (← e, k, view-count c z (blank-few c (h .blank))) (one-check 23 (eqb (c .n) mostTasks))
+  room-by found Deed.New u h = one-check 23 (eqb (count v) mostTasks)
+  room-by found (Deed.InFront x) u h = rw (rw u at h, view-height t l) (one-check 24 (isPush x && eqb (t .height) mostHeight))
+  room-by found (Deed.MoveAnd x) u h = rw (h, view-height t l) (one-check 24 (isPush x && eqb (t .height) mostHeight))
 
-  pub room-front : (x : Change) → d ≡ Deed.InFront x
-      → refusal (roomChecks ch (view c)) ≡ (if isPush x && eqb (storedAt c 0 .height) mostHeight then 24 else 0)
-  unfolding refusal
-  room-front x k =
-      let l = front-place x k in
-      rw (← e, k, task-at c 1 l, height-at 1 l) (one-check 24 (isPush x && eqb (storedAt c 0 .height) mostHeight))
-
-  pub room-moved : (x : Change) → d ≡ Deed.MoveAnd x → {p : ℕ} → p ≡ placeOf (ch .found)
-      → refusal (roomChecks ch (view c)) ≡ (if isPush x && eqb (storedAt c (p - 1) .height) mostHeight then 24 else 0)
-  unfolding refusal
-  room-moved x k {p} q =
-      let l = moved-place x k q in
-      rw (← e, k, ← q, task-at c p l, height-at p l) (one-check 24 (isPush x && eqb (storedAt c (p - 1) .height) mostHeight))
-
--- ---- what a start has found, and its choice
-
-module _ (tb : List ℕ) (c : Session) (b : ℕ) (z : Sized c) (h : Startable tb c b) where
-  counted : count (view c) ≡ c .n
-  counted = view-count c z (blank-few c (sound-blank tb c (h .ready .sound)))
-
-  sought-among : (t : Found) → Sought tb (view c) b t → FoundAmong (c .n) t
-  sought-among Found.Nowhere s = tt
-  sought-among (Found.ByRoot p) s = (s .0 .0, rw counted at (s .0 .1))
-  sought-among (Found.ByAffinity p) s = (s .0 .0, rw counted at (s .0 .1))
-
-  pub seek-among : FoundAmong (c .n) (seek tb b (view c .tasks))
-  seek-among = sought-among (seek tb b (view c .tasks)) (seek-sought tb (view c) b)
-
-  pub apart-among : (f : Flags) → FoundAmong (c .n) (soughtBy tb (view c) b f apartGroup)
-  unfolding soughtBy
-  apart-among f = if-elim (FoundAmong (c .n)) (f .mtk) Found.Nowhere _ (λ _. tt) (λ _. seek-among)
-
-  ready-among : (d : Deed) (p : ℕ) → Ready tb b (view c) d p → ChangesAmong (c .n) d p
-  ready-among Deed.New p r = tt
-  ready-among (Deed.InFront x) p r = h .some
-  ready-among (Deed.MoveAnd x) p r = (r .0 .0, rw counted at (r .0 .1))
-
-  -- the room of a start's choice can be checked
-  pub choose-placed : (f : Flags) → Placed c (choose tb (view c) b f)
-  choose-placed f =
-      let d = choose tb (view c) b f in
-      record {
-        blank = sound-blank tb c (h .ready .sound);
-        inside = ready-among (deedOf (d .rule)) (placeOf (d .found)) (choose-ready tb (view c) b f (sound-view tb c (h .ready .sound)) (rw counted (h .some)));
-      }
+  -- the room of a start's choice, by what is read of the session
+  pub room-read : (tb : List ℕ) (b : ℕ) (f : Flags) → Shows v (choose tb v b f .found) t → {n : ℕ} → count v ≡ n
+      → {d : Deed} → d ≡ deedOf (choose tb v b f .rule) → refusal (roomChecks (choose tb v b f) v) ≡ roomBy n (t .height) d
+  room-read tb b f h k e = room-by (choose tb v b f .found) (deedOf (choose tb v b f .rule)) (unsought tb v b f) h ∙ rw (k, e)

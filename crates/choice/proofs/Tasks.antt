@@ -1,53 +1,45 @@
--- The tasks of a stored session that is sound, as the rules read them: the front task, and the task at a place.
-use Prim.Native.Nat.{ℕ, _+_, _-_, _*_, _≤_, _<_}
-use mathlib.Core.Path.{_≡_, sym, _∙_, ap}
-use mathlib.Core.Bool.{true}
+-- The tasks of a stored session that is sound, as the rules read them: the front task, and the task found.
+use Prim.Native.Nat.{ℕ, zero, suc, pred, _+_, _*_, _≤_, _<_}
+use mathlib.Core.Path.{_≡_, ap}
 use mathlib.Core.List.{List}
-use native.Mathlib.Numerals.{sub-one}
+use native.Mathlib.Nat.{not-suc-le-zero}
 use native.Mathlib.Omega.{arith}
 use lib.ListN.{length, getD}
+use Rattle.model.specs.declared.Flags.{Flags}
 use Rattle.model.specs.declared.Found.{Found}
+use Rattle.model.specs.declared.Group.{Group}
 use Rattle.model.specs.Table.{sizeOf}
-use Rattle.model.specs.Session.{noStack, taskAt, frontScreen, top}
-use Rattle.model.specs.Search.{placeOf}
-use Rattle.model.proofs.Logic.{All-at}
+use Rattle.model.specs.Session.{noStack, frontScreen, count, top, mostTasks}
+use Rattle.model.specs.Search.{seekRoot, seek}
+use Rattle.model.specs.Rules.{groupOf, soughtBy, chooseIn, choose}
+use Rattle.model.proofs.Logic.{All-at, if-elim}
 use Rattle.model.proofs.Sound.{TaskSound}
+use Rattle.model.proofs.Start.{Sought, seekRoot-sought, seek-sought}
 use Rattle.model.proofs.Tables.{good-shaped}
 use Rattle.session.specs.declared.Task.{Task}
 use Rattle.session.specs.declared.Session.{Session}
-use Rattle.session.specs.Stored.{view, viewTask, noTask, storageBlank}
+use Rattle.session.specs.Stored.{view, viewTask, noTask}
 use Rattle.session.proofs.Known.{Sized}
 use Rattle.session.proofs.StoredLaws.{view-count, view-at, sized-at, stored-height, sound-view, sound-blank, blank-few}
 use Rattle.session.proofs.TaskLaws.{view-height}
 use Rattle.choice.specs.Startable.{Startable}
-use Rattle.choice.specs.Places.{PlaceAmong, FoundAmong}
-
--- the place of what was found, where it is not 0
-pub found-place : (n : ℕ) (t : Found) {p : ℕ} → p ≡ placeOf t → FoundAmong n t → (p ≡ 0 → ⊥) → PlaceAmong n p
-found-place n Found.Nowhere e h z = absurd (z e)
-found-place n (Found.ByRoot q) e h z = rw e h
-found-place n (Found.ByAffinity q) e h z = rw e h
+use Rattle.choice.specs.Shows.{indexOf, Shows, Filled}
 
 abbrev pub storedAt : Session → ℕ → Task
 storedAt c i = getD (c .tasks) i noTask
 
--- the task at a place is what is stored one before it
-pub task-at : (c : Session) (p : ℕ) → PlaceAmong (c .n) p → taskAt (view c .tasks) p ≡ viewTask (storedAt c (p - 1))
-task-at c p h =
-    let l : p - 1 < c .n = omega arith in
-    ap (λ (i : ℕ). getD (view c .tasks) i noStack) (sym (sub-one p)) ∙ view-at c (p - 1) l
+-- a stored session shows the task that it stores at the index of the task found
+pub stored-shows : (c : Session) (t : Found) {i : ℕ} → i ≡ indexOf t → i < c .n → Shows (view c) t (storedAt c i)
+stored-shows c t e h = rw (← e) (view-at c _ h)
 
 -- "A is the front screen"
 pub front-screen : (c : Session) → 1 ≤ c .n → frontScreen (view c) ≡ top (viewTask (storedAt c 0))
 front-screen c some = ap top (view-at c 0 some)
 
-module _ (c : Session) (z : Sized c) (e : storageBlank c ≡ true) where
-  -- a place is a place of the storage, and the task there fits
-  pub place-inside : (p : ℕ) → PlaceAmong (c .n) p → p - 1 < 16
-  place-inside p h = omega (arith, blank-few c e)
-
-  pub task-low : (p : ℕ) → PlaceAmong (c .n) p → storedAt c (p - 1) .height ≤ 32
-  task-low p h = stored-height c z e (p - 1) (omega arith)
+-- the index of a place
+place-stands : (p n : ℕ) → 1 ≤ p → p ≤ n → pred p < n
+place-stands zero n h l = absurd (not-suc-le-zero h)
+place-stands (suc p) n h l = l
 
 module _ (tb : List ℕ) (c : Session) (b : ℕ) (z : Sized c) (h : Startable tb c b) where
   row : (x : ℕ) → x < sizeOf tb → 2 + 2 * x < length tb
@@ -57,22 +49,29 @@ module _ (tb : List ℕ) (c : Session) (b : ℕ) (z : Sized c) (h : Startable tb
   pub own-row : 2 + 2 * b < length tb
   own-row = row b (h .known)
 
-  module _ (p : ℕ) (l : PlaceAmong (c .n) p) where
-    abbrev i : ℕ
-    i = p - 1
+  few : c .n ≤ mostTasks
+  few = blank-few c (sound-blank tb c (h .ready .sound))
+
+  pub counted : count (view c) ≡ c .n
+  counted = view-count c z few
+
+  -- ---- the task at an index
+
+  module _ (i : ℕ) (l : i < c .n) where
+    -- an index of a task is one of the storage
+    pub index-inside : i < mostTasks
+    index-inside = omega (arith, few)
 
     task-sound : TaskSound tb (viewTask (storedAt c i))
     task-sound =
-        let lt : i < c .n = omega arith in
-        let n = view-count c z (blank-few c (sound-blank tb c (h .ready .sound))) in
-        rw (view-at c i lt) at (All-at (TaskSound tb) (view c .tasks) i noStack (omega arith) (sound-view tb c (h .ready .sound) .each))
+        let n = counted in
+        rw (view-at c i l) at (All-at (TaskSound tb) (view c .tasks) i noStack (omega arith) (sound-view tb c (h .ready .sound) .each))
 
     -- it has 1 to 32 screens
-    pub task-fits : (1 ≤ storedAt c i .height) × (storedAt c i .height ≤ 32)
-    task-fits =
-        let blank = sound-blank tb c (h .ready .sound) in
-        let low = task-low c z blank p l in
-        let s : length (storedAt c i .screens) ≡ 32 = sized-at c z i (place-inside c z blank p l) in
+    pub task-filled : Filled (storedAt c i)
+    task-filled =
+        let low = stored-height c z (sound-blank tb c (h .ready .sound)) i l in
+        let s : length (storedAt c i .screens) ≡ 32 = sized-at c z i index-inside in
         let e = view-height (storedAt c i) (omega arith) in
         let f = task-sound .filled in
         (omega arith, low)
@@ -80,3 +79,29 @@ module _ (tb : List ℕ) (c : Session) (b : ℕ) (z : Sized c) (h : Startable tb
     -- the table has the row of its top screen
     pub top-row : 2 + 2 * top (viewTask (storedAt c i)) < length tb
     top-row = row _ (All-at (λ x. x < sizeOf tb) (viewTask (storedAt c i) .screens) 0 0 (task-sound .filled) (task-sound .below))
+
+  -- ---- the task found
+
+  sought-stands : (t : Found) → Sought tb (view c) b t → indexOf t < c .n
+  sought-stands Found.Nowhere s = h .some
+  sought-stands (Found.ByRoot p) s = place-stands p (c .n) (s .0 .0) (rw counted at (s .0 .1))
+  sought-stands (Found.ByAffinity p) s = place-stands p (c .n) (s .0 .0) (rw counted at (s .0 .1))
+
+  seek-index : indexOf (seek tb b (view c .tasks)) < c .n
+  seek-index = sought-stands (seek tb b (view c .tasks)) (seek-sought tb (view c) b)
+
+  sought-index : (f : Flags) (g : Group) → indexOf (soughtBy tb (view c) b f g) < c .n
+  unfolding soughtBy
+  sought-index f Group.Instance = sought-stands (seekRoot b (view c .tasks)) (seekRoot-sought tb (view c) b)
+  sought-index f Group.Task = seek-index
+  sought-index f Group.Near = h .some
+  sought-index f Group.Apart = if-elim (λ t. indexOf t < c .n) (f .mtk) Found.Nowhere (seek tb b (view c .tasks)) (λ _. h .some) (λ _. seek-index)
+
+  -- a task stands at the index of the task that a group seeks
+  pub index-stands : (f : Flags) (g : Group) {t : Found} → t ≡ soughtBy tb (view c) b f g → {i : ℕ} → i ≡ indexOf t → i < c .n
+  index-stands f g e k = rw (k, e) (sought-index f g)
+
+  -- and of the task that is found for a start
+  pub chosen-stands : (f : Flags) {t : Found} → t ≡ choose tb (view c) b f .found → {i : ℕ} → i ≡ indexOf t → i < c .n
+  unfolding choose chooseIn
+  chosen-stands f e k = index-stands f (groupOf tb (view c) b f) e k

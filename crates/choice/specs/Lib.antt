@@ -1,3 +1,3 @@
 pub mod Startable
-pub mod Places
+pub mod Shows
 pub mod Groups

@@ -2,27 +2,28 @@
 
 ghost use Prim.Native.Nat.{ℕ, _+_, _*_, _≤_, _<_};
 ghost use mathlib.Core.Path.{_≡_};
-ghost use mathlib.Core.Bool.{true, _&&_, _||_};
+ghost use mathlib.Core.Bool.{_&&_, _||_};
 ghost use mathlib.Core.List.{List};
 ghost use lib.Dec.{eqb};
 ghost use lib.ListN.{length};
 ghost use Rattle.model.specs.Lists.{if_then_else_};
 ghost use Rattle.model.specs.Refusals.{refusal};
 ghost use Rattle.model.specs.Table.{isSingleTop, isSingleInstance};
-ghost use Rattle.model.specs.Session.{State, mostHeight};
-ghost use Rattle.model.specs.Search.{placeOf, isFoundByRoot, holds};
-ghost use Rattle.model.specs.Rules.{instanceGroup, taskGroup, nearGroup, apartGroup, soughtBy, choose as chooseRule};
+ghost use Rattle.model.specs.Session.{State, frontScreen, count, mostHeight};
+ghost use Rattle.model.specs.Search.{placeOf, isFound, isFoundByRoot, holds};
+ghost use Rattle.model.specs.Rules.{groupOf, soughtBy, choose as chooseRule};
 ghost use Rattle.model.specs.Deeds.{deedOf};
 ghost use Rattle.model.specs.Calls.{isPush, roomChecks};
-ghost use Rattle.session.specs.Stored.{view, viewTask, storageBlank};
+ghost use Rattle.session.specs.Stored.{view, viewTask};
 ghost use Rattle.choice.specs.Startable.{Startable};
-ghost use Rattle.choice.specs.Places.{FoundAmong, Placed};
+ghost use Rattle.choice.specs.Shows.{indexOf, Shows, Filled};
 ghost use Rattle.choice.specs.Groups.{ruleOf};
 use model::Change;
 use model::Choice;
 use model::Deed;
 use model::Flags;
 use model::Found;
+use model::Group;
 use model::Rule;
 use session::Session;
 use session::Task;
@@ -35,6 +36,28 @@ pub fn place_of(found: Found) -> u8
         Found::Nowhere => 0,
         Found::ByRoot(place) => place,
         Found::ByAffinity(place) => place,
+    }
+}
+
+// The index of the task found: how many tasks stand before it; 0 where none was found: then the front task is meant.
+pub fn index_of(found: Found) -> usize
+    ensures { λ r. ⌜ r ≡ indexOf found ⌝ }
+{
+    let place = place_of(found);
+    if place == 0 {
+        return 0;
+    }
+    (place - 1) as usize
+}
+
+// A task was found.
+fn is_found(found: Found) -> bool
+    ensures { λ r. ⌜ r ≡ isFound found ⌝ }
+{
+    match found {
+        Found::Nowhere => false,
+        Found::ByRoot(_) => true,
+        Found::ByAffinity(_) => true,
     }
 }
 
@@ -101,43 +124,74 @@ fn is_apart(table: &[u8], a: u8, f: Flags) -> bool
     f.ntk | (table::mode(table, a) == 3)
 }
 
-// R1 and R2: b is single-instance.
-fn instance_rule(found: Found) -> Rule
-    ensures { λ r. ⌜ ((tb : List ℕ) (v : State ℕ) (b : ℕ) (f : Flags) → r ≡ ruleOf instanceGroup tb v b f found) ⌝ }
+// The group of rules for a start of b where a is the front screen.
+pub fn group_of(table: &[u8], a: u8, b: u8, f: Flags) -> Group
+    requires { ⌜ (2 + 2 * a < length (now table)) × (2 + 2 * b < length (now table)) ⌝ }
+    ensures { λ r. ⌜ ((v : State ℕ) → frontScreen v ≡ a → r ≡ groupOf (now (table .entry)) v b f) ⌝ }
 {
-    match found {
-        Found::Nowhere => Rule::R2,
-        Found::ByRoot(_) => Rule::R1,
-        Found::ByAffinity(_) => Rule::R1,
+    let mode = table::mode(table, b);
+    match mode {
+        3 => Group::Instance,
+        2 => Group::Task,
+        _ => {
+            if is_apart(table, a, f) {
+                return Group::Apart;
+            }
+            Group::Near
+        }
     }
 }
 
-// R3 to R6: b is single-task.
-fn task_rule(s: Session, b: u8, f: Flags, found: Found) -> Rule
-    requires { ⌜ (storageBlank s ≡ true) × FoundAmong (s .n) found ⌝ }
-    ensures { λ r. ⌜ ((tb : List ℕ) → r ≡ ruleOf taskGroup tb (view s) b f found) ⌝ }
+// The task that a group of rules seeks: where the start is apart, none if MTK asks for a new one.
+pub fn sought_by(table: &[u8], s: Session, b: u8, f: Flags, group: Group) -> Found
+    requires { ⌜ Startable (now table) s b ⌝ }
+    ensures { λ r. ⌜ r ≡ soughtBy (now (table .entry)) (view s) b f group ⌝ }
 {
-    let place = place_of(found);
-    if place == 0 {
+    match group {
+        Group::Instance => search::seek_root(s, b),
+        Group::Task => search::seek(table, s, b),
+        Group::Near => Found::Nowhere,
+        Group::Apart => {
+            if f.mtk {
+                return Found::Nowhere;
+            }
+            search::seek(table, s, b)
+        }
+    }
+}
+
+// R1 and R2: b is single-instance.
+fn instance_rule(found: Found) -> Rule
+    ensures { λ r. ⌜ ((tb : List ℕ) (v : State ℕ) (b : ℕ) (f : Flags) → r ≡ ruleOf Group.Instance tb v b f found) ⌝ }
+{
+    if is_found(found) {
+        return Rule::R1;
+    }
+    Rule::R2
+}
+
+// R3 to R6: b is single-task.
+fn task_rule(t: Task, b: u8, f: Flags, found: Found) -> Rule
+    requires { ⌜ Filled t ⌝ }
+    ensures { λ r. ⌜ ((tb : List ℕ) (v : State ℕ) → Shows v found t → r ≡ ruleOf Group.Task tb v b f found) ⌝ }
+{
+    if !is_found(found) {
         return Rule::R6;
     }
     if f.ctk {
         return Rule::R3;
     }
-    let k = (place - 1) as usize;
-    let t = s.tasks[k];
     if holds_screen(t, b) {
         return Rule::R4;
     }
     Rule::R5
 }
 
-// R7 to R10: not apart. b is looked for only where CTP or RTF is set.
-fn near_rule(table: &[u8], s: Session, b: u8, f: Flags) -> Rule
-    requires { ⌜ Startable (now table) s b ⌝ }
-    ensures { λ r. ⌜ r ≡ ruleOf nearGroup (now (table .entry)) (view s) b f Found.Nowhere ⌝ }
+// R7 to R10: not apart; t is the front task. b is looked for only where CTP or RTF is set.
+fn near_rule(table: &[u8], t: Task, b: u8, f: Flags) -> Rule
+    requires { ⌜ Filled t × (2 + 2 * b < length (now table)) ⌝ }
+    ensures { λ r. ⌜ ((v : State ℕ) → Shows v Found.Nowhere t → r ≡ ruleOf Group.Near (now (table .entry)) v b f Found.Nowhere) ⌝ }
 {
-    let t = s.tasks[0];
     if (b == t.top()) & (is_single(table, b, f) | f.rtf | f.ctp) {
         return Rule::R7;
     }
@@ -151,42 +205,27 @@ fn near_rule(table: &[u8], s: Session, b: u8, f: Flags) -> Rule
     Rule::R10
 }
 
-// The task sought where the start is apart: none where MTK asks for a new one.
-fn seek_apart(table: &[u8], s: Session, b: u8, f: Flags) -> Found
-    requires { ⌜ Startable (now table) s b ⌝ }
-    ensures { λ r. ⌜ r ≡ soughtBy (now (table .entry)) (view s) b f apartGroup ⌝ }
-{
-    if f.mtk {
-        return Found::Nowhere;
-    }
-    search::seek(table, s, b)
-}
-
 // R11 to R18: apart. b is looked for only where CTP is set.
-fn apart_rule(table: &[u8], s: Session, b: u8, f: Flags, found: Found) -> Rule
-    requires { ⌜ Startable (now table) s b × FoundAmong (s .n) found ⌝ }
-    ensures { λ r. ⌜ r ≡ ruleOf apartGroup (now (table .entry)) (view s) b f found ⌝ }
+fn apart_rule(table: &[u8], t: Task, main: u8, b: u8, f: Flags, found: Found) -> Rule
+    requires { ⌜ Filled t × (2 + 2 * b < length (now table)) ⌝ }
+    ensures { λ r. ⌜ ((v : State ℕ) → Shows v found t → v .main ≡ main → r ≡ ruleOf Group.Apart (now (table .entry)) v b f found) ⌝ }
 {
     if f.mtk {
         return Rule::R11;
     }
-    let place = place_of(found);
-    if place == 0 {
+    if !is_found(found) {
         return Rule::R18;
     }
     if f.ctk {
         return Rule::R12;
     }
-    let before = place - 1;
-    let k = before as usize;
-    let t = s.tasks[k];
     if holds_where(f.ctp, t, b) {
         return Rule::R13;
     }
     if f.ctp {
         return Rule::R14;
     }
-    if is_by_root(found) & (place != s.main) {
+    if is_by_root(found) & (place_of(found) != main) {
         return Rule::R15;
     }
     if is_single(table, b, f) & (t.top() == b) {
@@ -195,45 +234,34 @@ fn apart_rule(table: &[u8], s: Session, b: u8, f: Flags, found: Found) -> Rule
     Rule::R17
 }
 
+// The first rule of the group that fits, where t is the task found, or the front task where none was found.
+pub fn rule_in(table: &[u8], group: Group, t: Task, main: u8, b: u8, f: Flags, found: Found) -> Rule
+    requires { ⌜ Filled t × (2 + 2 * b < length (now table)) ⌝ }
+    ensures { λ r. ⌜ ((v : State ℕ) → Shows v found t → v .main ≡ main → found ≡ soughtBy (now (table .entry)) v b f group
+        → r ≡ ruleOf group (now (table .entry)) v b f found) ⌝ }
+{
+    match group {
+        Group::Instance => instance_rule(found),
+        Group::Task => task_rule(t, b, f, found),
+        Group::Near => near_rule(table, t, b, f),
+        Group::Apart => apart_rule(table, t, main, b, f, found),
+    }
+}
+
 // The rule that a start of b uses, and the task that was found for it.
 pub fn choose(table: &[u8], s: Session, b: u8, f: Flags) -> Choice
     requires { ⌜ Startable (now table) s b ⌝ }
     ensures { λ r. ⌜ r ≡ chooseRule (now (table .entry)) (view s) b f ⌝ }
 {
-    let mode = table::mode(table, b);
-    match mode {
-        3 => {
-            let found = search::seek_root(s, b);
-            let rule = instance_rule(found);
-            Choice {
-                rule: rule,
-                found: found,
-            }
-        }
-        2 => {
-            let found = search::seek(table, s, b);
-            let rule = task_rule(s, b, f, found);
-            Choice {
-                rule: rule,
-                found: found,
-            }
-        }
-        _ => {
-            let t = s.tasks[0];
-            if is_apart(table, t.top(), f) {
-                let found = seek_apart(table, s, b, f);
-                let rule = apart_rule(table, s, b, f, found);
-                return Choice {
-                    rule: rule,
-                    found: found,
-                };
-            }
-            let rule = near_rule(table, s, b, f);
-            Choice {
-                rule: rule,
-                found: Found::Nowhere,
-            }
-        }
+    let front = s.tasks[0];
+    let group = group_of(table, front.top(), b, f);
+    let found = sought_by(table, s, b, f, group);
+    let k = index_of(found);
+    let t = s.tasks[k];
+    let rule = rule_in(table, group, t, s.main, b, f, found);
+    Choice {
+        rule: rule,
+        found: found,
     }
 }
 
@@ -260,29 +288,22 @@ fn push_refusal(t: Task, change: Change) -> u8
     0
 }
 
-// 23 where a new task is needed and there are 16, 24 for a push onto a task of 32, else 0.
-pub fn room_refusal(s: Session, c: Choice) -> u8
-    requires { ⌜ Placed s c ⌝ }
-    ensures { λ r. ⌜ r ≡ refusal (roomChecks c (view s)) ⌝ }
+// 23 where a new task is needed and n is 16, 24 for a push onto a task of 32, else 0; t is the task found, or the front
+// task where none was found.
+pub fn room_refusal(n: u8, t: Task, deed: Deed) -> u8
+    requires { ⌜ Filled t ⌝ }
+    ensures { λ r. ⌜ ((tb : List ℕ) (v : State ℕ) (b : ℕ) (f : Flags)
+        → Shows v (chooseRule tb v b f .found) t → count v ≡ n → deed ≡ deedOf (chooseRule tb v b f .rule)
+        → r ≡ refusal (roomChecks (chooseRule tb v b f) v)) ⌝ }
 {
-    let rule = c.rule;
-    let deed = deed_of(rule);
     match deed {
         Deed::New => {
-            if (s.n as usize) == Session::TASKS {
+            if (n as usize) == Session::TASKS {
                 return 23;
             }
             0
         }
-        Deed::InFront(change) => {
-            let t = s.tasks[0];
-            push_refusal(t, change)
-        }
-        Deed::MoveAnd(change) => {
-            let found = c.found;
-            let k = (place_of(found) - 1) as usize;
-            let t = s.tasks[k];
-            push_refusal(t, change)
-        }
+        Deed::InFront(change) => push_refusal(t, change),
+        Deed::MoveAnd(change) => push_refusal(t, change),
     }
 }

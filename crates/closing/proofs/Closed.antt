@@ -7,17 +7,19 @@ use native.Mathlib.Omega.{arith}
 use lib.ListN.{length, getD, set}
 use borrow.Author.Tests.{eq-eqb, ne-eqb, lt-ltb, le-ltb}
 use Rattle.model.specs.Lists.{isEmpty, omit, if_then_else_}
-use Rattle.model.specs.Session.{Stack, stack, state, noStack, height, count}
+use Rattle.model.specs.Session.{Stack, stack, state, noStack, height, count, mostHeight}
 use Rattle.model.specs.Deeds.{mainWithout, close}
 use Rattle.model.proofs.ListLaws.{omit-length}
 use Rattle.model.proofs.Close.{closeIn-emptied, closeIn-kept, shortened}
 use Rattle.session.specs.declared.Session.{Session}
 use Rattle.session.specs.declared.Task.{Task}
-use Rattle.session.specs.Stored.{view, viewTask, hold, holdTask, noTask}
+use Rattle.session.specs.Stored.{view, viewTask, hold, holdTask, noTask, popped}
 use Rattle.session.proofs.Known.{Sized}
-use Rattle.session.proofs.StoredLaws.{held, view-at, blank-few, sized-at}
+use Rattle.session.proofs.StoredLaws.{held, hold-viewTask, view-at, blank-few, sized-at}
 use Rattle.session.proofs.SessionLaws.{stored, hold-set}
-use Rattle.deeds.proofs.Changes.{blank-height}
+use Rattle.session.proofs.TaskLaws.{hold-popped}
+use Rattle.deeds.specs.Rows.{withTasks}
+use Rattle.deeds.proofs.Changes.{blank-low, blank-height}
 use Rattle.deeds.proofs.Fronts.{counted, stored-blank}
 use Rattle.closing.specs.Closable.{Closable}
 
@@ -87,3 +89,24 @@ module _ (s : Session) (z : Sized s) (k i : ℕ) (c : Closable s k i) where
       ∙ ap₂ (λ (o : Session) (u : Stack ℕ). stored (set (o .tasks) k (holdTask (stack (u .root) (omit i (u .screens))))) (count (view s)) (s .main))
       (held s z (c .blank)) (view-at s k inside)
       ∙ ap (λ (j : ℕ). stored (set (s .tasks) k (holdTask (stack (t .root) (omit i (viewTask t .screens))))) j (s .main)) n
+
+-- ---- the top screen of a task that keeps others
+
+hold-first-gone : (r : ℕ) (xs : List ℕ) → 0 < length xs → length xs ≤ mostHeight → holdTask (stack r (omit 0 xs)) ≡ popped (holdTask (stack r xs))
+hold-first-gone r [] h l = absurd (omega arith)
+hold-first-gone r (x ∷ xs) h l = hold-popped r x xs (omega arith)
+
+pub top-closed : (s : Session) → Sized s → (k : ℕ) → Closable s k 0 → 1 < getD (s .tasks) k noTask .height
+    → hold (close k 0 (view s)) ≡ withTasks s (set (s .tasks) k (popped (getD (s .tasks) k noTask)))
+unfolding viewTask
+top-closed s z k c more =
+    let t = getD (s .tasks) k noTask in
+    let few = blank-few s (c .blank) in
+    let h = inside s z k 0 c in
+    let l = sized-at s z k (omega arith) in
+    let e = stored-blank s z (c .blank) k h in
+    let n = blank-height t l e in
+    let low = blank-low t e in
+    closed-kept s z k 0 c (λ q. omega arith)
+    ∙ ap (λ (u : Task). withTasks s (set (s .tasks) k u))
+    (hold-first-gone (t .root) (viewTask t .screens) (omega arith) (omega arith) ∙ ap popped (hold-viewTask t l e))

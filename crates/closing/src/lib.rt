@@ -39,7 +39,7 @@ fn moved_up(s: Session, m: usize, k: usize) -> Session
     let mut out = s;
     let mut j: usize = 0;
     while j < k {
-        let t = s.tasks[m + j + 1];
+        let t = out.tasks[m + j + 1];
         out.tasks[m + j] = t;
         j += 1;
     }

@@ -1,32 +1,44 @@
--- A stored task of a session with blank storage; the front task changed; and what is ready for a change after a move.
-use Prim.Native.Nat.{ℕ, _≤_, _<_, pred}
-use mathlib.Core.Path.{_≡_, refl, _∙_, ap, ap₂}
+-- A stored task of a session with blank storage; and what is in front after a deed.
+use Prim.Native.Nat.{ℕ, suc, _≤_, _<_, pred}
+use mathlib.Core.Path.{_≡_, sym, _∙_, ap, ap₂, subst}
 use mathlib.Core.Bool.{true, _&&_}
-use mathlib.Core.List.{List, [], _∷_, reverse}
-use native.Mathlib.Nat.{not-suc-le-zero}
+use mathlib.Core.List.{List, [], _∷_, map}
 use native.Mathlib.Omega.{arith}
-use lib.Dec.{leb}
-use lib.ListN.{length, getD, set, take, drop, length-take, length-reverse}
+use lib.Dec.{leb, eqb}
+use lib.ListN.{length, getD, set, take, drop, length-map}
 use lib.Seq.{getD-take, length-take-le}
 use Rattle.model.specs.declared.Change.{Change}
-use Rattle.model.specs.Lists.{all, onFirst}
-use Rattle.model.specs.Session.{Stack, stack, state, noStack, taskAt, front, height, count, mostTasks, mostHeight}
-use Rattle.model.specs.Deeds.{move, changeFront}
-use Rattle.model.proofs.Logic.{and-left, and-right, All-at, All-map, all-decides, self-decides}
-use Rattle.model.proofs.ListLaws.{toFront-length, All-take, All-toFront, All-to-map}
-use Rattle.model.proofs.Deeds.{moved-front}
+use Rattle.model.specs.declared.Deed.{Deed}
+use Rattle.model.specs.Lists.{all, further, toFront, onFirst}
+use Rattle.model.specs.Session.{Stack, State, stack, state, noStack, count, mostTasks}
+use Rattle.model.specs.Deeds.{mainMoved, move, changed, changeFront, putNew, carryOut}
+use Rattle.model.proofs.Logic.{and-left, and-right, All-at, all-decides, self-decides}
+use Rattle.model.proofs.ListLaws.{toFront-zero, toFront-length, toFront-split}
 use Rattle.session.specs.declared.Session.{Session}
 use Rattle.session.specs.declared.Task.{Task}
-use Rattle.session.specs.Stored.{view, viewTask, hold, holdTask, noTask, blankAbove, isBlank, storageBlank}
-use Rattle.session.proofs.Known.{Sized, Screens32}
-use Rattle.session.proofs.StoredLaws.{Fits, held, view-hold, hold-blank, view-at, view-count, blank-few}
-use Rattle.session.proofs.SessionLaws.{stored, hold-set}
-use Rattle.deeds.specs.Carriable.{HasRoom}
+use Rattle.session.specs.Stored.{view, viewTask, hold, holdTask, noTask, blankTask, blankAbove, isBlank, storageBlank}
+use Rattle.session.proofs.Known.{Sized}
+use Rattle.session.proofs.StoredLaws.{held, view-at, view-count, blank-few}
+use Rattle.session.proofs.SessionLaws.{stored, hold-set, hold-toFront}
+use Rattle.deeds.specs.Carriable.{HasRoom, Finds, Placed, Changeable, Carriable}
+use Rattle.deeds.specs.Fronted.{changedTask, shiftOf, fronted}
+use Rattle.deeds.specs.Rows.{shifted}
+use Rattle.deeds.proofs.Rows.{pad-shifted}
 
--- a change of the first element is a store
-on-first-set : {A : Type 0} (f : A → A) (d : A) (xs : List A) → 1 ≤ length xs → onFirst f xs ≡ set xs 0 (f (getD xs 0 d))
-on-first-set f d [] h = absurd (not-suc-le-zero h)
-on-first-set f d (x ∷ xs) h = refl
+module _ {A : Type 0} (d : A) (k : ℕ) (xs : List A) (h : k < length xs) where
+  -- one comes to the front changed
+  moved-set : (f : A → A) → onFirst f (toFront k xs) ≡ set (toFront k xs) 0 (f (getD xs k d))
+  moved-set f = rw (toFront-split d k xs h)
+
+  moved-shifted : (x : A) → set (toFront k xs) 0 x ≡ shifted x k xs
+  moved-shifted x = rw (toFront-split d k xs h)
+
+hold-put : (v : State ℕ) (m : ℕ) (t : Stack ℕ) → count v < mostTasks
+    → hold (state (t ∷ v .tasks) m) ≡ stored (shifted (holdTask t) (count v) (hold v .tasks)) (suc (count v)) m
+unfolding hold
+hold-put v m t h =
+    ap (λ (ts : List Task). stored ts (suc (count v)) m)
+    (pad-shifted mostTasks blankTask (holdTask t) (count v) (map holdTask (v .tasks)) (length-map (v .tasks) holdTask) h)
 
 module _ (s : Session) (z : Sized s) (e : storageBlank s ≡ true) where
   pub counted : count (view s) ≡ s .n
@@ -42,58 +54,72 @@ module _ (s : Session) (z : Sized s) (e : storageBlank s ≡ true) where
       let l : length ts ≡ s .n = length-take-le (s .n) (s .tasks) (omega (arith, z .tasks)) in
       rw (getD-take (s .n) (s .tasks) i noTask h) at (All-at (λ t. blankAbove t ≡ true) ts i noTask (omega arith) each)
 
-  -- storage with room for what stands in it
-  fits : Fits (view s)
-  unfolding view viewTask
-  fits =
-      record {
-        few = let n = counted in let few = blank-few s e in omega arith;
-        low = All-to-map viewTask (λ t. height t ≤ mostHeight) (take (s .n) (s .tasks))
-            (All-map low (take (s .n) (s .tasks)) (All-take Screens32 (s .n) (s .tasks) (z .each)));
-      }
-    where
-      low : (t : Task) → Screens32 t → length (reverse (take (t .height) (t .screens))) ≤ mostHeight
-      low t l = omega (arith, l, length-reverse (take (t .height) (t .screens)), length-take (t .height) (t .screens))
+  -- a new task
+  new-stored : (b : ℕ) → s .n < mostTasks
+      → hold (putNew b b (view s)) ≡ stored (shifted (holdTask (stack b (b ∷ []))) (s .n) (s .tasks)) (suc (s .n)) (further (s .main))
+  unfolding putNew view
+  new-stored b h =
+      let n = counted in
+      hold-put (view s) (further (s .main)) (stack b (b ∷ [])) (omega arith)
+      ∙ ap₂ (λ (c : Session) (j : ℕ). stored (shifted (holdTask (stack b (b ∷ []))) j (c .tasks)) (suc j) (further (s .main))) (held s z e) n
 
-  -- ---- the front task changed
+  -- the task behind k others, moved to the front and changed
+  changed-stored : (b : ℕ) (c : Change) (k m : ℕ) → k < s .n
+      → hold (changeFront (changed (eqb b) b c) (state (toFront k (view s .tasks)) m))
+      ≡ stored (shifted (changedTask b c (getD (s .tasks) k noTask)) k (s .tasks)) (s .n) m
+  unfolding changeFront viewTask
+  changed-stored b c k m h =
+      let few = blank-few s e in
+      let n = counted in
+      let l = toFront-length k (view s .tasks) in
+      let f : Stack ℕ → Stack ℕ = λ u. stack (u .root) (changed (eqb b) b c (u .screens)) in
+      let v = state (toFront k (view s .tasks)) m in
+      let t = getD (s .tasks) k noTask in
+      ap (λ (ts : List (Stack ℕ)). hold (state ts m)) (moved-set noStack k (view s .tasks) (omega arith) f)
+      ∙ hold-set v m 0 (f (getD (view s .tasks) k noStack)) (omega arith)
+      ∙ ap₂ (λ (o : Session) (u : Stack ℕ). stored (set (o .tasks) 0 (holdTask (f u))) (count v) m)
+      (hold-toFront (view s) m k (omega arith)) (view-at s k h)
+      ∙ ap₂ (λ (o : Session) (j : ℕ). stored (set (toFront k (o .tasks)) 0 (changedTask b c t)) j m) (held s z e) (l ∙ n)
+      ∙ ap (λ (ts : List Task). stored ts (s .n) m) (moved-shifted noTask k (s .tasks) (omega (arith, z .tasks)) (changedTask b c t))
 
-  module _ (some : 1 ≤ s .n) where
-    abbrev t : Task
-    t = getD (s .tasks) 0 noTask
+-- ---- a deed that can be carried out
 
-    pub front-is : front (view s) ≡ viewTask t
-    front-is = view-at s 0 some
+module _ (s : Session) (z : Sized s) (p : ℕ) where
+  pub placed : (d : Deed) → Carriable s d p → Placed d p
+  placed Deed.New k = tt
+  placed (Deed.InFront c) k = tt
+  placed (Deed.MoveAnd c) k = k .finds .0 .0
 
-    pub changed-stored : (f : List ℕ → List ℕ)
-        → hold (changeFront f (view s)) ≡ stored (set (s .tasks) 0 (holdTask (stack (t .root) (f (viewTask t .screens))))) (s .n) (s .main)
-    unfolding changeFront view viewTask
-    changed-stored f =
-        let n = counted in
-        ap (λ (ts : List (Stack ℕ)). hold (state ts (s .main))) (on-first-set (λ u. stack (u .root) (f (u .screens))) noStack (view s .tasks) (omega arith))
-        ∙ hold-set (view s) (s .main) 0 _ (omega arith)
-        ∙ ap₂ (λ (c : Session) (u : Stack ℕ). stored (set (c .tasks) 0 (holdTask (stack (u .root) (f (u .screens))))) (count (view s)) (s .main)) (held s z e) front-is
-        ∙ ap (λ (k : ℕ). stored (set (s .tasks) 0 (holdTask (stack (t .root) (f (viewTask t .screens))))) k (s .main)) n
+  pub main-low : (d : Deed) → Carriable s d p → d ≡ Deed.New → s .main ≤ mostTasks
+  unfolding view
+  main-low d k e = let f = subst (λ (x : Deed). Finds x p (view s)) e (k .finds) in omega arith
 
-  -- ---- a move before it
+  -- the task that is changed stands
+  in-front : {c : Change} → Carriable s (Deed.InFront c) p → 0 < s .n
+  in-front k = let n = counted s z (k .blank) in omega (arith, k .finds .0)
 
-  module _ (p : ℕ) (l : 1 ≤ p) (h : p ≤ s .n) where
-    moved-fits : Fits (move p (view s))
-    unfolding move
-    moved-fits =
-        let k = pred p in
-        record {
-          few = rw (toFront-length k (view s .tasks)) (fits .few);
-          low = All-toFront (λ t. height t ≤ mostHeight) k (view s .tasks) (fits .low);
-        }
+  at-place : {c : Change} → Carriable s (Deed.MoveAnd c) p → pred p < s .n
+  at-place k = let n = counted s z (k .blank) in omega (arith, k .finds .0)
 
-    pub moved-ready : (c : Change) → HasRoom c (taskAt (view s .tasks) p)
-        → (storageBlank (hold (move p (view s))) ≡ true) × ((1 ≤ hold (move p (view s)) .n) × HasRoom c (front (view (hold (move p (view s))))))
-    unfolding hold move
-    moved-ready c r =
-        let n = counted in (
-          hold-blank (move p (view s)) moved-fits,
-          (
-            omega (arith, toFront-length (pred p) (view s .tasks)),
-            λ q. rw (view-hold (move p (view s)), moved-front p (view s) (l, omega arith)) (r q),
-          ),
-        )
+  pub shift-low : (d : Deed) → Carriable s d p → shiftOf d p (s .n) < mostTasks
+  shift-low Deed.New k = let n = counted s z (k .blank) in omega (arith, k .finds .0)
+  shift-low (Deed.InFront c) k = omega arith
+  shift-low (Deed.MoveAnd c) k = omega (arith, at-place k, blank-few s (k .blank))
+
+  standing : (c : Change) (j : ℕ) → storageBlank s ≡ true → j < s .n → HasRoom c (getD (view s .tasks) j noStack)
+      → (blankAbove (getD (s .tasks) j noTask) ≡ true) × HasRoom c (viewTask (getD (s .tasks) j noTask))
+  standing c j e h r = (stored-blank s z e j h, λ q. rw (view-at s j h) at (r q))
+
+  pub changeable : (d : Deed) → Carriable s d p → Changeable d (getD (s .tasks) (shiftOf d p (s .n)) noTask)
+  changeable Deed.New k = tt
+  changeable (Deed.InFront c) k = standing c 0 (k .blank) (in-front k) (k .finds .1)
+  changeable (Deed.MoveAnd c) k = standing c (pred p) (k .blank) (at-place k) (k .finds .1)
+
+  -- a deed by what it puts in front
+  pub carried : (b : ℕ) (d : Deed) → Carriable s d p → hold (carryOut (eqb b) b b d p (view s)) ≡ fronted s b d p
+  unfolding carryOut move view
+  carried b Deed.New k = let n = counted s z (k .blank) in new-stored s z (k .blank) b (omega (arith, k .finds .0))
+  carried b (Deed.InFront c) k =
+      ap (λ (ts : List (Stack ℕ)). hold (changeFront (changed (eqb b) b c) (state ts (s .main)))) (sym (toFront-zero (view s .tasks)))
+      ∙ changed-stored s z (k .blank) b c 0 (s .main) (in-front k)
+  carried b (Deed.MoveAnd c) k = changed-stored s z (k .blank) b c (pred p) (mainMoved p (s .main)) (at-place k)

@@ -1,6 +1,5 @@
 pub mod Rows
 pub mod Places
 pub mod Fronts
-pub mod Moves
 pub mod Changes
 pub mod Carried

@@ -2,12 +2,15 @@
 -- change.
 use Prim.Native.Nat.{ℕ, zero, suc, _+_, _-_, _≤_, _<_}
 use mathlib.Core.Path.{_≡_, refl, sym, _∙_, ap, ap₂}
+use mathlib.Core.Bool.{not}
 use mathlib.Core.List.{List, [], _∷_, _++_}
 use native.Mathlib.Omega.{arith}
 use native.Mathlib.Numerals.{add-one}
 use native.Mathlib.Nat.{not-suc-le-zero}
-use lib.ListN.{length, getD, set, take, drop, replicate, length-drop}
-use lib.Seq.{set-at, drop-cons, take-suc, append-snoc, length-take-le, drop-drop, getD-drop, paste, paste-zero, paste-suc}
+use lib.Dec.{eqb}
+use lib.ListN.{length, getD, set, take, drop, replicate, length-drop, take-append-drop}
+use lib.Seq.{set-at, take-suc, append-snoc, length-take-le, drop-drop, getD-drop, paste, paste-zero, paste-suc, drop-paste}
+use Rattle.model.specs.Lists.{if_then_else_}
 use Rattle.session.specs.Stored.{pad}
 use Rattle.session.proofs.Padding.{take-pad, drop-pad}
 use Rattle.session.proofs.TaskLaws.{lift-copied}
@@ -16,21 +19,34 @@ use Rattle.deeds.specs.Rows.{shifted, closedUp}
 module _ {A : Type 0} where
   -- ---- one comes in front
 
-  -- before the first turn
-  pub shift-begin : (x d : A) (xs : List A) → 0 < length xs → set xs 0 x ≡ shifted (getD (set xs 0 x) 0 d) 0 xs
-  shift-begin x d [] h = absurd (omega arith)
-  shift-begin x d (y ∷ ys) h = refl
+  -- when j of them have gone back and i have not; those behind them are zs
+  abbrev pub shifting : ℕ → ℕ → List A → List A → List A
+  shifting i j zs xs = take (suc i) xs ++ (take j (drop i xs) ++ zs)
 
-  pub shift-step : (x d : A) (i : ℕ) (xs : List A) → i + 1 < length xs
-      → set (shifted x i xs) (i + 1) (getD xs i d) ≡ shifted x (i + 1) xs
-  shift-step x d i xs h =
-      let l : length (take i xs) ≡ i = length-take-le i xs (omega arith) in
-      rw (add-one i)
-      (ap (λ (ys : List A). x ∷ ys)
-      (ap (λ (ys : List A). set (take i xs ++ ys) i (getD xs i d)) (drop-cons xs (suc i) d (omega arith))
-      ∙ set-at (take i xs) (getD xs (suc i) d) (drop (suc (suc i)) xs) (getD xs i d) i l
-      ∙ sym (append-snoc (take i xs) (getD xs i d) (drop (suc (suc i)) xs))
-      ∙ ap (λ (ys : List A). ys ++ drop (suc (suc i)) xs) (sym (take-suc xs i d (omega arith)))))
+  pub shift-begin : (k : ℕ) (xs : List A) → xs ≡ shifting k 0 (drop (suc k) xs) xs
+  shift-begin k xs = sym (take-append-drop (suc k) xs)
+
+  pub shift-step : (d : A) (i j : ℕ) (zs xs : List A) → suc i < length xs
+      → set (shifting (suc i) j zs xs) (suc i) (getD (shifting (suc i) j zs xs) i d) ≡ shifting i (suc j) zs xs
+  shift-step d i j zs [] h = absurd (omega arith)
+  shift-step d i j zs (x ∷ []) h = absurd (omega arith)
+  shift-step d zero j zs (x ∷ y ∷ ys) h = refl
+  shift-step d (suc i) j zs (x ∷ y ∷ ys) h = ap (λ (l : List A). x ∷ l) (shift-step d i j zs (y ∷ ys) (omega arith))
+
+  pub shift-end : (x : A) (k : ℕ) (xs : List A) → 0 < length xs → set (shifting 0 k (drop (suc k) xs) xs) 0 x ≡ shifted x k xs
+  shift-end x k [] h = absurd (omega arith)
+  shift-end x k (y ∷ ys) h = refl
+
+  -- without a loop, where at most two go back: the second and the third place take the one before them, or keep their own
+  pub shift-near : (d v : A) (k : ℕ) (xs : List A) → k ≤ 2 → 2 < length xs → {x : A} → x ≡ (if eqb k 2 then getD xs 1 d else getD xs 2 d)
+      → {y : A} → y ≡ (if not (eqb k 0) then getD xs 0 d else getD (set xs 2 x) 1 d) → set (set (set xs 2 x) 1 y) 0 v ≡ shifted v k xs
+  shift-near d v k [] l h e f = absurd (omega arith)
+  shift-near d v k (a ∷ []) l h e f = absurd (omega arith)
+  shift-near d v k (a ∷ b ∷ []) l h e f = absurd (omega arith)
+  shift-near d v zero (a ∷ b ∷ c ∷ xs) l h e f = rw (e, f)
+  shift-near d v (suc zero) (a ∷ b ∷ c ∷ xs) l h e f = rw (e, f)
+  shift-near d v (suc (suc zero)) (a ∷ b ∷ c ∷ xs) l h e f = rw (e, f)
+  shift-near d v (suc (suc (suc k))) (a ∷ b ∷ c ∷ xs) l h e f = absurd (omega arith)
 
   pub pad-shifted : (n : ℕ) (z x : A) (k : ℕ) (xs : List A) → length xs ≡ k → k < n → pad n z (x ∷ xs) ≡ shifted x k (pad n z xs)
   unfolding pad
@@ -51,11 +67,18 @@ module _ {A : Type 0} where
   pub close-begin : (m : ℕ) (xs : List A) → xs ≡ closingUp m 0 xs
   close-begin m xs = paste-zero xs m (drop (suc m) xs)
 
+  -- a turn reads what has not moved yet
+  close-ahead : (d : A) (m j : ℕ) (xs : List A) → m + j + 1 < length xs → getD (closingUp m j xs) (m + j + 1) d ≡ getD (drop (suc m) xs) j d
+  close-ahead d m j xs h =
+      let n : m + j + 1 ≡ suc m + j = omega arith in
+      sym (getD-drop (m + j) (closingUp m j xs) 1 d)
+      ∙ ap (λ (ys : List A). getD ys 1 d) (drop-paste xs m (drop (suc m) xs) j (omega arith) (omega (arith, length-drop (suc m) xs)))
+      ∙ getD-drop (m + j) xs 1 d ∙ ap (λ (i : ℕ). getD xs i d) n ∙ sym (getD-drop (suc m) xs j d)
+
   pub close-step : (d : A) (m j : ℕ) (xs : List A) → m + j + 1 < length xs
-      → set (closingUp m j xs) (m + j) (getD xs (m + j + 1) d) ≡ closingUp m (j + 1) xs
+      → set (closingUp m j xs) (m + j) (getD (closingUp m j xs) (m + j + 1) d) ≡ closingUp m (j + 1) xs
   close-step d m j xs h =
-      let n : suc m + j ≡ m + j + 1 = omega arith in
-      ap (λ (x : A). set (closingUp m j xs) (m + j) x) (sym (getD-drop (suc m) xs j d ∙ ap (λ (i : ℕ). getD xs i d) n))
+      ap (λ (x : A). set (closingUp m j xs) (m + j) x) (close-ahead d m j xs h)
       ∙ paste-suc xs m (drop (suc m) xs) j d (omega arith) (omega (arith, length-drop (suc m) xs))
       ∙ ap (λ (i : ℕ). closingUp m i xs) (sym (add-one j))
 

@@ -6,7 +6,8 @@ use Rattle.model.specs.declared.Change.{Change}
 use Rattle.model.specs.declared.Deed.{Deed}
 use Rattle.model.specs.Session.{Stack, State, taskAt, front, height, count, mostTasks, mostHeight}
 use Rattle.session.specs.declared.Session.{Session}
-use Rattle.session.specs.Stored.{view, storageBlank}
+use Rattle.session.specs.declared.Task.{Task}
+use Rattle.session.specs.Stored.{view, viewTask, blankAbove, storageBlank}
 
 -- a push finds room in the task
 abbrev pub HasRoom : Change → Stack ℕ → Type 0
@@ -17,6 +18,18 @@ abbrev pub Finds : Deed → ℕ → State ℕ → Type 0
 Finds Deed.New p v = (count v < mostTasks) × (v .main ≤ count v)
 Finds (Deed.InFront c) p v = (1 ≤ count v) × HasRoom c (front v)
 Finds (Deed.MoveAnd c) p v = ((1 ≤ p) × (p ≤ count v)) × HasRoom c (taskAt (v .tasks) p)
+
+-- a move has a place
+abbrev pub Placed : Deed → ℕ → Type 0
+Placed Deed.New p = Unit {0}
+Placed (Deed.InFront c) p = Unit {0}
+Placed (Deed.MoveAnd c) p = 1 ≤ p
+
+-- the task that the deed changes holds 0 above its height, and has room
+abbrev pub Changeable : Deed → Task → Type 0
+Changeable Deed.New t = Unit {0}
+Changeable (Deed.InFront c) t = (blankAbove t ≡ true) × HasRoom c (viewTask t)
+Changeable (Deed.MoveAnd c) t = (blankAbove t ≡ true) × HasRoom c (viewTask t)
 
 pub record Carriable (s : Session) (d : Deed) (p : ℕ) : Type 0 where
   pub blank : storageBlank s ≡ true

@@ -6,11 +6,13 @@ ghost use mathlib.Core.Bool.{true};
 ghost use mathlib.Core.List.{[], _∷_};
 ghost use lib.Dec.{eqb};
 ghost use Rattle.model.specs.Lists.{further};
-ghost use Rattle.model.specs.Session.{stack, front};
+ghost use Rattle.model.specs.Session.{stack};
 ghost use Rattle.model.specs.declared.Change.{Change};
-ghost use Rattle.model.specs.Deeds.{mainMoved, move, putNew, changed as changedScreens, changeFront, carryOut};
-ghost use Rattle.session.specs.Stored.{view, viewTask, hold, holdTask, blankAbove, storageBlank};
-ghost use Rattle.deeds.specs.Carriable.{HasRoom, Carriable};
+ghost use Rattle.model.specs.declared.Deed.{Deed};
+ghost use Rattle.model.specs.Deeds.{mainMoved, carryOut};
+ghost use Rattle.session.specs.Stored.{view, viewTask, hold, holdTask, blankAbove};
+ghost use Rattle.deeds.specs.Carriable.{HasRoom, Placed, Changeable, Carriable};
+ghost use Rattle.deeds.specs.Fronted.{changedTask, shiftOf, frontAfter, countAfter, mainAfter};
 ghost use Rattle.deeds.specs.Rows.{shifted, closedUp, lowest, withScreens, withTasks};
 use model::Change;
 use model::Deed;
@@ -20,24 +22,25 @@ use session::Task;
 // ---- rows of tasks
 
 // t is put in front, the first k tasks go one place back, and the one behind them gives way.
-fn put_front(s: Session, t: Task, k: usize) -> Session
+pub fn put_front(s: Session, t: Task, k: usize) -> Session
     requires { ⌜ k < 16 ⌝ }
     ensures { λ r. ⌜ r ≡ withTasks s (shifted t k (s .tasks)) ⌝ }
 {
     let mut out = s;
-    out.tasks[0] = t;
-    let mut i: usize = 0;
-    while i < k {
-        let x = s.tasks[i];
-        i += 1;
+    let mut i = k;
+    while i > 0 {
+        let x = out.tasks[i - 1];
         out.tasks[i] = x;
+        i -= 1;
     }
+    out.tasks[0] = t;
     out
 }
 
+// ---- the main place
+
 // The main place after the task at a place came to the front.
 fn main_moved(place: u8, main: u8) -> u8
-    requires { ⌜ place ≤ 16 ⌝ }
     ensures { λ r. ⌜ r ≡ mainMoved place main ⌝ }
 {
     if main == 0 {
@@ -52,19 +55,18 @@ fn main_moved(place: u8, main: u8) -> u8
     main
 }
 
-// The task at the place comes to the front, the others keep their order, and the main place follows.
-pub fn to_front(s: Session, place: u8) -> Session
-    requires { ⌜ (storageBlank s ≡ true) × ((1 ≤ place) × (place ≤ s .n)) ⌝ }
-    ensures { λ r. ⌜ r ≡ hold (move place (view s)) ⌝ }
+// The main place after one more task was put in front.
+fn main_further(main: u8) -> u8
+    requires { ⌜ main ≤ 16 ⌝ }
+    ensures { λ r. ⌜ r ≡ further main ⌝ }
 {
-    let k = (place - 1) as usize;
-    let t = s.tasks[k];
-    let mut out = put_front(s, t, k);
-    out.main = main_moved(place, s.main);
-    out
+    if main == 0 {
+        return 0;
+    }
+    main + 1
 }
 
-// ---- a new task
+// ---- the screens of a task
 
 // A task of one screen.
 fn renewed(root: u8, b: u8) -> Task
@@ -78,31 +80,6 @@ fn renewed(root: u8, b: u8) -> Task
         screens: screens,
     }
 }
-
-// The main place after one more task was put in front.
-fn main_further(main: u8) -> u8
-    requires { ⌜ main ≤ 16 ⌝ }
-    ensures { λ r. ⌜ r ≡ further main ⌝ }
-{
-    if main == 0 {
-        return 0;
-    }
-    main + 1
-}
-
-// A task of b alone is put in front.
-pub fn put_new(s: Session, b: u8) -> Session
-    requires { ⌜ (storageBlank s ≡ true) × ((s .n < 16) × (s .main ≤ s .n)) ⌝ }
-    ensures { λ r. ⌜ r ≡ hold (putNew b b (view s)) ⌝ }
-{
-    let k = s.n as usize;
-    let mut out = put_front(s, renewed(b, b), k);
-    out.n = s.n + 1;
-    out.main = main_further(s.main);
-    out
-}
-
-// ---- the screens of a task
 
 // The h lowest screens stay.
 fn lowered(t: Task, h: u8) -> Task
@@ -128,7 +105,7 @@ pub fn closed_up(t: Task, m: usize, k: usize, b: u8) -> Task
     let mut out = t;
     let mut j: usize = 0;
     while j < k {
-        out.screens[m + j] = t.screens[m + j + 1];
+        out.screens[m + j] = out.screens[m + j + 1];
         j += 1;
     }
     out.screens[m + k] = b;
@@ -138,7 +115,7 @@ pub fn closed_up(t: Task, m: usize, k: usize, b: u8) -> Task
 // Clear to b: all above the topmost b goes.
 fn cleared(t: Task, b: u8) -> Task
     requires { ⌜ blankAbove t ≡ true ⌝ }
-    ensures { λ r. ⌜ r ≡ holdTask (stack (t .root) (changedScreens (eqb b) b Change.Clear (viewTask t .screens))) ⌝ }
+    ensures { λ r. ⌜ r ≡ changedTask b Change.Clear t ⌝ }
 {
     let place = search::topmost(t, b);
     if place == 0 {
@@ -150,7 +127,7 @@ fn cleared(t: Task, b: u8) -> Task
 // Lift: the topmost b goes to the top.
 fn lifted(t: Task, b: u8) -> Task
     requires { ⌜ blankAbove t ≡ true ⌝ }
-    ensures { λ r. ⌜ r ≡ holdTask (stack (t .root) (changedScreens (eqb b) b Change.Lift (viewTask t .screens))) ⌝ }
+    ensures { λ r. ⌜ r ≡ changedTask b Change.Lift t ⌝ }
 {
     let place = search::topmost(t, b);
     if place == 0 {
@@ -162,7 +139,7 @@ fn lifted(t: Task, b: u8) -> Task
 // The task after a change of its screens.
 pub fn changed(t: Task, b: u8, change: Change) -> Task
     requires { ⌜ (blankAbove t ≡ true) × HasRoom change (viewTask t) ⌝ }
-    ensures { λ r. ⌜ r ≡ holdTask (stack (t .root) (changedScreens (eqb b) b change (viewTask t .screens))) ⌝ }
+    ensures { λ r. ⌜ r ≡ changedTask b change t ⌝ }
 {
     match change {
         Change::Keep => t,
@@ -175,25 +152,63 @@ pub fn changed(t: Task, b: u8, change: Change) -> Task
 
 // ---- deeds
 
-// The session after a change of the front task.
-pub fn change_front(s: Session, b: u8, change: Change) -> Session
-    requires { ⌜ (storageBlank s ≡ true) × ((1 ≤ s .n) × HasRoom change (front (view s))) ⌝ }
-    ensures { λ r. ⌜ r ≡ hold (changeFront (changedScreens (eqb b) b change) (view s)) ⌝ }
+// How many tasks a deed sends one place back; it changes the task behind them. The place is that of the task found.
+pub fn shift_of(deed: Deed, place: u8, n: u8) -> u8
+    requires { ⌜ Placed deed place ⌝ }
+    ensures { λ r. ⌜ r ≡ shiftOf deed place n ⌝ }
 {
-    let t = s.tasks[0];
-    let mut out = s;
-    out.tasks[0] = changed(t, b, change);
-    out
+    match deed {
+        Deed::New => n,
+        Deed::InFront(_) => 0,
+        Deed::MoveAnd(_) => place - 1,
+    }
 }
 
-// The session after a deed; the place is that of the task found.
+// The task in front after a deed; t is the one that it changes.
+pub fn front_after(t: Task, b: u8, deed: Deed) -> Task
+    requires { ⌜ Changeable deed t ⌝ }
+    ensures { λ r. ⌜ r ≡ frontAfter b deed t ⌝ }
+{
+    match deed {
+        Deed::New => renewed(b, b),
+        Deed::InFront(change) => changed(t, b, change),
+        Deed::MoveAnd(change) => changed(t, b, change),
+    }
+}
+
+// The number of tasks after a deed.
+pub fn count_after(deed: Deed, n: u8) -> u8
+    requires { ⌜ n ≤ 16 ⌝ }
+    ensures { λ r. ⌜ r ≡ countAfter deed n ⌝ }
+{
+    match deed {
+        Deed::New => n + 1,
+        Deed::InFront(_) => n,
+        Deed::MoveAnd(_) => n,
+    }
+}
+
+// The main place after a deed.
+pub fn main_after(deed: Deed, place: u8, main: u8) -> u8
+    requires { ⌜ (deed ≡ Deed.New → main ≤ 16) ⌝ }
+    ensures { λ r. ⌜ r ≡ mainAfter deed place main ⌝ }
+{
+    match deed {
+        Deed::New => main_further(main),
+        Deed::InFront(_) => main,
+        Deed::MoveAnd(_) => main_moved(place, main),
+    }
+}
+
+// The session after a deed.
 pub fn carry_out(s: Session, b: u8, deed: Deed, place: u8) -> Session
     requires { ⌜ Carriable s deed place ⌝ }
     ensures { λ r. ⌜ r ≡ hold (carryOut (eqb b) b b deed place (view s)) ⌝ }
 {
-    match deed {
-        Deed::New => put_new(s, b),
-        Deed::InFront(change) => change_front(s, b, change),
-        Deed::MoveAnd(change) => change_front(to_front(s, place), b, change),
-    }
+    let k = shift_of(deed, place, s.n) as usize;
+    let t = s.tasks[k];
+    let mut out = put_front(s, front_after(t, b, deed), k);
+    out.n = count_after(deed, out.n);
+    out.main = main_after(deed, place, out.main);
+    out
 }

@@ -7,9 +7,7 @@ use lib.Dec.{ltb}
 use lib.ListN.{length, length-append}
 use lib.Seq.{append-snoc}
 use borrow.Author.Tests.{lt-ltb, le-ltb}
-use Rattle.model.specs.declared.Answer.{Answer}
-use Rattle.model.specs.Answers.{numbersOf}
-use Rattle.model.specs.Player.{digit, space, newline, decimal, lineText, lineOf}
+use Rattle.model.specs.Player.{digit, space, newline, decimal, lineText}
 use Rattle.model.proofs.Logic.{if-elim}
 use Rattle.model.proofs.WrittenLaws.{Wrote, wrote-append}
 
@@ -47,10 +45,6 @@ text-length n (k ∷ ns) =
     let l = decimal-length n in
     let ih = text-length k ns in
     omega (arith, length-append (decimal n) (space ∷ lineText (k ∷ ns)))
-
-pub line-length : (kind : ℕ) (a : Answer) → length (lineOf kind a) ≤ 28
-unfolding lineOf
-line-length kind a = text-length kind (numbersOf a)
 
 -- its first number and the space, then the rest of the line
 pub line-cons : (n k : ℕ) (ns : List ℕ) {d d′ d″ : List ℕ} {at m r : ℕ}

@@ -9,7 +9,7 @@ ghost use Rattle.model.specs.Written.{written};
 use model::Answer;
 
 // Writes a number in base ten, and then the byte `end`. Yields the place after it. Most numbers have one digit.
-fn put(out: &mut [u8], at: usize, x: u8, end: u8) -> usize
+pub fn put(out: &mut [u8], at: usize, x: u8, end: u8) -> usize
     requires { ⌜ at + 4 ≤ length (now out) ⌝ }
     ensures place { λ r. ⌜ r ≡ at + length (decimal x ++ end ∷ []) ⌝ }
     ensures text { λ r. ⌜ now (out .exit) ≡ written (now (out .entry)) at (decimal x ++ end ∷ []) ⌝ }

@@ -1,6 +1,6 @@
 -- Document 01, "Stacks to prove", in one table with one theorem; and the player's example, byte for byte.
 -- Both are proved by computing: every definition is unfolded.
-use Prim.Native.Nat.{ℕ, zero, suc, _+_}
+use Prim.Native.Nat.{ℕ, _+_}
 use Prim.Native.Char.{code}
 use Prim.Native.String.{String, [] as noText, _∷_ as moreText}
 use mathlib.Core.Path.{_≡_, refl}

@@ -60,7 +60,7 @@ module _ (s : State ℕ) where
   abbrev end : List ℕ
   end = trailer (length (bodyOf (s .tasks))) (count s) (s .main)
 
-  image-length : length (image s) ≡ length body + 6
+  pub image-length : length (image s) ≡ length body + 6
   unfolding image
   image-length = length-append body end
 

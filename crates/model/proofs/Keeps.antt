@@ -1,5 +1,5 @@
 -- Every call keeps a session sound, and so does every list of calls.
-use Prim.Native.Nat.{ℕ, zero, suc, _≤_, _<_, zero-le}
+use Prim.Native.Nat.{ℕ, zero, suc, _<_, zero-le}
 use mathlib.Core.Path.{_≡_, refl, ap}
 use mathlib.Core.Bool.{true, not}
 use mathlib.Core.List.{List, [], _∷_}
@@ -7,7 +7,7 @@ use native.Mathlib.Omega.{arith}
 use borrow.Author.Tests.{ltb-true, not-false}
 use Rattle.model.specs.Refusals.{refusal}
 use Rattle.model.specs.Table.{sizeOf, mainScreen, tableShaped, tableFilled, tableRefusal}
-use Rattle.model.specs.Session.{State, count, fresh, sound}
+use Rattle.model.specs.Session.{State, fresh, sound}
 use Rattle.model.specs.Answers.{settle}
 use Rattle.model.specs.Image.{imageShaped, imageReadable, imageChecks, sessionIn}
 use Rattle.model.specs.Calls.{Call, launch, start, finishingStart, back, look, restore, launched, ownChecks, done, refusalOf, call}

@@ -1,22 +1,22 @@
 -- The mark of a finishing start, followed as a position. `finished` runs the start on screens that carry a mark and
 -- closes the marked one; here that is shown to be the plain start, and then closing the screen at a position that is
 -- read off the deed: `finished-carry`. Code follows the position.
-use Prim.Native.Nat.{ℕ, zero, suc, _≤_, _<_, pred}
-use mathlib.Core.Path.{_≡_, refl, sym, _∙_, ap, ap₂}
+use Prim.Native.Nat.{ℕ, zero, suc, _≤_, pred}
+use mathlib.Core.Path.{_≡_, refl, _∙_, ap, ap₂}
 use mathlib.Core.Bool.{Bool, true, false, false≢true}
 use mathlib.Core.List.{List, [], _∷_, map}
-use native.Mathlib.Nat.{not-suc-le-zero, le-of-suc-le-suc}
+use native.Mathlib.Nat.{not-suc-le-zero}
 use native.Mathlib.Omega.{arith}
-use lib.Dec.{eqb, leb}
+use lib.Dec.{eqb}
 use lib.ListN.{length, getD, drop, length-map, List·getD-map}
 use borrow.Author.Tests.{lt-leb}
 use Rattle.model.specs.declared.Change.{Change}
 use Rattle.model.specs.declared.Deed.{Deed}
-use Rattle.model.specs.Lists.{if_then_else_, isEmpty, isPlace, further, find, omit, putSecond, toFront, onFirst, All}
+use Rattle.model.specs.Lists.{if_then_else_, isEmpty, isPlace, further, find, omit, putSecond, toFront, All}
 use Rattle.model.specs.Session.{Stack, State, stack, state, noStack, front, count}
 use Rattle.model.specs.Search.{holds}
-use Rattle.model.specs.Deeds.{move, changed, changeFront, putNew, carryOut, closeIn, close, mainWithout}
-use Rattle.model.specs.Calls.{Marked, unmarked, markTop, mapScreens, mapState, markFront, holdsMark, closeMarkAt, closeMarked}
+use Rattle.model.specs.Deeds.{move, changed, changeFront, putNew, carryOut, closeIn, close}
+use Rattle.model.specs.Calls.{Marked, unmarked, mapScreens, mapState, markFront, holdsMark, closeMarked}
 use Rattle.model.specs.Marks.{Mark, gone, stands, markIn, markAfter, closeAt}
 use Rattle.model.proofs.Logic.{All-of}
 use Rattle.model.proofs.ListLaws.{toFront-length, All-drop, All-toFront, All-to-map, map-omit, map-toFront, map-drop, map-onFirst, find-map, isEmpty-map}

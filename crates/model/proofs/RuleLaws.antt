@@ -7,11 +7,12 @@ use mathlib.Core.Bool.{Bool, true, false, not, true≢false}
 use mathlib.Core.List.{List, [], _∷_, _++_, map}
 use lib.Dec.{eqb}
 use Rattle.model.specs.declared.Flags.{Flags}
+use Rattle.model.specs.declared.Group.{Group}
 use Rattle.model.specs.declared.Rule.{Rule}
 use Rattle.model.specs.Lists.{if_then_else_, first, pairwise, All, Pairwise}
 use Rattle.model.specs.Refusals.{Check, accepted, refusal}
 use Rattle.model.specs.Session.{State, sound}
-use Rattle.model.specs.Rules.{Group, instanceGroup, taskGroup, nearGroup, apartGroup, rulesOf, groupOf, soughtBy, fits, chooseIn, choose}
+use Rattle.model.specs.Rules.{rulesOf, groupOf, soughtBy, fits, chooseIn, choose}
 use Rattle.model.specs.Calls.{Call, launch, start, finishingStart, back, look, restore, ownChecks, checksIn, saveChecks, refusalOf}
 use Rattle.model.proofs.Logic.{not-decides, eqb-decides, pairwise-decides}
 
@@ -79,10 +80,10 @@ module _ (tb : List ℕ) (s : State ℕ) (b : ℕ) (f : Flags) where
   -- the last rule of each group fits always
   group-fits : (g : Group) → All (λ r. fits tb s b f (soughtBy tb s b f g) r ≡ false) (rulesOf g) → ⊥
   unfolding rulesOf fits
-  group-fits instanceGroup h = true≢false (h .1 .0)
-  group-fits taskGroup h = true≢false (h .1 .1 .1 .0)
-  group-fits nearGroup h = true≢false (h .1 .1 .1 .0)
-  group-fits apartGroup h = true≢false (h .1 .1 .1 .1 .1 .1 .1 .0)
+  group-fits Group.Instance h = true≢false (h .1 .0)
+  group-fits Group.Task h = true≢false (h .1 .1 .1 .0)
+  group-fits Group.Near h = true≢false (h .1 .1 .1 .0)
+  group-fits Group.Apart h = true≢false (h .1 .1 .1 .1 .1 .1 .1 .0)
 
   -- "The first rule that fits is used": the rule chosen stands in its group and fits, and no earlier one of the group does
   pub choose-first : FirstFit (fits tb s b f (choose tb s b f .found)) (rulesOf (groupOf tb s b f)) (choose tb s b f .rule)

@@ -1,13 +1,13 @@
 -- Soundness as a record of statements, and that 01's test decides it.
-use Prim.Native.Nat.{ℕ, zero, suc, _≤_, _<_, zero-le, suc-le-suc, pred}
-use mathlib.Core.Path.{_≡_, refl, sym, _∙_, ap}
+use Prim.Native.Nat.{ℕ, zero, suc, _≤_, _<_, zero-le, suc-le-suc}
+use mathlib.Core.Path.{_≡_, refl, ap}
 use mathlib.Core.Bool.{Bool, true, false, not, _&&_, _||_, true≢false, false≢true}
 use mathlib.Core.List.{List, [], _∷_, nil≢cons, cons≢nil, head-eq-of-cons-eq, tail-eq-of-cons-eq}
 use native.Mathlib.Nat.{not-suc-le-zero}
 use native.Mathlib.Omega.{arith}
 use lib.ListN.{length}
 use lib.Dec.{leb, ltb, eqb}
-use borrow.Author.Tests.{eqb-true, eqb-false, eq-eqb, ne-eqb}
+use borrow.Author.Tests.{ne-eqb}
 use Rattle.model.specs.Lists.{if_then_else_, all, pairwise, All, Pairwise}
 use Rattle.model.specs.Table.{sizeOf, mainScreen, isSingleInstance, rootsOnce}
 use Rattle.model.specs.Session.{Stack, State, taskAt, height, count, isAlone, heightFits, screensKnown, instanceAlone, taskSound, rootsDiffer, mainSound, sound, mostTasks, mostHeight}

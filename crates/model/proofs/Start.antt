@@ -8,6 +8,7 @@ use lib.ListN.{getD}
 use borrow.Author.Tests.{eqb-true, eqb-false, not-true, not-false, ltb-true}
 use Rattle.model.specs.declared.Flags.{Flags}
 use Rattle.model.specs.declared.Found.{Found}
+use Rattle.model.specs.declared.Group.{Group}
 use Rattle.model.specs.declared.Rule.{Rule}
 use Rattle.model.specs.declared.Choice.{Choice}
 use Rattle.model.specs.Lists.{isEmpty, isPlace, find, first}
@@ -16,7 +17,7 @@ use Rattle.model.specs.Table.{sizeOf, isSingleTask, isSingleInstance, ro
 use Rattle.model.specs.Session.{Stack, State, noStack, taskAt, front, frontScreen, count, mostTasks}
 use Rattle.model.specs.Flags.{flagsOf, hasOtherBit}
 use Rattle.model.specs.Search.{placeOf, isFound, isFoundByRoot, hasRoot, hasAffinity, seekRoot, seekAffinity, seek, holds}
-use Rattle.model.specs.Rules.{Group, instanceGroup, taskGroup, nearGroup, apartGroup, rulesOf, isApart, groupOf, soughtBy, taskFound, fits, chooseIn, choose}
+use Rattle.model.specs.Rules.{rulesOf, isApart, groupOf, soughtBy, taskFound, fits, chooseIn, choose}
 use Rattle.model.specs.Deeds.{deedOf}
 use Rattle.model.specs.Calls.{chosen, started, startChecks, makesTask, overfills}
 use Rattle.model.proofs.Logic.{All-map, All-of, All-at, if-elim, first-elim, never, contradiction, and-left, and-right, or-false-right}
@@ -90,10 +91,10 @@ module _ (tb : List ℕ) (s : State ℕ) (b : ℕ) (f : Flags) where
   abbrev FirstReady : Group → Found → Type 0
   FirstReady g t = RuleReady tb s b t (first Rule.R18 (fits tb s b f t) (rulesOf g))
 
-  instance-ready : (t : Found) → Sought tb s b t → FirstReady instanceGroup t
+  instance-ready : (t : Found) → Sought tb s b t → FirstReady Group.Instance t
   unfolding fits rulesOf deedOf
   instance-ready t h =
-      first-elim (RuleReady tb s b t) Rule.R18 (fits tb s b f t) (rulesOf instanceGroup)
+      first-elim (RuleReady tb s b t) Rule.R18 (fits tb s b f t) (rulesOf Group.Instance)
       (λ x. (found-inside tb s b t x h, tt), λ x. (λ _. nowhere-free tb s b t x h, never))
 
   module _ (plain : Plain tb b) where
@@ -111,18 +112,18 @@ module _ (tb : List ℕ) (s : State ℕ) (b : ℕ) (f : Flags) where
           → IsPlaceIn s (placeOf t) × (Takes tb b (taskFound tb s b f t) × (holds b (taskFound tb s b f t .screens) ≡ true))
       takes-held e k = (found-inside tb s b t e h, (found-takes t e h, k))
 
-      task-ready : FirstReady taskGroup t
+      task-ready : FirstReady Group.Task t
       unfolding fits rulesOf deedOf
       task-ready =
-          first-elim (RuleReady tb s b t) Rule.R18 (fits tb s b f t) (rulesOf taskGroup) (
+          first-elim (RuleReady tb s b t) Rule.R18 (fits tb s b f t) (rulesOf Group.Task) (
             λ x. takes (and-left _ _ x),
             λ _. (λ x. takes-held (and-left _ _ x) (and-right (isFound t) _ x), λ _. (takes, λ x. (λ _. nowhere-free tb s b t x h, never))),
           )
 
-      apart-ready : RootFree tb b (s .tasks) → FirstReady apartGroup t
+      apart-ready : RootFree tb b (s .tasks) → FirstReady Group.Apart t
       unfolding fits rulesOf deedOf
       apart-ready free =
-          first-elim (RuleReady tb s b t) Rule.R18 (fits tb s b f t) (rulesOf apartGroup) (
+          first-elim (RuleReady tb s b t) Rule.R18 (fits tb s b f t) (rulesOf Group.Apart) (
             λ _. free,
             λ _. (
               λ x. takes (and-left _ _ x),
@@ -155,11 +156,11 @@ module _ (tb : List ℕ) (s : State ℕ) (b : ℕ) (f : Flags) where
               sym q ∙ ap (isSingleInstance tb) (sym (ap (λ (l : List ℕ). getD l 0 0) (k .lone q))) ∙ e
           go false q = refl
 
-      near-ready : Plain tb (frontScreen s) → FirstReady nearGroup Found.Nowhere
+      near-ready : Plain tb (frontScreen s) → FirstReady Group.Near Found.Nowhere
       unfolding fits rulesOf deedOf
       near-ready e =
           let k : Takes tb b (front s) = record { plainRoot = front-root e; plainScreen = plain } in
-          first-elim (RuleReady tb s b Found.Nowhere) Rule.R18 (fits tb s b f Found.Nowhere) (rulesOf nearGroup) (
+          first-elim (RuleReady tb s b Found.Nowhere) Rule.R18 (fits tb s b f Found.Nowhere) (rulesOf Group.Near) (
             λ _. (some, tt),
             λ _. (λ x. (some, (k, and-right (f .ctp) _ x)), λ _. (λ x. (some, (k, and-right (f .rtf) _ x)), λ _. (λ _. (some, k), never))),
           )
@@ -173,7 +174,7 @@ module _ (tb : List ℕ) (s : State ℕ) (b : ℕ) (f : Flags) where
       (λ k. if-elim (λ g. ChoiceReady tb s b (chooseIn tb s b f g)) (isApart tb s b f) _ _ (λ _. apart e (standard-free tb s b (rw k e)))
       (λ a. near-ready e h some (or-false-right (f .ntk) _ a))))
     where
-      apart : Plain tb b → RootFree tb b (s .tasks) → ChoiceReady tb s b (chooseIn tb s b f apartGroup)
+      apart : Plain tb b → RootFree tb b (s .tasks) → ChoiceReady tb s b (chooseIn tb s b f Group.Apart)
       apart e free = apart-ready e _ (if-elim (Sought tb s b) (f .mtk) Found.Nowhere _ (λ _. free) (λ _. seek-sought tb s b)) free
 
 -- ---- start and finishing start

@@ -69,10 +69,3 @@ module _ (tb : List ℕ) where
       go : (b : Bool) → tableShaped tb ≡ b → Shaped
       go true p = shaped-decides .holds p
       go false p = let f = refusal-1 (λ s. contradiction (shaped-decides .shows s) p) in absurd (omega arith)
-
-  pub good-filled : tableRefusal tb ≡ 0 → Filled
-  good-filled e = go (tableFilled tb) refl
-    where
-      go : (b : Bool) → tableFilled tb ≡ b → Filled
-      go true p = filled-decides .holds p
-      go false p = let f = refusal-2 (good-shaped e) (λ s. contradiction (filled-decides .shows s) p) in absurd (omega arith)

@@ -1,14 +1,19 @@
--- Bytes written one after the other: a byte and then the rest, some bytes and then the rest; what stands before them and
--- behind them. The place behind the bytes is any number with the equation that it is.
+-- Bytes written one after the other: a byte and then the rest, some bytes and then the rest; what stands behind them. The
+-- place behind the bytes is any number with the equation that it is.
 use Prim.Native.Nat.{ℕ, suc, _+_, _≤_}
-use mathlib.Core.Path.{_≡_, sym, _∙_, ap}
+use mathlib.Core.Path.{_≡_, refl, sym, _∙_, ap}
 use mathlib.Core.List.{List, [], _∷_, _++_, append-nil, append-assoc}
-use native.Mathlib.Nat.{add-zero}
+use native.Mathlib.Nat.{zero-add, add-zero}
 use native.Mathlib.Numerals.{add-one}
 use native.Mathlib.Omega.{arith}
 use lib.ListN.{length, take, drop, set, length-append, length-drop, take-append-drop}
 use lib.Seq.{length-take-le, take-at, drop-at, drop-drop, take-suc-set, drop-set-lt, append-snoc, sets, sets-eq}
 use Rattle.model.specs.Written.{written}
+
+-- at the start of the buffer
+pub written-start : (d bytes : List ℕ) → written d 0 bytes ≡ bytes ++ drop (length bytes) d
+unfolding written
+written-start d bytes = ap (λ (k : ℕ). bytes ++ drop k d) (zero-add (length bytes))
 
 module _ (d : List ℕ) (at : ℕ) where
   pub written-nil : written d at [] ≡ d
@@ -34,13 +39,7 @@ module _ (d : List ℕ) (at : ℕ) where
     head : length (take at d ++ a) ≡ next
     head = length-append (take at d) a ∙ rw (length-take-le at d (omega arith)) (sym behind)
 
-    -- before the bytes; with them; and behind them
-    pub written-before : take at (written d at a) ≡ take at d
-    unfolding written
-    written-before =
-        rw (append-assoc (take at d) a (drop (at + length a) d))
-        (take-at (take at d) (a ++ drop (at + length a) d) at (length-take-le at d (omega arith)))
-
+    -- with the bytes, and behind them
     pub written-take : take next (written d at a) ≡ take at d ++ a
     unfolding written
     written-take = rw (← behind) (take-at (take at d ++ a) (drop next d) next head)
@@ -76,6 +75,20 @@ wrote room e = record { place = e .0; text = e .1 .0 }
 -- nothing written yet
 pub wrote-nil : (d : List ℕ) (at : ℕ) → Wrote d at [] d at
 wrote-nil d at = record { place = sym (add-zero at); text = sym (written-nil d at) }
+
+-- one byte stored
+pub wrote-one : (d : List ℕ) (at x : ℕ) → at + 1 ≤ length d → Wrote d at (x ∷ []) (set d at x) (at + 1)
+wrote-one d at x fits = record { place = refl; text = written-sets d at (x ∷ []) fits }
+
+-- the buffer keeps its length
+pub wrote-length : {d d′ bytes : List ℕ} {at next : ℕ} → Wrote d at bytes d′ next → next ≤ length d → length d′ ≡ length d
+wrote-length {d} {bytes} {at} w fits = ap length (w .text) ∙ written-length d at bytes (w .place) fits
+
+-- a writer behind one byte
+pub wrote-cons : {d d′ bytes : List ℕ} {at next n x : ℕ}
+    → next ≡ at + 1 → next ≤ length d → Wrote (set d at x) next bytes d′ n → Wrote d at (x ∷ bytes) d′ n
+wrote-cons {d} {d′} {bytes} {at} {next} {n} {x} behind fits w =
+    record { place = let p = w .place in omega arith; text = w .text ∙ written-cons d at x bytes behind fits }
 
 -- one writer behind another
 pub wrote-append : {d d′ d″ : List ℕ} {at m n : ℕ} {a b : List ℕ}

@@ -1,10 +1,10 @@
 -- Document 01, "Calls": move, clear to B, lift, new, empty, push; what each rule does; and closing a screen.
 -- Screens may be of any kind: `isB` tells which of them are B, and `newB` is the B that is pushed.
 use Prim.Native.Nat.{ℕ, zero, suc, pred}
-use mathlib.Core.Bool.{Bool, true, false}
+use mathlib.Core.Bool.{Bool}
 use mathlib.Core.List.{List, [], _∷_}
 use lib.Dec.{eqb, ltb}
-use lib.ListN.{length, getD, drop}
+use lib.ListN.{getD, drop}
 use Rattle.model.specs.declared.Rule.{Rule}
 use Rattle.model.specs.declared.Change.{Change}
 use Rattle.model.specs.declared.Deed.{Deed}

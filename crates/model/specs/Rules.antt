@@ -1,11 +1,12 @@
 -- Document 01, "Calls": which of the rules R1 to R18 a start uses.
 use Prim.Native.Nat.{ℕ}
-use mathlib.Core.Bool.{Bool, true, false, not, _&&_, _||_}
+use mathlib.Core.Bool.{Bool, true, not, _&&_, _||_}
 use mathlib.Core.List.{List, [], _∷_}
 use lib.Dec.{eqb}
 use Rattle.model.specs.declared.Choice.{Choice}
 use Rattle.model.specs.declared.Flags.{Flags}
 use Rattle.model.specs.declared.Found.{Found}
+use Rattle.model.specs.declared.Group.{Group}
 use Rattle.model.specs.declared.Rule.{Rule}
 use Rattle.model.specs.Lists.{if_then_else_, first}
 use Rattle.model.specs.Table.{isSingleTop, isSingleTask, isSingleInstance}
@@ -13,14 +14,11 @@ use Rattle.model.specs.Session.{State, Stack, taskAt, front, frontScreen
 use Rattle.model.specs.Search.{placeOf, isFound, isFoundByRoot, seekRoot, seek, holds}
 
 -- "B single-instance: ..", "B single-task, ..", "Otherwise, not apart: ..", "Otherwise, apart: .."
-pub data Group : Type 0 where
-  instanceGroup taskGroup nearGroup apartGroup : Group
-
 unfoldable pub rulesOf : Group → List Rule
-rulesOf instanceGroup = Rule.R1 ∷ Rule.R2 ∷ []
-rulesOf taskGroup = Rule.R3 ∷ Rule.R4 ∷ Rule.R5 ∷ Rule.R6 ∷ []
-rulesOf nearGroup = Rule.R7 ∷ Rule.R8 ∷ Rule.R9 ∷ Rule.R10 ∷ []
-rulesOf apartGroup = Rule.R11 ∷ Rule.R12 ∷ Rule.R13 ∷ Rule.R14 ∷ Rule.R15 ∷ Rule.R16 ∷ Rule.R17 ∷ Rule.R18 ∷ []
+rulesOf Group.Instance = Rule.R1 ∷ Rule.R2 ∷ []
+rulesOf Group.Task = Rule.R3 ∷ Rule.R4 ∷ Rule.R5 ∷ Rule.R6 ∷ []
+rulesOf Group.Near = Rule.R7 ∷ Rule.R8 ∷ Rule.R9 ∷ Rule.R10 ∷ []
+rulesOf Group.Apart = Rule.R11 ∷ Rule.R12 ∷ Rule.R13 ∷ Rule.R14 ∷ Rule.R15 ∷ Rule.R16 ∷ Rule.R17 ∷ Rule.R18 ∷ []
 
 -- a start of the screen b, with the flags f, in the session s, whose front screen is A
 module _ (tb : List ℕ) (s : State ℕ) (b : ℕ) (f : Flags) where
@@ -34,17 +32,17 @@ module _ (tb : List ℕ) (s : State ℕ) (b : ℕ) (f : Flags) where
 
   unfoldable pub groupOf : Group
   groupOf =
-      if isSingleInstance tb b then instanceGroup else
-      if isSingleTask tb b then taskGroup else
-      if isApart then apartGroup else nearGroup
+      if isSingleInstance tb b then Group.Instance else
+      if isSingleTask tb b then Group.Task else
+      if isApart then Group.Apart else Group.Near
 
   -- how each group seeks a task: "found by root"; "sought by root, then by affinity"; not at all; "R11 MTK: new. Then
   -- sought by root, then by affinity."
   unfoldable pub soughtBy : Group → Found
-  soughtBy instanceGroup = seekRoot b (s .tasks)
-  soughtBy taskGroup = seek tb b (s .tasks)
-  soughtBy nearGroup = Found.Nowhere
-  soughtBy apartGroup = if f .mtk then Found.Nowhere else seek tb b (s .tasks)
+  soughtBy Group.Instance = seekRoot b (s .tasks)
+  soughtBy Group.Task = seek tb b (s .tasks)
+  soughtBy Group.Near = Found.Nowhere
+  soughtBy Group.Apart = if f .mtk then Found.Nowhere else seek tb b (s .tasks)
 
   -- the task found
   abbrev pub taskFound : Found → Stack ℕ

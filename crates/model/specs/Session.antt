@@ -2,7 +2,7 @@
 -- A task is here a `Stack` and a session a `State`; `Task` and `Session` are the structs that store them.
 -- What stands in a task may be of any kind A: screens are numbers, and a finishing start puts marked ones there.
 use Prim.Native.Nat.{ℕ, pred}
-use mathlib.Core.Bool.{Bool, true, false, not, _&&_, _||_}
+use mathlib.Core.Bool.{Bool, false, not, _&&_, _||_}
 use mathlib.Core.List.{List, [], _∷_}
 use lib.Dec.{leb, ltb, eqb}
 use lib.ListN.{length, getD}

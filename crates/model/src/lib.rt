@@ -1,5 +1,5 @@
-// Document 01 as definitions (specs/) and the theorems about them (proofs/). There is no function here: only the two
-// plain structs that definitions and code share.
+// Document 01 as definitions (specs/) and the theorems about them (proofs/). There is no function here: only the
+// plain structs and enums that definitions and code share.
 
 // An answer is six numbers: the refusal (0 if none), and, after the call, the front screen, the front root, the front
 // height, the number of tasks and the main place.
@@ -43,6 +43,14 @@ pub enum Rule {
     R16,
     R17,
     R18,
+}
+
+// The groups of rules: b is single-instance; b is single-task; otherwise not apart; otherwise apart.
+pub enum Group {
+    Instance,
+    Task,
+    Near,
+    Apart,
 }
 
 // A task that was sought: none, or its place and how it was found.

@@ -1,10 +1,14 @@
-// The calls of document 01, by value, for any caller. Any table bytes, any session bytes: each call ends, and its contract
+// The calls of document 01, by value, for any caller. Any table, session and image bytes: each call ends, and its contract
 // says what it gives. The checks that all calls share are made here; below them nothing is checked again.
 
 ghost use mathlib.Core.Path.{_≡_};
+ghost use lib.ListN.{take};
 ghost use Rattle.model.specs.Calls.{Call};
 ghost use Rattle.calls.specs.StoredCalls.{sharedRefusal, callStored, KeepsSound};
+ghost use Rattle.calls.specs.Restores.{AcceptsImages, BringsBack, SavesAgain};
+ghost use Rattle.calls.specs.StoredSaves.{saved, saveStored, BroughtBack, NoOtherHas};
 use calls::Reply;
+use calls::SaveReply;
 use session::Session;
 
 // The checks that every call begins with: 1, 2, 20, or 0 where none applies.
@@ -79,4 +83,32 @@ pub fn back(table: &[u8], s: Session) -> Reply
         return calls::refuse(s, number);
     }
     calls::back(table, s)
+}
+
+// Restore: the session read from a whole image.
+pub fn restore(table: &[u8], s: Session, image: &[u8]) -> Reply
+    ensures gives { λ r. ⌜ r ≡ callStored (now (table .entry)) s (Call.restore (now (image .entry))) ⌝ }
+    ensures keeps { λ r. ⌜ KeepsSound (now (table .entry)) s (r .session) ⌝ }
+    ensures accepts { λ r. ⌜ AcceptsImages (now (table .entry)) s (now (image .entry)) r ⌝ }
+    ensures brings { λ r. ⌜ BringsBack (now (table .entry)) s (now (image .entry)) r ⌝ }
+    ensures saves { λ r. ⌜ SavesAgain (now (image .entry)) r ⌝ }
+{
+    let number = shared_refusal(table, s);
+    if number != 0 {
+        return calls::refuse(s, number);
+    }
+    calls::restore(table, s, image)
+}
+
+// Save writes the session's image at the start of the buffer and leaves the rest; a refused one writes nothing.
+pub fn save(table: &[u8], s: Session, out: &mut [u8]) -> SaveReply
+    ensures gives { λ r. ⌜ saved r (now (out .exit)) ≡ saveStored (now (table .entry)) s (now (out .entry)) ⌝ }
+    ensures restores { λ r. ⌜ (r .refusal ≡ 0 → BroughtBack (now (table .entry)) s (take (r .length) (now (out .exit)))) ⌝ }
+    ensures only { λ r. ⌜ (r .refusal ≡ 0 → NoOtherHas (now (table .entry)) s (take (r .length) (now (out .exit)))) ⌝ }
+{
+    let number = shared_refusal(table, s);
+    if number != 0 {
+        return calls::refuse_save(number);
+    }
+    calls::save(table, s, out)
 }

@@ -5,8 +5,8 @@ use mathlib.Core.Bool.{Bool, true, false, not}
 use mathlib.Core.List.{List, [], _∷_}
 use native.Mathlib.Omega.{arith}
 use lib.Dec.{ltb, eqb}
-use borrow.Author.Tests.{ltb-true, eqb-false, lt-ltb, le-ltb, eq-eqb, ne-eqb, not-false}
-use Rattle.model.specs.Lists.{if_then_else_, All}
+use borrow.Author.Tests.{ltb-true, eqb-true, eqb-false, lt-ltb, le-ltb, eq-eqb, ne-eqb, not-false}
+use Rattle.model.specs.Lists.{All}
 use Rattle.model.specs.Refusals.{check, refusal}
 use Rattle.model.specs.Table.{sizeOf, tableRefusal}
 use Rattle.model.specs.Flags.{hasOtherBit}
@@ -42,22 +42,31 @@ module _ (kind b w : ℕ) where
   unfolding requestOf
   request-5 e = rw e
 
-  module _ (n₁ : kind ≡ 1 → ⊥) (n₂ : kind ≡ 2 → ⊥) (n₃ : kind ≡ 3 → ⊥) (n₄ : kind ≡ 4 → ⊥) where
-    request-late : requestOf kind b w ≡ (if eqb kind 5 then asks look else unplayable)
-    unfolding requestOf
-    request-late = rw (ne-eqb kind 1 n₁, ne-eqb kind 2 n₂, ne-eqb kind 3 n₃, ne-eqb kind 4 n₄)
+  pub request-none : (kind ≡ 1 → ⊥) → (kind ≡ 2 → ⊥) → (kind ≡ 3 → ⊥) → (kind ≡ 4 → ⊥) → (kind ≡ 5 → ⊥) → requestOf kind b w ≡ unplayable
+  unfolding requestOf
+  request-none n₁ n₂ n₃ n₄ n₅ = rw (ne-eqb kind 1 n₁, ne-eqb kind 2 n₂, ne-eqb kind 3 n₃, ne-eqb kind 4 n₄, ne-eqb kind 5 n₅)
 
-    pub request-none : (kind ≡ 5 → ⊥) → requestOf kind b w ≡ unplayable
-    request-none n₅ = request-late ∙ rw (ne-eqb kind 5 n₅)
+-- one of the five kinds
+pub data Kind (k : ℕ) : Type 0 where
+  launches : k ≡ 1 → Kind k
+  starts : k ≡ 2 → Kind k
+  finishes : k ≡ 3 → Kind k
+  backs : k ≡ 4 → Kind k
+  looks : k ≡ 5 → Kind k
 
-    -- of the kinds above 4 only 5 is not refused at its entry
-    pub request-look : (tb : List ℕ) (n : ℕ) → entryRefusal tb n (requestOf kind b w) ≡ 0 → requestOf kind b w ≡ asks look
-    unfolding entryRefusal
-    request-look tb n e = request-late ∙ go (eqb kind 5) (rw request-late at e)
-      where
-        go : (t : Bool) → entryRefusal tb n (if t then asks look else unplayable) ≡ 0 → (if t then asks look else unplayable) ≡ asks look
-        go true e = refl
-        go false e = absurd (omega arith)
+same-or-not : {A : Type 0} (j k : ℕ) → (j ≡ k → A) → ((j ≡ k → ⊥) → A) → A
+same-or-not {A} j k f g = go (eqb j k) refl
+  where
+    go : (t : Bool) → eqb j k ≡ t → A
+    go true e = f (eqb-true j k e)
+    go false e = g (eqb-false j k e)
+
+-- a record of another kind is refused at its entry
+pub kind-of : (tb : List ℕ) (n kind b w : ℕ) → entryRefusal tb n (requestOf kind b w) ≡ 0 → Kind kind
+unfolding entryRefusal
+kind-of tb n kind b w e =
+    same-or-not kind 1 launches (λ n₁. same-or-not kind 2 starts (λ n₂. same-or-not kind 3 finishes (λ n₃. same-or-not kind 4 backs
+    (λ n₄. same-or-not kind 5 looks (λ n₅. let f : 9 ≡ 0 = rw (request-none kind b w n₁ n₂ n₃ n₄ n₅) at e in absurd (omega arith))))))
 
 -- ---- the first of two
 

@@ -19,10 +19,10 @@ use Rattle.answer.specs.Seen.{Seen}
 use Rattle.answer.proofs.LookLaws.{sound-seen}
 use Rattle.rules.specs.declared.Started.{Started}
 use Rattle.play.specs.declared.Played.{Played}
-use Rattle.play.specs.Steps.{Playable, entryRefusal, stepOf, answerAfter}
+use Rattle.play.specs.Steps.{Playable, entryRefusal}
 use Rattle.play.specs.Fitting.{longestLine, fitting, bytesOf, Plays}
 use Rattle.play.proofs.Entry.{entry-good}
-use Rattle.play.proofs.Replies.{answer-after, sound-playable, sound-sized, reply-sound, entry-refused}
+use Rattle.play.proofs.Replies.{stepOf, answerAfter, answer-after, sound-playable, sound-sized, reply-sound, entry-refused}
 
 module _ (tb : List ℕ) where
   after-append : (rs qs : List Record) (s : State ℕ) → sessionAfter tb s (rs ++ qs) ≡ sessionAfter tb (sessionAfter tb s rs) qs

@@ -13,7 +13,8 @@ use Rattle.model.specs.Table.{tableRefusal}
 use Rattle.model.specs.Session.{Stack, State, fresh, sound}
 use Rattle.model.specs.Flags.{flagsOf}
 use Rattle.model.specs.Image.{imageChecks}
-use Rattle.model.specs.Answers.{outcome, lookAt, refused, settle}
+use Rattle.model.specs.declared.Answer.{Answer}
+use Rattle.model.specs.Answers.{Outcome, outcome, lookAt, refused, settle}
 use Rattle.model.specs.Calls.{Call, launch, start, finishingStart, back, look, restore, chosen, roomChecks, ownChecks, launched, backed, started, finished, done, refusalOf, call}
 use Rattle.model.specs.Player.{Request, unplayable, asks, reply}
 use Rattle.model.proofs.RefusalLaws.{refusal-append-refused, refusal-append-passed, checks-bad-table}
@@ -24,9 +25,25 @@ use Rattle.session.specs.Stored.{freshSession, view, hold, Ready}
 use Rattle.session.proofs.Known.{Sized}
 use Rattle.session.proofs.StoredLaws.{fresh-held, held, view-hold, view-count, hold-sound, hold-blank, hold-sized, sound-fits, blank-few, sound-view}
 use Rattle.choice.specs.Startable.{Startable}
+use Rattle.rules.specs.declared.Started.{Started}
 use Rattle.rules.specs.Starts.{settleRoom, startStored, finishStored}
-use Rattle.play.specs.Steps.{Playable, firstOf, startEntry, entryChecks, entryRefusal, stored, stepOf, answerAfter}
+use Rattle.play.specs.Steps.{Playable, firstOf, startEntry, entryChecks, entryRefusal}
 use Rattle.play.proofs.Entry.{refusal-none, start-entered, entry-numbers, entry-none, back-entered}
+
+-- ---- the call
+
+-- the refusal (0 if none) and the stored session of what a call gives
+abbrev pub stored : Outcome → Started
+stored o = record { refusal = o .answer .refusal; session = hold (o .session) }
+
+-- what a record leaves of the stored session c
+unfoldable pub stepOf : List ℕ → Session → Request → Started
+stepOf tb c q = stored (reply tb (view c) q)
+
+-- its answer, by that refusal and that session
+abbrev pub answerAfter : ℕ → Session → Answer
+answerAfter zero c = lookAt (view c)
+answerAfter (suc k) c = refused (suc k)
 
 -- ---- the answer
 

@@ -4,10 +4,12 @@ use Prim.Native.Nat.{ℕ, _+_, _*_, _/_, _≤_, min}
 use mathlib.Core.Path.{_≡_}
 use mathlib.Core.List.{List}
 use lib.ListN.{length, getD, take}
+use Rattle.model.specs.Flags.{flagsOf}
 use Rattle.model.specs.Player.{Record, wordOf, recordsIn, textOf, sessionAfter}
 use Rattle.session.specs.declared.Session.{Session}
 use Rattle.session.specs.Stored.{view, hold}
 use Rattle.model.specs.Written.{written as writtenInto}
+use Rattle.play.specs.declared.Fields.{Fields}
 use Rattle.play.specs.declared.Played.{Played}
 use Rattle.play.specs.Steps.{Playable}
 
@@ -26,6 +28,10 @@ bytesOf input rs = min (length input) (6 * length rs)
 -- "flag word high byte first", of the record at a place
 abbrev pub wordAt : List ℕ → ℕ → ℕ
 wordAt l p = wordOf (getD l (p + 2) 0) (getD l (p + 3) 0) (getD l (p + 4) 0) (getD l (p + 5) 0)
+
+-- the fields of that record: "kind .., screen, flag word high byte first"
+abbrev pub fieldsAt : List ℕ → ℕ → Fields
+fieldsAt l p = record { kind = getD l p 0; screen = getD l (p + 1) 0; word = wordAt l p; flags = flagsOf (wordAt l p) }
 
 -- what playing the records rs from the session c gives
 pub record Plays (tb : List ℕ) (c : Session) (rs : List Record) (out out′ : List ℕ) (r : Played) : Type 0 where

@@ -1,19 +1,16 @@
--- One record played on a stored session, in two steps: its checks, which read no more than the number of tasks, and the call.
+-- What can be played on; and the checks of a record, which read no more of the session than the number of tasks.
 use Prim.Native.Nat.{ℕ, zero, suc}
 use mathlib.Core.Path.{_≡_}
 use mathlib.Core.Bool.{true, not}
 use mathlib.Core.List.{List, [], _∷_}
 use lib.Dec.{ltb, eqb}
-use Rattle.model.specs.declared.Answer.{Answer}
 use Rattle.model.specs.Refusals.{Check, check, refusal}
 use Rattle.model.specs.Table.{sizeOf, tableRefusal}
 use Rattle.model.specs.Flags.{hasOtherBit}
-use Rattle.model.specs.Answers.{Outcome, lookAt, refused}
 use Rattle.model.specs.Calls.{Call, launch, start, finishingStart, back, look, restore}
-use Rattle.model.specs.Player.{Request, unplayable, asks, reply}
+use Rattle.model.specs.Player.{Request, unplayable, asks}
 use Rattle.session.specs.declared.Session.{Session}
-use Rattle.session.specs.Stored.{view, hold, storageBlank, soundStored}
-use Rattle.rules.specs.declared.Started.{Started}
+use Rattle.session.specs.Stored.{storageBlank, soundStored}
 
 -- storage beyond what stands in it holds 0; and under a table that is not refused the session is sound
 pub record Playable (tb : List ℕ) (c : Session) : Type 0 where
@@ -44,18 +41,3 @@ firstOf (suc j) k = suc j
 unfoldable pub entryRefusal : List ℕ → ℕ → Request → ℕ
 entryRefusal tb n unplayable = 9
 entryRefusal tb n (asks k) = firstOf (tableRefusal tb) (refusal (entryChecks tb n k))
-
--- ---- the call
-
--- the refusal (0 if none) and the stored session of what a call gives
-abbrev pub stored : Outcome → Started
-stored o = record { refusal = o .answer .refusal; session = hold (o .session) }
-
--- what a record leaves of the stored session c
-unfoldable pub stepOf : List ℕ → Session → Request → Started
-stepOf tb c q = stored (reply tb (view c) q)
-
--- its answer, by that refusal and that session
-abbrev pub answerAfter : ℕ → Session → Answer
-answerAfter zero c = lookAt (view c)
-answerAfter (suc k) c = refused (suc k)

@@ -1,21 +1,26 @@
 // Calls as records of six bytes, played from a session into lines of text.
-// The table is checked once and the session not at all: each record leaves it sound. A refused record copies no session.
+// The table is checked once and the session not at all: each record leaves it sound. It is changed in place by Back where
+// the front task stays, and by a start where at most two tasks move back.
 
 ghost use Prim.Native.Nat.{_+_, _*_, _<_, _≤_};
 ghost use mathlib.Core.Path.{_≡_};
+ghost use mathlib.Core.Bool.{_&&_, _||_};
 ghost use mathlib.Core.List.{[], _∷_};
+ghost use lib.Dec.{ltb, eqb};
 ghost use lib.ListN.{length, take};
+ghost use Rattle.model.specs.Lists.{if_then_else_};
 ghost use Rattle.model.specs.Refusals.{check, refusal};
 ghost use Rattle.model.specs.Table.{tableRefusal};
+ghost use Rattle.model.specs.Calls.{launched, backed};
 ghost use Rattle.model.specs.Player.{requestOf, recordsIn, textOf, sessionAfter};
-ghost use Rattle.session.specs.Stored.{view, hold};
-ghost use Rattle.answer.specs.Seen.{Seen};
-ghost use Rattle.play.specs.Steps.{Playable, firstOf, startEntry, entryRefusal, stepOf, answerAfter};
-ghost use Rattle.play.specs.Fitting.{fitting, bytesOf, wordAt, Plays};
+ghost use Rattle.session.specs.Stored.{view, hold, popped, Ready};
+ghost use Rattle.choice.specs.Shows.{Filled};
+ghost use Rattle.play.specs.Steps.{Playable, firstOf, startEntry, entryRefusal};
+ghost use Rattle.play.specs.Fitting.{fitting, bytesOf, wordAt, fieldsAt, Plays};
 ghost use Rattle.model.specs.Written.{written as writtenInto};
-use model::Answer;
-use rules::Started;
+use model::Flags;
 use session::Session;
+use session::Task;
 
 // The first of a refusal that was found (0 if none) and another, which may apply.
 fn first_refusal(found: u8, applies: bool, other: u8) -> u8
@@ -66,38 +71,43 @@ fn entry_refusal(table: &[u8], number: u8, n: u8, kind: u8, b: u8, word: u32) ->
     }
 }
 
-fn accepted(s: Session) -> Started
-    ensures { λ r. ⌜ r ≡ record { refusal = 0; session = s } ⌝ }
+// The call of this kind leaves every task in its place: a look, and Back where the front task has a screen below its top.
+fn stays(kind: u8, front: Task) -> bool
+    ensures { λ r. ⌜ r ≡ (eqb kind 5 || (eqb kind 4 && ltb 1 (front .height))) ⌝ }
 {
-    Started {
-        refusal: 0,
-        session: s,
-    }
+    (kind == 5) | ((kind == 4) & (front.height > 1))
 }
 
-// The call of a record that passed those checks; a start may still be refused by 23 or 24.
-fn perform(table: &[u8], s: Session, kind: u8, b: u8, word: u32) -> Started
-    requires { ⌜ Playable (now table) s × (entryRefusal (now table) (s .n) (requestOf kind b word) ≡ 0) ⌝ }
-    ensures { λ r. ⌜ r ≡ stepOf (now (table .entry)) s (requestOf kind b word) ⌝ }
+// The front task after it.
+fn front_left(kind: u8, front: Task) -> Task
+    requires { ⌜ (kind ≡ 4 → Filled front) ⌝ }
+    ensures { λ r. ⌜ r ≡ (if eqb kind 4 then popped front else front) ⌝ }
 {
-    match kind {
-        1 => accepted(rules::launch(table)),
-        2 => rules::start(table, s, b, flags::read(word)),
-        3 => rules::finish_start(table, s, b, flags::read(word)),
-        4 => accepted(rules::back(table, s)),
-        _ => accepted(s),
+    if kind == 4 {
+        return front.pop();
     }
+    front
 }
 
-// The answer of a call with this refusal (0 if none), after which the session is s.
-fn answer_after(refusal: u8, s: Session) -> Answer
-    requires { ⌜ (refusal ≡ 0 → Seen s) ⌝ }
-    ensures { λ r. ⌜ r ≡ answerAfter refusal s ⌝ }
+// The session after launch, and after Back where the front task goes.
+fn launch_or_back(table: &[u8], s: Session, kind: u8) -> Session
+    requires { ⌜ (tableRefusal (now table) ≡ 0) × ((kind ≡ 1 → ⊥) → Ready (now table) s × (1 ≤ s .n)) ⌝ }
+    ensures { λ r. ⌜ r ≡ hold (if eqb kind 1 then launched (now (table .entry)) else backed (view s)) ⌝ }
 {
-    if refusal != 0 {
-        return answer::refused(refusal);
+    if kind == 1 {
+        return rules::launch(table);
     }
-    answer::look_at(s)
+    rules::back(table, s)
+}
+
+// The task at a place, where the one before it moves back or does not.
+fn task_behind(before: Task, moves: bool, own: Task) -> Task
+    ensures { λ r. ⌜ r ≡ (if moves then before else own) ⌝ }
+{
+    if moves {
+        return before;
+    }
+    own
 }
 
 fn wide(x: u8) -> u32
@@ -107,7 +117,7 @@ fn wide(x: u8) -> u32
 }
 
 // The flag word of the record at a place of the input, high byte first.
-fn word_at(input: &[u8], p: usize) -> u32
+pub fn word_at(input: &[u8], p: usize) -> u32
     requires { ⌜ p + 6 ≤ length (now input) ⌝ }
     ensures { λ r. ⌜ r ≡ wordAt (now (input .entry)) p ⌝ }
 {
@@ -115,6 +125,29 @@ fn word_at(input: &[u8], p: usize) -> u32
         + 0x10000 * wide(input[p + 3])
         + 0x100 * wide(input[p + 4])
         + wide(input[p + 5])
+}
+
+// The fields of a record; the flags are those of its word.
+struct Fields {
+    kind: u8,
+    screen: u8,
+    word: u32,
+    flags: Flags,
+}
+
+// Those of the record behind i others.
+fn fields_at(input: &[u8], i: usize) -> Fields
+    requires { ⌜ 6 * i + 6 ≤ length (now input) ⌝ }
+    ensures { λ r. ⌜ r ≡ fieldsAt (now (input .entry)) (6 * i) ⌝ }
+{
+    let p = 6 * i;
+    let word = word_at(input, p);
+    Fields {
+        kind: input[p],
+        screen: input[p + 1],
+        word: word,
+        flags: flags::read(word),
+    }
 }
 
 // What a run of records gives: the session after them, the bytes of input that they took, the bytes of text.
@@ -136,19 +169,49 @@ fn play_whole(table: &[u8], from: Session, input: &[u8], count: usize, out: &mut
     let mut at: usize = 0;
     let mut i: usize = 0;
     while i < count {
-        let p = 6 * i;
-        let kind = input[p];
-        let b = input[p + 1];
-        let word = word_at(input, p);
+        let r = fields_at(input, i);
         i += 1;
-        let refusal = entry_refusal(table, number, s.n, kind, b, word);
+        let refusal = entry_refusal(table, number, s.n, r.kind, r.screen, r.word);
         if refusal != 0 {
-            at = line::write_line(out, at, kind, answer::refused(refusal));
+            at = line::write_line(out, at, r.kind, answer::refused(refusal));
             continue;
         }
-        let step = perform(table, s, kind, b, word);
-        s = step.session;
-        at = line::write_line(out, at, kind, answer_after(step.refusal, s));
+        let first = s.tasks[0];
+        if (r.kind != 2) & (r.kind != 3) {
+            if stays(r.kind, first) {
+                s.tasks[0] = front_left(r.kind, first);
+            } else {
+                s = launch_or_back(table, s, r.kind);
+            }
+            at = line::write_line(out, at, r.kind, answer::look_at(s));
+            continue;
+        }
+        let group = choice::group_of(table, first.top(), r.screen, r.flags);
+        let found = choice::sought_by(table, s, r.screen, r.flags, group);
+        let t = s.tasks[choice::index_of(found)];
+        let rule = choice::rule_in(table, group, t, s.main, r.screen, r.flags, found);
+        let deed = choice::deed_of(rule);
+        let room = choice::room_refusal(s.n, t, deed);
+        if room != 0 {
+            at = line::write_line(out, at, r.kind, answer::refused(room));
+            continue;
+        }
+        let place = choice::place_of(found);
+        let v = deeds::front_after(t, r.screen, deed);
+        let shift = deeds::shift_of(deed, place, s.n) as usize;
+        s.n = deeds::count_after(deed, s.n);
+        s.main = deeds::main_after(deed, place, s.main);
+        if shift > 2 {
+            s = deeds::put_front(s, v, shift);
+        } else {
+            s.tasks[2] = task_behind(s.tasks[1], shift == 2, s.tasks[2]);
+            s.tasks[1] = task_behind(first, shift != 0, s.tasks[1]);
+            s.tasks[0] = v;
+        }
+        if r.kind == 3 {
+            s = closing::close_mark(s, deed, place, r.screen == first.top());
+        }
+        at = line::write_line(out, at, r.kind, answer::look_at(s));
     }
     Played {
         session: s,

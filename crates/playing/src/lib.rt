@@ -1,7 +1,7 @@
 // The player: a table and then records on standard input, a line of text for each record on standard output.
 // It only reads, calls and writes, in blocks; what it writes is the business of `play`. Memory does not grow.
 
-ghost use Prim.Native.Nat.{ℕ, _+_, _*_, _≤_};
+ghost use Prim.Native.Nat.{_+_, _*_, _≤_};
 ghost use mathlib.Core.Path.{_≡_};
 ghost use mathlib.Core.Bool.{_&&_};
 ghost use lib.Dec.{leb};

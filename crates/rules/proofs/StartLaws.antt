@@ -2,7 +2,7 @@
 -- no 23 or 24 is given, and a screen stands at the mark afterwards.
 use Prim.Native.Nat.{ℕ, zero, suc, _≤_}
 use mathlib.Core.Path.{_≡_, refl}
-use mathlib.Core.Bool.{false, _&&_}
+use mathlib.Core.Bool.{Bool, true, false, _&&_}
 use mathlib.Core.List.{List}
 use lib.Dec.{eqb}
 use Rattle.model.specs.declared.Choice.{Choice}
@@ -12,7 +12,7 @@ use Rattle.model.specs.Search.{placeOf}
 use Rattle.model.specs.Rules.{choose}
 use Rattle.model.specs.Deeds.{deedOf}
 use Rattle.model.specs.Calls.{startedBy, makesTask, overfills}
-use Rattle.model.specs.Marks.{stands, closeAt}
+use Rattle.model.specs.Marks.{closeAt}
 use Rattle.model.proofs.RefusalLaws.{refusal-skip}
 use Rattle.model.proofs.Sound.{Sound}
 use Rattle.model.proofs.Deeds.{Ready as DeedReady, carry-sound}
@@ -26,7 +26,7 @@ use Rattle.choice.specs.Startable.{Startable}
 use Rattle.deeds.specs.Carriable.{Carriable}
 use Rattle.deeds.proofs.Carried.{carriable}
 use Rattle.closing.specs.Closable.{Markable}
-use Rattle.rules.specs.Starts.{roomRefusal, startStored, finishStored}
+use Rattle.rules.specs.Starts.{roomRefusal, startStored, finishStored, madeStored}
 
 -- ---- a start
 
@@ -86,3 +86,7 @@ module _ (tb : List ℕ) (c : Session) (b : ℕ) (f : Flags) (z : Sized c) (h : 
   unfolding finishStored
   finish-refused zero e n = absurd (n refl)
   finish-refused (suc k) e n = rw e
+
+  pub made-refused : (finishing : Bool) (k : ℕ) → roomRefusal tb c b f ≡ k → (k ≡ 0 → ⊥) → madeStored finishing tb c b f ≡ record { refusal = k; session = c }
+  made-refused true = finish-refused
+  made-refused false = start-refused

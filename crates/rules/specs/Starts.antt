@@ -1,5 +1,6 @@
 -- Starts on stored sessions, by flags that were read: the rule chosen, the room that it needs, what it leaves.
 use Prim.Native.Nat.{ℕ, zero, suc}
+use mathlib.Core.Bool.{Bool, true, false}
 use mathlib.Core.List.{List}
 use Rattle.model.specs.declared.Flags.{Flags}
 use Rattle.model.specs.Refusals.{refusal}
@@ -36,3 +37,8 @@ startStored tb c b f = settleRoom (roomRefusal tb c b f) c (startedBy (choose tb
 
 unfoldable pub finishStored : List ℕ → Session → ℕ → Flags → Started
 finishStored tb c b f = settleRoom (roomRefusal tb c b f) c (finishedBy (choose tb (view c) b f) b (view c))
+
+-- a finishing start, or a start
+abbrev pub madeStored : Bool → List ℕ → Session → ℕ → Flags → Started
+madeStored true tb c b f = finishStored tb c b f
+madeStored false tb c b f = startStored tb c b f

@@ -1,12 +1,12 @@
 // Launch, starts and Back on a sound session under a good table. Nothing is checked again but the room a start needs.
 
-ghost use Prim.Native.Nat.{ℕ, _≤_};
+ghost use Prim.Native.Nat.{_≤_};
 ghost use mathlib.Core.Path.{_≡_};
 ghost use Rattle.model.specs.Table.{tableRefusal};
 ghost use Rattle.model.specs.Calls.{launched, backed};
 ghost use Rattle.session.specs.Stored.{view, hold, Ready};
 ghost use Rattle.choice.specs.Startable.{Startable};
-ghost use Rattle.rules.specs.Starts.{planned, startStored, finishStored};
+ghost use Rattle.rules.specs.Starts.{planned, madeStored};
 use model::Deed;
 use model::Flags;
 use session::Session;
@@ -23,7 +23,7 @@ pub fn launch(table: &[u8]) -> Session
     ensures { λ r. ⌜ r ≡ hold (launched (now (table .entry))) ⌝ }
 {
     let b = table::main_screen(table);
-    let mut out = deeds::put_new(Session::fresh(), b);
+    let mut out = deeds::carry_out(Session::fresh(), b, Deed::New, 0);
     out.main = 1;
     out
 }
@@ -51,37 +51,19 @@ fn plan_start(table: &[u8], s: Session, b: u8, f: Flags) -> Plan
     let rule = c.rule;
     let found = c.found;
     let deed = choice::deed_of(rule);
+    let k = choice::index_of(found);
+    let t = s.tasks[k];
     Plan {
-        refusal: choice::room_refusal(s, c),
+        refusal: choice::room_refusal(s.n, t, deed),
         deed: deed,
         place: choice::place_of(found),
     }
 }
 
-// Start of b with the flags f.
-pub fn start(table: &[u8], s: Session, b: u8, f: Flags) -> Started
+// Start of b with the flags f. In a finishing start the screen that was in front then closes, if it still stands.
+pub fn start(table: &[u8], s: Session, b: u8, f: Flags, finishing: bool) -> Started
     requires { ⌜ Startable (now table) s b ⌝ }
-    ensures { λ r. ⌜ r ≡ startStored (now (table .entry)) s b f ⌝ }
-{
-    let p = plan_start(table, s, b, f);
-    if p.refusal != 0 {
-        return Started {
-            refusal: p.refusal,
-            session: s,
-        };
-    }
-    let deed = p.deed;
-    let out = deeds::carry_out(s, b, deed, p.place);
-    Started {
-        refusal: 0,
-        session: out,
-    }
-}
-
-// Finishing start: the start, and then the screen that was in front closes, if it still stands.
-pub fn finish_start(table: &[u8], s: Session, b: u8, f: Flags) -> Started
-    requires { ⌜ Startable (now table) s b ⌝ }
-    ensures { λ r. ⌜ r ≡ finishStored (now (table .entry)) s b f ⌝ }
+    ensures { λ r. ⌜ r ≡ madeStored finishing (now (table .entry)) s b f ⌝ }
 {
     let plan = plan_start(table, s, b, f);
     if plan.refusal != 0 {
@@ -94,8 +76,14 @@ pub fn finish_start(table: &[u8], s: Session, b: u8, f: Flags) -> Started
     let front = s.tasks[0];
     let same = b == front.top();
     let out = deeds::carry_out(s, b, deed, plan.place);
+    if finishing {
+        return Started {
+            refusal: 0,
+            session: closing::close_mark(out, deed, plan.place, same),
+        };
+    }
     Started {
         refusal: 0,
-        session: closing::close_mark(out, deed, plan.place, same),
+        session: out,
     }
 }

@@ -1,16 +1,16 @@
 -- The root of a stored task: it is one of the table's screens, and its row tells whether it is found by affinity.
-use Prim.Native.Nat.{ℕ, _≤_, _<_}
-use mathlib.Core.Path.{_≡_, sym, _∙_, ap}
-use mathlib.Core.Bool.{Bool, true, not, _&&_}
+use Prim.Native.Nat.{ℕ, _<_}
+use mathlib.Core.Path.{_≡_}
+use mathlib.Core.Bool.{true, not, _&&_}
 use mathlib.Core.List.{List}
 use native.Mathlib.Omega.{arith}
 use lib.ListN.{getD}
 use lib.Dec.{eqb}
 use Rattle.model.specs.Table.{sizeOf, modeOf, affinityOf, isSingleInstance}
-use Rattle.model.specs.Session.{Stack, noStack}
+use Rattle.model.specs.Session.{noStack}
 use Rattle.model.specs.Search.{hasAffinity}
 use Rattle.model.proofs.Logic.{All-at}
-use Rattle.model.proofs.Sound.{TaskSound, Sound}
+use Rattle.model.proofs.Sound.{TaskSound}
 use Rattle.session.specs.declared.Session.{Session}
 use Rattle.session.specs.Stored.{view, noTask, soundStored}
 use Rattle.session.proofs.Known.{Sized}

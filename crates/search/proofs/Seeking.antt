@@ -1,9 +1,9 @@
 -- A task sought, by the places that the searches gave.
 use Prim.Native.Nat.{ℕ, zero, suc}
-use mathlib.Core.Path.{_≡_, refl, sym}
+use mathlib.Core.Path.{_≡_, refl}
 use mathlib.Core.List.{List}
 use Rattle.model.specs.declared.Found.{Found}
-use Rattle.model.specs.Lists.{isPlace, find, if_then_else_}
+use Rattle.model.specs.Lists.{find}
 use Rattle.model.specs.Session.{Stack}
 use Rattle.model.specs.Search.{hasRoot, hasAffinity, seekRoot, seekAffinity, seek}
 

@@ -1,13 +1,13 @@
 -- A search as a loop makes it: at index i the rest of the list decides, and its place is counted from i.
 use Prim.Native.Nat.{ℕ, zero, suc, _+_, _≤_, _<_}
-use mathlib.Core.Path.{_≡_, refl, sym, _∙_, ap}
+use mathlib.Core.Path.{_≡_, refl}
 use mathlib.Core.Bool.{Bool, true, false}
-use mathlib.Core.List.{List, [], _∷_}
+use mathlib.Core.List.{List}
 use native.Mathlib.Numerals.{add-one}
 use native.Mathlib.Omega.{arith}
 use lib.ListN.{length, getD, drop, drop-of-length-le}
 use lib.Seq.{drop-cons}
-use Rattle.model.specs.Lists.{if_then_else_, further, find}
+use Rattle.model.specs.Lists.{further, find}
 
 -- a place counted behind i elements; none stays none
 abbrev pub behind : ℕ → ℕ → ℕ

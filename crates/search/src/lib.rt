@@ -1,6 +1,6 @@
 // The searches: for a task, from the front; for a screen in a task, from the top.
 
-ghost use Prim.Native.Nat.{ℕ, _≤_};
+ghost use Prim.Native.Nat.{_≤_};
 ghost use mathlib.Core.Path.{_≡_};
 ghost use lib.Dec.{eqb};
 ghost use Rattle.model.specs.Lists.{find};

@@ -4,10 +4,10 @@ use Prim.Native.Nat.{ℕ, suc, _+_, _-_, _≤_, _<_}
 use mathlib.Core.Path.{_≡_, sym, _∙_, ap}
 use mathlib.Core.List.{List, [], _∷_, _++_, append-assoc}
 use native.Mathlib.Omega.{arith}
-use lib.ListN.{length, getD, set, take, drop, replicate, List·getD-append, length-append, length-set, length-replicate, replicate-append-replicate, length-drop, take-append-drop}
+use lib.ListN.{length, getD, set, take, drop, replicate, List·getD-append, length-append, length-set, length-replicate, length-drop, take-append-drop}
 use lib.Seq.{take-at, drop-at, set-at, set-append-left, append-snoc, take-append-le, drop-append-le, length-take-le}
 use Rattle.model.specs.Lists.{omit, toFront}
-use Rattle.model.proofs.ListLaws.{omit-length, omit-split, toFront-length, toFront-omit}
+use Rattle.model.proofs.ListLaws.{omit-split, toFront-length, toFront-omit}
 use Rattle.session.specs.Stored.{pad}
 
 omit-append : {A : Type 0} (i : ℕ) (xs ys : List A) → i < length xs → omit i (xs ++ ys) ≡ omit i xs ++ ys
@@ -38,24 +38,6 @@ module _ {A : Type 0} (n : ℕ) (z : A) where
   pad-take k l e h r =
       let g : n - length (take k l) ≡ length (drop k l) = omega (arith, length-take-le k l (omega arith), length-drop k l) in
       ap (λ (t : List A). take k l ++ t) (same g ∙ sym r) ∙ take-append-drop k l
-
-  -- one more in front
-  pub pad-cons : (x : A) (xs : List A) → length xs < n → pad n z (x ∷ xs) ≡ x ∷ take (n - 1) (pad n z xs)
-  unfolding pad
-  pad-cons x xs h =
-      let j = n - suc (length xs) in
-      let g : n - length xs ≡ j + 1 = omega arith in
-      let e : replicate (n - length xs) z ≡ replicate j z ++ (z ∷ []) = same g ∙ sym (replicate-append-replicate j 1 z) in
-      ap (λ (l : List A). x ∷ l)
-      (sym (rw (e, ← (append-assoc xs (replicate j z) (z ∷ []))) (take-at (xs ++ replicate j z) (z ∷ []) (n - 1) (simp (length-append, length-replicate) (omega arith)))))
-
-  -- k gone from the front
-  pub pad-drop : (k : ℕ) (xs : List A) → k ≤ length xs → length xs ≤ n → pad n z (drop k xs) ≡ drop k (pad n z xs) ++ replicate k z
-  unfolding pad
-  pad-drop k xs h b =
-      let g : n - length (drop k xs) ≡ n - length xs + k = omega (arith, length-drop k xs) in
-      rw (drop-append-le k xs (replicate (n - length xs) z) h, append-assoc, replicate-append-replicate (n - length xs) k z)
-      (ap (λ (l : List A). drop k xs ++ l) (same g))
 
   -- one more at the end, and one less there
   pub pad-snoc : (k : ℕ) (x : A) (xs : List A) → length xs ≡ k → k < n → pad n z (xs ++ (x ∷ [])) ≡ xs ++ x ∷ replicate (n - suc k) z
@@ -89,14 +71,6 @@ module _ {A : Type 0} (n : ℕ) (z : A) where
   pub pad-set : (k : ℕ) (x : A) (xs : List A) → k < length xs → pad n z (set xs k x) ≡ set (pad n z xs) k x
   unfolding pad
   pad-set k x xs h = rw (length-set xs k x) (sym (set-append-left xs (replicate (n - length xs) z) k x h))
-
-  -- one gone
-  pub pad-omit : (i : ℕ) (xs : List A) → i < length xs → length xs ≤ n → pad n z (omit i xs) ≡ omit i (pad n z xs) ++ (z ∷ [])
-  unfolding pad
-  pad-omit i xs h b =
-      let g : n - length (omit i xs) ≡ n - length xs + 1 = omega (arith, omit-length i xs h) in
-      rw (omit-append i xs (replicate (n - length xs) z) h, append-assoc)
-      (ap (λ (l : List A). omit i xs ++ l) (same g ∙ sym (replicate-append-replicate (n - length xs) 1 z)))
 
   -- one brought to the front
   pub pad-toFront : (k : ℕ) (xs : List A) → k < length xs → pad n z (toFront k xs) ≡ toFront k (pad n z xs)

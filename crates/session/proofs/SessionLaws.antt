@@ -1,17 +1,17 @@
 -- Each change of a session's list of tasks is a change of the stored array: a task changed, gone, moved to the front,
 -- or put in front.
-use Prim.Native.Nat.{ℕ, zero, suc, _-_, _≤_, _<_}
+use Prim.Native.Nat.{ℕ, zero, suc, _-_, _<_}
 use mathlib.Core.Path.{_≡_, refl, _∙_, ap}
-use mathlib.Core.List.{List, [], _∷_, _++_, map}
+use mathlib.Core.List.{List, [], _∷_, map}
 use native.Mathlib.Omega.{arith}
-use lib.ListN.{length, set, take, length-map, length-set}
-use Rattle.model.specs.Lists.{omit, toFront}
+use lib.ListN.{length, set, length-map, length-set}
+use Rattle.model.specs.Lists.{toFront}
 use Rattle.model.specs.Session.{Stack, State, state, count, mostTasks}
-use Rattle.model.proofs.ListLaws.{omit-length, map-omit, map-toFront, toFront-length}
+use Rattle.model.proofs.ListLaws.{map-toFront, toFront-length}
 use Rattle.session.specs.declared.Task.{Task}
 use Rattle.session.specs.declared.Session.{Session}
 use Rattle.session.specs.Stored.{blankTask, holdTask, hold, pad}
-use Rattle.session.proofs.Padding.{pad-set, pad-omit, pad-toFront, pad-cons}
+use Rattle.session.proofs.Padding.{pad-set, pad-toFront}
 
 -- storage of these tasks, of which n stand
 abbrev pub stored : List Task → ℕ → ℕ → Session
@@ -36,26 +36,9 @@ module _ (v : State ℕ) (m : ℕ) where
       ap (pad mostTasks blankTask) (map-set holdTask ts k t) ∙ pad-set mostTasks blankTask k (holdTask t) (map holdTask ts) (inside k h) in
       λ i. stored (s i) (length-set ts k t i) m
 
-  pub hold-omit : (k : ℕ) → k < count v → count v ≤ mostTasks
-      → hold (state (omit k ts) m) ≡ stored (omit k (hold v .tasks) ++ (blankTask ∷ [])) (count v - 1) m
-  unfolding hold
-  hold-omit k h few =
-      let l : length (omit k ts) ≡ count v - 1 = omega (arith, omit-length k ts h) in
-      let s : pad mostTasks blankTask (map holdTask (omit k ts)) ≡ omit k (pad mostTasks blankTask (map holdTask ts)) ++ (blankTask ∷ []) =
-      ap (pad mostTasks blankTask) (map-omit holdTask k ts)
-      ∙ pad-omit mostTasks blankTask k (map holdTask ts) (inside k h) (omega (arith, length-map ts holdTask)) in
-      λ i. stored (s i) (l i) m
-
   pub hold-toFront : (k : ℕ) → k < count v → hold (state (toFront k ts) m) ≡ stored (toFront k (hold v .tasks)) (count v) m
   unfolding hold
   hold-toFront k h =
       let s : pad mostTasks blankTask (map holdTask (toFront k ts)) ≡ toFront k (pad mostTasks blankTask (map holdTask ts)) =
       ap (pad mostTasks blankTask) (map-toFront holdTask k ts) ∙ pad-toFront mostTasks blankTask k (map holdTask ts) (inside k h) in
       λ i. stored (s i) (toFront-length k ts i) m
-
-  pub hold-new : (t : Stack ℕ) → count v < mostTasks
-      → hold (state (t ∷ ts) m) ≡ stored (holdTask t ∷ take (mostTasks - 1) (hold v .tasks)) (suc (count v)) m
-  unfolding hold
-  hold-new t h =
-      let s = pad-cons mostTasks blankTask (holdTask t) (map holdTask ts) (omega (arith, length-map ts holdTask)) in
-      λ i. stored (s i) (suc (count v)) m

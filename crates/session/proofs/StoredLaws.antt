@@ -11,7 +11,7 @@ use lib.Dec.{leb, eqb}
 use borrow.Author.Tests.{leb-true, eqb-true, le-leb}
 use Rattle.model.specs.Lists.{all, All}
 use Rattle.model.specs.Session.{Stack, State, stack, noStack, count, height, fresh, mostTasks, mostHeight, sound}
-use Rattle.model.proofs.Logic.{and-left, and-right, All-at, All-map, All-of, all-decides, eqb-decides}
+use Rattle.model.proofs.Logic.{and-left, and-right, same-test, self-decides, All-at, All-map, All-of, all-decides, eqb-decides}
 use Rattle.model.proofs.ListLaws.{All-take, All-drop, All-append, All-to-map}
 use Rattle.model.proofs.Sound.{Sound, sound-decides}
 use Rattle.session.specs.declared.Task.{Task}
@@ -199,11 +199,25 @@ pub hold-sound : (tb : List ℕ) (v : State ℕ) → Sound tb v → soundStored 
 unfolding soundStored
 hold-sound tb v h = rw (hold-blank v (sound-fits tb v h)) (ap (sound tb) (view-hold v) ∙ sound-decides tb v .shows h)
 
+-- what is held is sound exactly where the session is
+pub held-sound : (tb : List ℕ) (v : State ℕ) → soundStored tb (hold v) ≡ sound tb v
+held-sound tb v =
+    same-test
+    (record {
+      holds = λ e. sound-decides tb v .shows (rw (view-hold v) at (sound-view tb (hold v) e));
+      shows = λ e. hold-sound tb v (sound-decides tb v .holds e);
+    })
+    (self-decides (sound tb v))
+
 -- ---- the parts of a view
 
 pub view-count : (c : Session) → Sized c → c .n ≤ mostTasks → count (view c) ≡ c .n
 unfolding view
 view-count c z few = length-map (take (c .n) (c .tasks)) viewTask ∙ length-take-le (c .n) (c .tasks) (omega (arith, z .tasks))
+
+pub view-main : (c : Session) → view c .main ≡ c .main
+unfolding view
+view-main c = refl
 
 pub view-at : (c : Session) (i : ℕ) → i < c .n → getD (view c .tasks) i noStack ≡ viewTask (getD (c .tasks) i noTask)
 unfolding view viewTask

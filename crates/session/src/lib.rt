@@ -1,6 +1,6 @@
 // Sessions as they are stored, by value: plain bytes, the same for callers in C and Rust.
 
-ghost use Prim.Native.Nat.{ℕ, _<_, _≤_};
+ghost use Prim.Native.Nat.{_<_, _≤_};
 ghost use mathlib.Core.Path.{_≡_};
 ghost use Rattle.model.specs.Session.{top as topOf};
 ghost use Rattle.session.specs.Stored.{freshSession, viewTask, pushed, popped};

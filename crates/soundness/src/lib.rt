@@ -1,6 +1,6 @@
 // Whether any stored session is sound under a good table. Whatever its bytes say, nothing is read outside of its arrays.
 
-ghost use Prim.Native.Nat.{ℕ, _≤_};
+ghost use Prim.Native.Nat.{_≤_};
 ghost use mathlib.Core.Path.{_≡_};
 ghost use mathlib.Core.Bool.{true};
 ghost use lib.Dec.{eqb};

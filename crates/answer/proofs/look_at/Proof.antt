@@ -1,6 +1,5 @@
 -- `answer::look_at` meets its contract: an empty session gives zeros, another one what its front task stores.
-use Prim.Native.Nat.{_≤_, _<_}
-use mathlib.Core.Path.{_≡_, sym}
+use mathlib.Core.Path.{sym}
 use native.Mathlib.Omega.{arith}
 use borrow.Author.Needs.{needs}
 use Rattle.session.proofs.Known.{sized}

@@ -13,13 +13,13 @@ use Rattle.closing.proofs.moved_up.Statement.{statement}
 use Rattle.closing.proofs.moved_up.Tie as tie
 
 abbrev Inv-loop : tie.InvT-loop
-Inv-loop m k s out₀ j₀ out j = (j ≤ k) × (out ≡ withTasks s (closingUp m j (s .tasks)))
+Inv-loop m k out₀ j₀ out j = (j ≤ k) × (out ≡ withTasks out₀ (closingUp m j (out₀ .tasks)))
 
 abbrev μ-loop : tie.MeasureT-loop
-μ-loop m k s out₀ j₀ out j = k - j
+μ-loop m k out₀ j₀ out j = k - j
 
 loop-holds : tie.Need-loop-holds Inv-loop μ-loop
-loop-holds c = (search needs, ap (withTasks (c .args .t1)) (close-begin (c .args .m) (c .args .t1 .tasks)))
+loop-holds c = (search needs, ap (withTasks (c .args .s)) (close-begin (c .args .m) (c .args .s .tasks)))
 
 add-t : tie.Need-add-t Inv-loop μ-loop
 add-t c = search needs
@@ -52,11 +52,10 @@ loop-again : tie.Need-loop-again Inv-loop μ-loop
 loop-again c =
     let here = c .before .before .loop in
     let a = c .before .before .before .args in
-    let l : length (a .t1 .tasks) ≡ 16 = search (needs, long) in
-    let t = getD (a .t1 .tasks) (a .m + here .j + 1) noTask in (
+    let l : length (a .s .tasks) ≡ 16 = search (needs, long) in (
       omega arith,
-      ap (λ (o : Session). withTasks o (set (o .tasks) (a .m + here .j) t)) (here .inv .1)
-          ∙ ap (withTasks (a .t1)) (close-step noTask (a .m) (here .j) (a .t1 .tasks) (omega arith)),
+      ap (λ (o : Session). withTasks o (set (o .tasks) (a .m + here .j) (getD (o .tasks) (a .m + here .j + 1) noTask))) (here .inv .1)
+          ∙ ap (withTasks (a .s)) (close-step noTask (a .m) (here .j) (a .s .tasks) (omega arith)),
     )
 
 add-blank : tie.Need-add-blank Inv-loop μ-loop
@@ -72,11 +71,11 @@ returns : tie.Need-returns Inv-loop μ-loop
 returns c =
     let here = c .before .loop in
     let a = c .before .before .args in
-    let l : length (a .t1 .tasks) ≡ 16 = search (needs, long) in
+    let l : length (a .s .tasks) ≡ 16 = search (needs, long) in
     let k : here .j ≡ a .k = omega arith in
     ap (λ (o : Session). withTasks o (set (o .tasks) (a .m + a .k) blankTask)) (here .inv .1)
-    ∙ ap (λ (j : ℕ). withTasks (a .t1) (set (closingUp (a .m) j (a .t1 .tasks)) (a .m + a .k) blankTask)) k
-    ∙ ap (withTasks (a .t1)) (close-end (a .m) (a .k) blankTask (a .t1 .tasks) (omega arith))
+    ∙ ap (λ (j : ℕ). withTasks (a .s) (set (closingUp (a .m) j (a .s .tasks)) (a .m + a .k) blankTask)) k
+    ∙ ap (withTasks (a .s)) (close-end (a .m) (a .k) blankTask (a .s .tasks) (omega arith))
 
 pub moved-up-spec : {M : Type 1} → statement M
 moved-up-spec =

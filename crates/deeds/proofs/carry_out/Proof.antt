@@ -1,110 +1,78 @@
--- `deeds::carry_out` meets its contract, deed by deed.
-use Prim.Native.Nat.{ℕ, _≤_}
-use mathlib.Core.Path.{_≡_, sym, _∙_, ap, subst}
-use mathlib.Core.Bool.{true}
-use native.Mathlib.Omega.{arith}
+-- `deeds::carry_out` meets its contract: the deed is told by what it puts in front.
+use Prim.Native.Nat.{ℕ}
+use mathlib.Core.Path.{sym, _∙_, ap, ap₂}
 use borrow.Author.Needs.{needs}
-use lib.Dec.{eqb}
-use Rattle.model.specs.declared.Deed.{Deed}
-use Rattle.model.specs.Session.{State, front}
-use Rattle.model.specs.Deeds.{move, changed, changeFront, carryOut}
+use lib.ListN.{getD}
 use Rattle.session.specs.declared.Session.{Session}
-use Rattle.session.specs.Stored.{view, hold, storageBlank}
+use Rattle.session.specs.declared.Task.{Task}
+use Rattle.session.specs.Stored.{noTask}
 use Rattle.session.proofs.Known.{sized}
-use Rattle.session.proofs.StoredLaws.{view-hold}
-use Rattle.deeds.specs.Carriable.{HasRoom, Finds, Carriable}
-use Rattle.deeds.proofs.Fronts.{counted, moved-ready}
+use Rattle.session.proofs.StoredLaws.{blank-few}
+use Rattle.session.proofs.SessionLaws.{stored}
+use Rattle.deeds.specs.Fronted.{frontAfter, countAfter, mainAfter}
+use Rattle.deeds.specs.Rows.{shifted}
+use Rattle.deeds.proofs.Fronts.{placed, main-low, shift-low, changeable, carried}
 use Rattle.deeds.proofs.carry_out.Statement.{statement}
 use Rattle.deeds.proofs.carry_out.Tie as tie
 
--- what is required, and what the contract says, of the deed that the match found
-found : (s : Session) (p : ℕ) {deed d : Deed} → Carriable s deed p → deed ≡ d → Finds d p (view s)
-found s p k e = subst (λ (d : Deed). Finds d p (view s)) e (k .finds)
+shift-of-requires : tie.Need-shift-of-requires
+shift-of-requires c κs = let a = c .args in placed (a .t1) (sized (a .t1) _ (c .good .0)) (a .place) (a .deed) (c .pre)
 
-told : (b p : ℕ) (v : State ℕ) {deed d : Deed} → deed ≡ d → hold (carryOut (eqb b) b b d p v) ≡ hold (carryOut (eqb b) b b deed p v)
-told b p v e = ap (λ (d : Deed). hold (carryOut (eqb b) b b d p v)) (sym e)
+cast-k : tie.Need-cast-k
+cast-k c = search needs
 
-enum-told : tie.Need-enum-told
-enum-told c = search needs
+mul-t : tie.Need-mul-t
+mul-t c = search needs
 
-put-new-requires : tie.Need-put-new-requires
-unfolding view
-put-new-requires c κs =
+element-copy-out-t : tie.Need-element-copy-out-t
+element-copy-out-t c =
+    let start = c .before in
+    let a = start .args in
+    rw (c .shift-of .ensures) (shift-low (a .t1) (sized (a .t1) _ (start .good .0)) (a .place) (a .deed) (start .pre))
+
+front-after-requires : tie.Need-front-after-requires
+front-after-requires c κs =
     let start = c .before .before in
-    let s = start .args .s in
-    let f = found s (start .args .place) (start .pre) (c .enum-told .given .1) in
-    let n = counted s (sized s _ (start .good .0)) (start .pre .blank) in
-    (start .pre .blank, (omega arith, omega arith))
+    let a = start .args in
+    rw (c .before .shift-of .ensures) (changeable (a .t1) (sized (a .t1) _ (start .good .0)) (a .place) (a .deed) (start .pre))
 
-enum-known-deed : tie.Need-enum-known-deed
-enum-known-deed c = search needs
+put-front-requires : tie.Need-put-front-requires
+put-front-requires c κs = element-copy-out-t (c .before .before)
 
-change-front-requires : tie.Need-change-front-requires
-change-front-requires c κs =
-    let start = c .before .before .before in
-    let s = start .args .s in
-    let f = found s (start .args .place) (start .pre) (c .before .deed .given .1) in
-    let n = counted s (sized s _ (start .good .0)) (start .pre .blank) in
-    (start .pre .blank, (omega arith, f .1))
+count-after-requires : tie.Need-count-after-requires
+count-after-requires c κs =
+    let start = c .before .before .before .before in rw (c .put-front .ensures) (blank-few (start .args .t1) (start .pre .blank))
 
-enum-known-deed-2 : tie.Need-enum-known-deed-2
-enum-known-deed-2 c = search needs
-
-to-front-requires : tie.Need-to-front-requires
-to-front-requires c κs =
-    let start = c .before .before .before in
-    let s = start .args .s in
-    let f = found s (start .args .place) (start .pre) (c .before .deed2 .given .1) in
-    let n = counted s (sized s _ (start .good .0)) (start .pre .blank) in
-    (start .pre .blank, (f .0 .0, omega arith))
-
-change-front-requires-2 : tie.Need-change-front-requires-2
-change-front-requires-2 c κs =
-    let start = c .before .before .before .before in
-    let s = start .args .s in
-    let p = start .args .place in
-    let k = c .before .before .deed2 .given in
-    let f = found s p (start .pre) (k .1) in
-    let z = sized s _ (start .good .0) in
-    let n = counted s z (start .pre .blank) in
-    let l : p ≤ s .n = omega arith in
-    subst (λ (o : Session). (storageBlank o ≡ true) × ((1 ≤ o .n) × HasRoom (k .0 .0) (front (view o)))) (sym (c .to-front .ensures))
-    (moved-ready s z (start .pre .blank) p (f .0 .0) l (k .0 .0) (f .1))
+main-after-requires : tie.Need-main-after-requires
+main-after-requires c κs =
+    let start = c .before .before .before .before .before in
+    let a = start .args in
+    rw (c .before .put-front .ensures) (main-low (a .t1) (sized (a .t1) _ (start .good .0)) (a .place) (a .deed) (start .pre))
 
 returns : tie.Need-returns
-unfolding carryOut
 returns c =
-    let a = c .before .before .before .args in
-    c .put-new .ensures ∙ told (a .b) (a .place) (view (a .s)) (c .before .enum-told .given .1)
-
-returns-2 : tie.Need-returns-2
-unfolding carryOut
-returns-2 c =
-    let a = c .before .before .before .before .args in
-    c .change-front .ensures ∙ told (a .b) (a .place) (view (a .s)) (c .before .before .deed .given .1)
-
-returns-3 : tie.Need-returns-3
-unfolding carryOut
-returns-3 c =
-    let a = c .before .before .before .before .before .args in
-    let k = c .before .before .before .deed2 .given in
-    let f = changed (eqb (a .b)) (a .b) (k .0 .0) in
-    c .change-front2 .ensures
-    ∙ ap (λ (o : Session). hold (changeFront f (view o))) (c .before .to-front .ensures)
-    ∙ ap (λ (v : State ℕ). hold (changeFront f v)) (view-hold (move (a .place) (view (a .s))))
-    ∙ told (a .b) (a .place) (view (a .s)) (k .1)
+    let start = c .before .before .before .before .before .before in
+    let a = start .args in
+    let s = a .t1 in
+    let n = countAfter (a .deed) (s .n) in
+    let m = mainAfter (a .deed) (a .place) (s .main) in
+    let shift = c .before .before .before .before .before .shift-of in
+    ap₂ (λ (i j : ℕ). stored (c .before .before .put-front .result .tasks) i j) (c .before .count-after .ensures) (c .main-after .ensures)
+    ∙ ap (λ (o : Session). stored (o .tasks) (countAfter (a .deed) (o .n)) (mainAfter (a .deed) (a .place) (o .main))) (c .before .before .put-front .ensures)
+    ∙ ap (λ (t : Task). stored (shifted t (shift .result) (s .tasks)) n m) (c .before .before .before .front-after .ensures)
+    ∙ ap (λ (k : ℕ). stored (shifted (frontAfter (a .b) (a .deed) (getD (s .tasks) k noTask)) k (s .tasks)) n m) (shift .ensures)
+    ∙ sym (carried s (sized s _ (start .good .0)) (a .place) (a .b) (a .deed) (start .pre))
 
 pub carry-out-spec : {M : Type 1} → statement M
 carry-out-spec =
     tie.close
     (tie.spec
-    enum-told
-    put-new-requires
-    enum-known-deed
-    change-front-requires
-    enum-known-deed-2
-    to-front-requires
-    change-front-requires-2
-    returns
-    returns-2
-    returns-3)
+    shift-of-requires
+    cast-k
+    mul-t
+    element-copy-out-t
+    front-after-requires
+    put-front-requires
+    count-after-requires
+    main-after-requires
+    returns)

@@ -11,13 +11,13 @@ use Rattle.deeds.proofs.closed_up.Statement.{statement}
 use Rattle.deeds.proofs.closed_up.Tie as tie
 
 abbrev Inv-loop : tie.InvT-loop
-Inv-loop m k b t out₀ j₀ out j = (j ≤ k) × (out ≡ withScreens t (closingUp m j (t .screens)))
+Inv-loop m k b out₀ j₀ out j = (j ≤ k) × (out ≡ withScreens out₀ (closingUp m j (out₀ .screens)))
 
 abbrev μ-loop : tie.MeasureT-loop
-μ-loop m k b t out₀ j₀ out j = k - j
+μ-loop m k b out₀ j₀ out j = k - j
 
 loop-holds : tie.Need-loop-holds Inv-loop μ-loop
-loop-holds c = (search needs, ap (withScreens (c .args .t1)) (close-begin (c .args .m) (c .args .t1 .screens)))
+loop-holds c = (search needs, ap (withScreens (c .args .t)) (close-begin (c .args .m) (c .args .t .screens)))
 
 add-out : tie.Need-add-out Inv-loop μ-loop
 add-out c = search needs
@@ -44,11 +44,10 @@ loop-again : tie.Need-loop-again Inv-loop μ-loop
 loop-again c =
     let here = c .before .before .loop in
     let a = c .before .before .before .args in
-    let l : length (a .t1 .screens) ≡ 32 = search needs in
-    let x = getD (a .t1 .screens) (a .m + here .j + 1) 0 in (
+    let l : length (a .t .screens) ≡ 32 = search needs in (
       omega arith,
-      ap (λ (o : Task). withScreens o (set (o .screens) (a .m + here .j) x)) (here .inv .1)
-          ∙ ap (withScreens (a .t1)) (close-step 0 (a .m) (here .j) (a .t1 .screens) (omega arith)),
+      ap (λ (o : Task). withScreens o (set (o .screens) (a .m + here .j) (getD (o .screens) (a .m + here .j + 1) 0))) (here .inv .1)
+          ∙ ap (withScreens (a .t)) (close-step 0 (a .m) (here .j) (a .t .screens) (omega arith)),
     )
 
 add-out-4 : tie.Need-add-out-4 Inv-loop μ-loop
@@ -61,11 +60,11 @@ returns : tie.Need-returns Inv-loop μ-loop
 returns c =
     let here = c .before .loop in
     let a = c .before .before .args in
-    let l : length (a .t1 .screens) ≡ 32 = search needs in
+    let l : length (a .t .screens) ≡ 32 = search needs in
     let k : here .j ≡ a .k = omega arith in
     ap (λ (o : Task). withScreens o (set (o .screens) (a .m + a .k) (a .b))) (here .inv .1)
-    ∙ ap (λ (j : ℕ). withScreens (a .t1) (set (closingUp (a .m) j (a .t1 .screens)) (a .m + a .k) (a .b))) k
-    ∙ ap (withScreens (a .t1)) (close-end (a .m) (a .k) (a .b) (a .t1 .screens) (omega arith))
+    ∙ ap (λ (j : ℕ). withScreens (a .t) (set (closingUp (a .m) j (a .t .screens)) (a .m + a .k) (a .b))) k
+    ∙ ap (withScreens (a .t)) (close-end (a .m) (a .k) (a .b) (a .t .screens) (omega arith))
 
 pub closed-up-spec : {M : Type 1} → statement M
 closed-up-spec =

@@ -2,7 +2,7 @@
 use native.Mathlib.Omega.{arith}
 use borrow.Author.Needs.{needs}
 use Rattle.model.proofs.Tables.{good-shaped}
-use Rattle.rules.proofs.LaunchLaws.{fresh-blank, launch-held}
+use Rattle.rules.proofs.LaunchLaws.{fresh-carriable, launch-held}
 use Rattle.rules.proofs.launch.Statement.{statement}
 use Rattle.rules.proofs.launch.Tie as tie
 
@@ -12,14 +12,14 @@ main-screen-requires c κs = let g = good-shaped (c .before .args .table .now) (
 fresh-requires : tie.Need-fresh-requires
 fresh-requires c κs = search needs
 
-put-new-requires : tie.Need-put-new-requires
-put-new-requires c κs = rw (c .fresh .ensures) (fresh-blank, (omega arith, omega arith))
+carry-out-requires : tie.Need-carry-out-requires
+carry-out-requires c κs = rw (c .fresh .ensures) fresh-carriable
 
 returns : tie.Need-returns
 returns c =
     let a = c .before .before .before .before .args in
-    launch-held (a .table .now) (c .before .before .main-screen .result) (c .put-new .result) (c .before .before .main-screen .ensures)
-    (rw (c .before .fresh .ensures) at (c .put-new .ensures))
+    launch-held (a .table .now) (c .before .before .main-screen .result) (c .carry-out .result) (c .before .before .main-screen .ensures)
+    (rw (c .before .fresh .ensures) at (c .carry-out .ensures))
 
 pub launch-spec : {M : Type 1} → statement M
-launch-spec = tie.close (tie.spec main-screen-requires fresh-requires put-new-requires returns)
+launch-spec = tie.close (tie.spec main-screen-requires fresh-requires carry-out-requires returns)

@@ -1,22 +1,19 @@
 -- `search::by_affinity` meets its contract. The loop's invariant: the place sought is the place in what is left, counted
 -- behind the tasks that were passed.
-use Prim.Native.Nat.{ℕ, _+_, _-_, _*_, _≤_, _<_}
-use mathlib.Core.Path.{_≡_, sym, _∙_, ap}
-use mathlib.Core.Bool.{Bool, true, false, not, _&&_}
-use mathlib.Core.List.{List}
+use Prim.Native.Nat.{_+_, _-_, _*_, _≤_, _<_}
+use mathlib.Core.Path.{_≡_, sym, _∙_}
+use mathlib.Core.Bool.{not, _&&_}
 use native.Mathlib.Omega.{arith}
 use borrow.Author.Needs.{needs}
 use lib.ListN.{length, drop, getD}
 use lib.Dec.{eqb}
 use Rattle.model.specs.Lists.{find}
-use Rattle.model.specs.Table.{sizeOf, modeOf, affinityOf, isSingleInstance}
-use Rattle.model.specs.Session.{Stack, noStack, count}
+use Rattle.model.specs.Session.{noStack, count}
 use Rattle.model.specs.Search.{hasAffinity}
 use Rattle.model.proofs.Tables.{good-shaped}
 use Rattle.session.specs.Stored.{view, noTask}
-use Rattle.session.proofs.Known.{Sized, sized, long}
-use Rattle.session.proofs.StoredLaws.{view-count, view-root, sound-blank, blank-few}
-use Rattle.search.specs.Ready.{ReadyFor}
+use Rattle.session.proofs.Known.{sized}
+use Rattle.session.proofs.StoredLaws.{view-count, sound-blank, blank-few}
 use Rattle.search.proofs.Roots.{root-known, affinity-test}
 use Rattle.search.proofs.Steps.{behind, find-begin, find-end, find-here, find-next}
 use Rattle.search.proofs.by_affinity.Statement.{statement}

@@ -1,14 +1,13 @@
 -- `search::by_root` meets its contract. The loop's invariant: the place sought is the place in what is left, counted
 -- behind the tasks that were passed.
-use Prim.Native.Nat.{_+_, _-_, _≤_, _<_}
-use mathlib.Core.Path.{_≡_, sym, _∙_, ap}
+use Prim.Native.Nat.{_-_, _≤_, _<_}
+use mathlib.Core.Path.{_≡_, sym, _∙_}
 use native.Mathlib.Omega.{arith}
 use borrow.Author.Needs.{needs}
 use borrow.Author.Tests.{eq-eqb, ne-eqb}
-use lib.ListN.{length, drop, getD}
-use lib.Dec.{eqb}
+use lib.ListN.{drop}
 use Rattle.model.specs.Lists.{find}
-use Rattle.model.specs.Session.{Stack, noStack, count}
+use Rattle.model.specs.Session.{noStack}
 use Rattle.model.specs.Search.{hasRoot}
 use Rattle.session.specs.Stored.{view}
 use Rattle.session.proofs.Known.{sized, long}

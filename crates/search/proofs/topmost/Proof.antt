@@ -1,11 +1,11 @@
 -- `search::topmost` meets its contract. The loop's invariant: the place sought is the place in what is left, counted
 -- below the screens that were passed.
-use Prim.Native.Nat.{suc, _+_, _-_, _≤_, _<_}
-use mathlib.Core.Path.{_≡_, sym, _∙_, ap}
+use Prim.Native.Nat.{suc, _+_, _-_, _≤_}
+use mathlib.Core.Path.{_≡_, sym, _∙_}
 use native.Mathlib.Omega.{arith}
 use borrow.Author.Needs.{needs}
 use borrow.Author.Tests.{eq-eqb, ne-eqb}
-use lib.ListN.{length, drop, getD}
+use lib.ListN.{length, drop}
 use lib.Dec.{eqb}
 use Rattle.model.specs.Lists.{find}
 use Rattle.session.specs.Stored.{viewTask}

@@ -14,7 +14,6 @@ mod counts;
 mod limits;
 mod make;
 mod outside;
-mod random;
 mod shrink;
 mod sweep;
 
@@ -22,8 +21,9 @@ use std::path::PathBuf;
 use std::process::ExitCode;
 use std::time::Instant;
 
+use second::random::Random;
+
 use check::{Checker, Difference};
-use random::Random;
 
 struct Options {
     player: PathBuf,

@@ -2,35 +2,17 @@
 //! and random ones of several styles.
 
 use second::play::{Player, RECORD};
-use second::table::{ALL_FLAGS, MULTIPLE_TASK, NEW_TASK};
+use second::random::Random;
+use second::table::{flag_word, ALL_FLAGS, FLAGS, MULTIPLE_TASK, NEW_TASK};
 
 use crate::check::Input;
-use crate::random::Random;
 
 /// The table of the paper's examples.
 pub const T: [u8; 14] = [6, 0, 0, 1, 0, 1, 1, 1, 2, 2, 3, 1, 0, 2];
 
-/// The six flags, one by one.
-const FLAGS: [u32; 6] = [
-    0x1000_0000,
-    0x2000_0000,
-    0x0800_0000,
-    0x0400_0000,
-    0x0002_0000,
-    0x0000_8000,
-];
-
 pub fn record(kind: u8, screen: u8, flags: u32) -> [u8; RECORD] {
     let [a, b, c, d] = flags.to_be_bytes();
     [kind, screen, a, b, c, d]
-}
-
-/// The set of flags whose number, below 64, has these bits.
-pub fn flag_word(number: u32) -> u32 {
-    (0..6)
-        .filter(|bit| number >> bit & 1 == 1)
-        .map(|bit| FLAGS[bit as usize])
-        .sum()
 }
 
 /// The inputs that are the same for every seed.
@@ -131,15 +113,6 @@ pub fn fixed() -> Vec<Input> {
     }
     add("every kind, screen and flag bit", &T, &all);
     inputs
-}
-
-/// A random table of these many screens.
-fn table(random: &mut Random, n: u8, affinities: u16, modes: &[u64; 4]) -> Vec<u8> {
-    let mut table = vec![n, random.byte(u16::from(n))];
-    for _ in 0..n {
-        table.extend([random.weighted(modes) as u8, random.byte(affinities)]);
-    }
-    table
 }
 
 /// How a stretch of records is made.
@@ -284,7 +257,7 @@ pub fn random(random: &mut Random, limit: u64) -> Input {
         2 => random.one_of(&[[6, 2, 2, 0], [5, 3, 1, 1], [3, 1, 3, 1]]),
         _ => random.one_of(&[[1, 1, 1, 1], [4, 2, 2, 1], [6, 1, 0, 1], [2, 0, 3, 2]]),
     };
-    let table = table(random, n, affinities, &modes);
+    let table = random.table(n, affinities, &modes);
     let mut player = Player::open(&mut &table[..])
         .expect("bytes in memory can be read")
         .expect("the table is whole");

@@ -5,6 +5,7 @@
 use std::fmt;
 use std::path::Path;
 
+use second::hex::hex;
 use second::play::RECORD;
 
 use crate::check::{expected, Difference, Input};
@@ -151,13 +152,4 @@ impl fmt::Display for Difference {
             }
         }
     }
-}
-
-/// Bytes in hex, spaces between groups of this size.
-fn hex(bytes: &[u8], group: usize) -> String {
-    let groups: Vec<String> = bytes
-        .chunks(group)
-        .map(|chunk| chunk.iter().map(|byte| format!("{byte:02x}")).collect())
-        .collect();
-    groups.join(" ")
 }

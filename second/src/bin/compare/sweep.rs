@@ -13,10 +13,11 @@ use std::collections::HashSet;
 use std::fmt;
 
 use second::play::{Player, RECORD};
+use second::table::flag_word;
 use second::{Session, Table};
 
 use crate::check::{Checker, Difference, Input};
-use crate::make::{flag_word, record};
+use crate::make::record;
 
 /// The largest sessions from which calls are made.
 const TASKS: usize = 3;

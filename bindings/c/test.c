@@ -1,0 +1,232 @@
+/* The header against the static library: layout, the examples of document 01, each refusal, save and restore. */
+#include <stdbool.h>
+#include <stdio.h>
+#include <string.h>
+
+#include "milchkompass.h"
+
+#define SIZED(type, size) _Static_assert(sizeof(type) == (size), #type)
+#define PLACED(type, field, size, offset)                                                                              \
+    _Static_assert(sizeof(((type *)0)->field) == (size) && offsetof(type, field) == (offset), #type "." #field)
+
+SIZED(milchkompass_task, 34);
+PLACED(milchkompass_task, root, 1, 0);
+PLACED(milchkompass_task, height, 1, 1);
+PLACED(milchkompass_task, screens, 32, 2);
+
+SIZED(milchkompass_session, 546);
+PLACED(milchkompass_session, tasks, 16 * 34, 0);
+PLACED(milchkompass_session, n, 1, 544);
+PLACED(milchkompass_session, main, 1, 545);
+
+SIZED(milchkompass_answer, 6);
+PLACED(milchkompass_answer, refusal, 1, 0);
+PLACED(milchkompass_answer, screen, 1, 1);
+PLACED(milchkompass_answer, root, 1, 2);
+PLACED(milchkompass_answer, height, 1, 3);
+PLACED(milchkompass_answer, tasks, 1, 4);
+PLACED(milchkompass_answer, main, 1, 5);
+
+SIZED(milchkompass_save_reply, 16);
+PLACED(milchkompass_save_reply, refusal, 1, 0);
+PLACED(milchkompass_save_reply, length, 8, 8);
+
+/* The six flags by document 01's short names. */
+#define NTK FLAG_ACTIVITY_NEW_TASK
+#define STP FLAG_ACTIVITY_SINGLE_TOP
+#define MTK FLAG_ACTIVITY_MULTIPLE_TASK
+#define CTP FLAG_ACTIVITY_CLEAR_TOP
+#define RTF FLAG_ACTIVITY_REORDER_TO_FRONT
+#define CTK FLAG_ACTIVITY_CLEAR_TASK
+
+typedef milchkompass_session session;
+typedef milchkompass_answer answer;
+
+/* Table T of document 01, and the same with its length. */
+static const uint8_t table_t[] = {6, 0, LAUNCH_MULTIPLE, 1, LAUNCH_MULTIPLE, 1, LAUNCH_SINGLE_TOP, 1,
+                                  LAUNCH_SINGLE_TASK, 2, LAUNCH_SINGLE_INSTANCE, 1, LAUNCH_MULTIPLE, 2};
+#define T table_t, sizeof table_t
+
+/* P10: 3:[3] 0:[1,0], m 2, and its image. */
+static const session p10 = {{{3, 1, {3}}, {0, 2, {0, 1}}}, 2, 2};
+static const uint8_t p10_image[] = {3, 1, 3, 0, 2, 1, 0, 0, 7, 2, 2, 8, 0x42};
+
+static int checks, failures;
+
+static void expect(bool holds, const char *what) {
+    checks++;
+    if (!holds) {
+        failures++;
+        printf("wrong: %s\n", what);
+    }
+}
+
+static bool same(session s, session t) {
+    return memcmp(&s, &t, sizeof s) == 0;
+}
+
+/* The call answers these six numbers. */
+#define ANSWERS(call, ...)                                                                                             \
+    do {                                                                                                               \
+        answer got = call, wanted = {__VA_ARGS__};                                                                     \
+        expect(memcmp(&got, &wanted, sizeof got) == 0, #call);                                                         \
+    } while (0)
+
+/* The call on a copy `s` of the session answers this refusal, and the copy keeps its bytes. */
+#define REFUSED(number, before, call)                                                                                  \
+    do {                                                                                                               \
+        session s = before;                                                                                            \
+        ANSWERS(call, number, 0, 0, 0, 0, 0);                                                                          \
+        expect(same(s, before), #call ": the session");                                                                \
+    } while (0)
+
+/* The save answers this refusal, and the buffer keeps its bytes. */
+static void save_refused(uint8_t number, const uint8_t *table, size_t length, session s, size_t room) {
+    uint8_t out[MILCHKOMPASS_IMAGE_MAX], before[sizeof out];
+    memset(out, 0xee, sizeof out);
+    memcpy(before, out, sizeof out);
+    milchkompass_save_reply reply = milchkompass_save(table, length, s, out, room);
+    expect(reply.refusal == number && reply.length == 0, "a refused save");
+    expect(memcmp(out, before, sizeof out) == 0, "a refused save: the buffer");
+}
+
+/* The player's example, call by call. */
+static void example(void) {
+    session s = {0};
+    ANSWERS(milchkompass_look(T, &s), 0, 0, 0, 0, 0, 0);
+    ANSWERS(milchkompass_launch(T, &s), 0, 0, 0, 1, 1, 1);
+    ANSWERS(milchkompass_start(T, &s, 1, 0), 0, 1, 0, 2, 1, 1);
+    ANSWERS(milchkompass_start(T, &s, 3, 0), 0, 3, 3, 1, 2, 2);
+    expect(same(s, p10), "the session of P10");
+    ANSWERS(milchkompass_look(T, &s), 0, 3, 3, 1, 2, 2);
+    expect(same(s, p10), "a look changes nothing");
+    ANSWERS(milchkompass_finish_start(T, &s, 0, NTK), 0, 0, 0, 3, 1, 1);
+    ANSWERS(milchkompass_back(T, &s), 0, 1, 0, 2, 1, 1);
+    ANSWERS(milchkompass_back(T, &s), 0, 0, 0, 1, 1, 1);
+    ANSWERS(milchkompass_back(T, &s), 0, 0, 0, 0, 0, 0);
+    ANSWERS(milchkompass_back(T, &s), 21, 0, 0, 0, 0, 0);
+    expect(same(s, (session){0}), "the end of the example is a fresh session");
+}
+
+/* One of the stacks P1 to P9: a start, or a finishing one. */
+typedef struct stack {
+    const char *name;
+    session before;
+    bool finishing;
+    uint8_t b;
+    uint32_t word;
+    session after;
+} stack;
+
+/* Screens stand bottom first. */
+static const stack stacks[] = {
+    {"P1", {{{0, 3, {0, 1, 2}}}, 1, 1}, false, 1, RTF, {{{0, 3, {0, 2, 1}}}, 1, 1}},
+    {"P2", {{{0, 3, {0, 1, 2}}}, 1, 1}, false, 1, CTP, {{{0, 2, {0, 1}}}, 1, 1}},
+    {"P2, both", {{{0, 3, {0, 1, 2}}}, 1, 1}, false, 1, CTP | RTF, {{{0, 2, {0, 1}}}, 1, 1}},
+    {"P3", {{{0, 3, {0, 1, 2}}}, 1, 1}, false, 2, 0, {{{0, 3, {0, 1, 2}}}, 1, 1}},
+    {"P4", {{{4, 1, {4}}, {3, 1, {3}}, {0, 2, {0, 1}}}, 3, 3}, false, 1, 0,
+           {{{0, 3, {0, 1, 1}}, {4, 1, {4}}, {3, 1, {3}}}, 3, 1}},
+    {"P5", {{{4, 1, {4}}, {3, 1, {3}}, {0, 2, {0, 1}}}, 3, 3}, false, 1, STP,
+           {{{0, 2, {0, 1}}, {4, 1, {4}}, {3, 1, {3}}}, 3, 1}},
+    {"P6", {{{5, 2, {5, 1}}, {0, 1, {0}}}, 2, 2}, false, 5, NTK, {{{5, 2, {5, 1}}, {0, 1, {0}}}, 2, 2}},
+    {"P7", {{{3, 1, {3}}, {0, 1, {0}}}, 2, 2}, false, 3, NTK | MTK, {{{3, 1, {3}}, {0, 1, {0}}}, 2, 2}},
+    {"P8", {{{0, 1, {0}}}, 1, 1}, true, 0, NTK | CTK, {{{0, 1, {0}}}, 1, 1}},
+    {"P9", {{{0, 1, {0}}}, 1, 1}, true, 0, NTK | STP, {{{0}}, 0, 0}},
+};
+
+static void play_stacks(void) {
+    for (size_t i = 0; i < sizeof stacks / sizeof *stacks; i++) {
+        const stack *p = &stacks[i];
+        session s = p->before;
+        answer a = p->finishing ? milchkompass_finish_start(T, &s, p->b, p->word)
+                                : milchkompass_start(T, &s, p->b, p->word);
+        expect(a.refusal == MILCHKOMPASS_ACCEPTED && same(s, p->after), p->name);
+    }
+}
+
+/* P10's image, there and back, byte for byte. */
+static void save_and_restore(void) {
+    uint8_t out[sizeof p10_image + 1];
+    memset(out, 0xee, sizeof out);
+    milchkompass_save_reply reply = milchkompass_save(T, p10, out, sizeof out);
+    expect(reply.refusal == MILCHKOMPASS_ACCEPTED && reply.length == sizeof p10_image, "save of P10");
+    expect(memcmp(out, p10_image, sizeof p10_image) == 0, "the image of P10");
+    expect(out[sizeof p10_image] == 0xee, "the rest of the buffer");
+    session s = {0};
+    ANSWERS(milchkompass_restore(T, &s, out, reply.length), 0, 3, 3, 1, 2, 2);
+    expect(same(s, p10), "restore of P10");
+}
+
+/* Every call is refused by this number, whatever else it is given. */
+static void all_refused(uint8_t number, const uint8_t *table, size_t length, session before) {
+    REFUSED(number, before, milchkompass_launch(table, length, &s));
+    REFUSED(number, before, milchkompass_start(table, length, &s, 255, 1));
+    REFUSED(number, before, milchkompass_finish_start(table, length, &s, 255, 1));
+    REFUSED(number, before, milchkompass_back(table, length, &s));
+    REFUSED(number, before, milchkompass_look(table, length, &s));
+    REFUSED(number, before, milchkompass_restore(table, length, &s, p10_image, 5));
+    save_refused(number, table, length, before, 0);
+}
+
+/* Refusals 1, 2 and 20. */
+static void shared_refusals(void) {
+    const uint8_t no_main[] = {1, 1, LAUNCH_MULTIPLE, 0}, bad_mode[] = {1, 0, 4, 0};
+    const session unsound = {{{0}}, 0, 1};
+    all_refused(MILCHKOMPASS_TABLE_LENGTH, table_t, sizeof table_t - 1, unsound);
+    all_refused(MILCHKOMPASS_TABLE_CONTENT, no_main, sizeof no_main, unsound);
+    all_refused(MILCHKOMPASS_TABLE_CONTENT, bad_mode, sizeof bad_mode, unsound);
+    all_refused(MILCHKOMPASS_SESSION_UNSOUND, T, unsound);
+}
+
+/* Refusals 3, 4, 21 and 22. */
+static void call_refusals(void) {
+    const session fresh = {0};
+    REFUSED(MILCHKOMPASS_NO_SUCH_SCREEN, p10, milchkompass_start(T, &s, 6, 1));
+    REFUSED(MILCHKOMPASS_NO_SUCH_SCREEN, p10, milchkompass_finish_start(T, &s, 6, 1));
+    REFUSED(MILCHKOMPASS_OTHER_FLAG, fresh, milchkompass_start(T, &s, 0, 1));
+    REFUSED(MILCHKOMPASS_OTHER_FLAG, fresh, milchkompass_finish_start(T, &s, 0, 1));
+    REFUSED(MILCHKOMPASS_EMPTY, fresh, milchkompass_start(T, &s, 0, 0));
+    REFUSED(MILCHKOMPASS_EMPTY, fresh, milchkompass_finish_start(T, &s, 0, 0));
+    REFUSED(MILCHKOMPASS_EMPTY, fresh, milchkompass_back(T, &s));
+    REFUSED(MILCHKOMPASS_NOT_EMPTY, p10, milchkompass_launch(T, &s));
+}
+
+/* Refusals 5, 6, 7 and 8. */
+static void image_refusals(void) {
+    const uint8_t half_task[] = {3, 0, 1, 1, 0, 8, 0x42}, other_root[] = {1, 1, 1, 0, 3, 1, 1, 8, 0x42};
+    REFUSED(MILCHKOMPASS_IMAGE_TRAILER, p10, milchkompass_restore(T, &s, p10_image, sizeof p10_image - 1));
+    REFUSED(MILCHKOMPASS_IMAGE_TASKS, p10, milchkompass_restore(T, &s, half_task, sizeof half_task));
+    REFUSED(MILCHKOMPASS_IMAGE_UNSOUND, p10, milchkompass_restore(T, &s, other_root, sizeof other_root));
+    save_refused(MILCHKOMPASS_BUFFER_SHORT, T, p10, sizeof p10_image - 1);
+}
+
+/* Refusals 23 and 24: a session of 16 tasks, and a task of 32 screens; one less takes one more. */
+static void full(void) {
+    session s = {0};
+    milchkompass_launch(T, &s);
+    for (int i = 2; i <= MILCHKOMPASS_TASKS; i++)
+        ANSWERS(milchkompass_start(T, &s, 0, NTK | MTK), 0, 0, 0, 1, i, i);
+    const session tasks = s;
+    REFUSED(MILCHKOMPASS_TASKS_FULL, tasks, milchkompass_start(T, &s, 0, NTK | MTK));
+    REFUSED(MILCHKOMPASS_TASKS_FULL, tasks, milchkompass_finish_start(T, &s, 0, NTK | MTK));
+    s = (session){0};
+    milchkompass_launch(T, &s);
+    for (int i = 2; i <= MILCHKOMPASS_SCREENS; i++)
+        ANSWERS(milchkompass_start(T, &s, 1, 0), 0, 1, 0, i, 1, 1);
+    const session screens = s;
+    REFUSED(MILCHKOMPASS_TASK_FULL, screens, milchkompass_start(T, &s, 1, 0));
+    REFUSED(MILCHKOMPASS_TASK_FULL, screens, milchkompass_finish_start(T, &s, 1, 0));
+    ANSWERS(milchkompass_start(T, &s, 0, RTF), 0, 0, 0, 32, 1, 1);
+}
+
+int main(void) {
+    example();
+    play_stacks();
+    save_and_restore();
+    shared_refusals();
+    call_refusals();
+    image_refusals();
+    full();
+    printf("c: %d checks, %d wrong\n", checks, failures);
+    return failures != 0;
+}

@@ -1,0 +1,145 @@
+//! A session and the calls on it.
+
+use std::fmt;
+
+use crate::raw;
+use crate::{Flags, Refusal, Table};
+
+/// What an accepted call leaves in front. An empty session gives zeros.
+#[derive(Clone, Copy, Debug, Default, PartialEq, Eq, Hash)]
+pub struct Answer {
+    /// The front screen.
+    pub screen: u8,
+    /// The screen that created the front task.
+    pub root: u8,
+    /// How many screens the front task has.
+    pub height: u8,
+    /// How many tasks there are.
+    pub tasks: u8,
+    /// The place (from 1) of the task made by launch, 0 if it is gone.
+    pub main: u8,
+}
+
+impl Answer {
+    /// The session is empty: no screen is in front.
+    pub const fn is_empty(self) -> bool {
+        self.tasks == 0
+    }
+}
+
+/// A session under its table. Two are equal where table and session are; no
+/// list of calls tells equal ones apart.
+///
+/// It shows its tasks, front first, as `root:[top,..,bottom]`, and the main
+/// place: `3:[3] 0:[1,0], m 2`.
+#[derive(Clone, PartialEq, Eq)]
+pub struct Navigator {
+    table: Table,
+    session: raw::Session,
+}
+
+impl Navigator {
+    /// A fresh session: no task.
+    pub fn new(table: Table) -> Navigator {
+        Navigator {
+            table,
+            session: raw::Session::FRESH,
+        }
+    }
+
+    /// The table.
+    pub fn table(&self) -> &Table {
+        &self.table
+    }
+
+    /// Launch: one task of the main screen alone, which is the main task.
+    /// Refused with [`NotEmpty`](Refusal::NotEmpty).
+    pub fn launch(&mut self) -> Result<Answer, Refusal> {
+        outcome(raw::launch(self.table.bytes(), &mut self.session))
+    }
+
+    /// Start of a screen, by the first of the rules R1 to R18 that fits.
+    /// Refused with [`NoSuchScreen`](Refusal::NoSuchScreen),
+    /// [`OtherFlag`](Refusal::OtherFlag), [`Empty`](Refusal::Empty), then
+    /// [`TasksFull`](Refusal::TasksFull) or [`TaskFull`](Refusal::TaskFull).
+    pub fn start(&mut self, screen: u8, flags: Flags) -> Result<Answer, Refusal> {
+        let table = self.table.bytes();
+        outcome(raw::start(table, &mut self.session, screen, flags.bits()))
+    }
+
+    /// Finishing start: as [`start`](Navigator::start), and then the screen
+    /// that was in front is removed, if it still stands. Refused as a start is.
+    pub fn finish_start(&mut self, screen: u8, flags: Flags) -> Result<Answer, Refusal> {
+        let (table, word) = (self.table.bytes(), flags.bits());
+        outcome(raw::finish_start(table, &mut self.session, screen, word))
+    }
+
+    /// Back: the front screen goes, and its task too if that was its last.
+    /// Refused with [`Empty`](Refusal::Empty).
+    pub fn back(&mut self) -> Result<Answer, Refusal> {
+        outcome(raw::back(self.table.bytes(), &mut self.session))
+    }
+
+    /// Look: what is in front now.
+    pub fn look(&self) -> Answer {
+        outcome(raw::look(self.table.bytes(), &self.session)).expect(NEVER)
+    }
+
+    /// Save: the session's image.
+    pub fn save(&self) -> Vec<u8> {
+        let mut image = vec![0; raw::IMAGE_MAX];
+        let length = self.save_into(&mut image).expect(NEVER);
+        image.truncate(length);
+        image
+    }
+
+    /// Save at the start of a buffer: the image's length. The rest of the
+    /// buffer stays. Refused with [`BufferShort`](Refusal::BufferShort).
+    pub fn save_into(&self, buffer: &mut [u8]) -> Result<usize, Refusal> {
+        let reply = raw::save(self.table.bytes(), &self.session, buffer);
+        Refusal::check(reply.refusal)?;
+        Ok(reply.length)
+    }
+
+    /// Restore: the session of a whole image, in the place of the present one.
+    /// Refused with [`ImageTrailer`](Refusal::ImageTrailer),
+    /// [`ImageTasks`](Refusal::ImageTasks), then
+    /// [`ImageUnsound`](Refusal::ImageUnsound).
+    pub fn restore(&mut self, image: &[u8]) -> Result<Answer, Refusal> {
+        outcome(raw::restore(self.table.bytes(), &mut self.session, image))
+    }
+}
+
+/// The table is good, the session was fresh, and calls keep it sound.
+const NEVER: &str = "refused only where table or session are bad";
+
+fn outcome(answer: raw::Answer) -> Result<Answer, Refusal> {
+    Refusal::check(answer.refusal)?;
+    Ok(Answer {
+        screen: answer.screen,
+        root: answer.root,
+        height: answer.height,
+        tasks: answer.tasks,
+        main: answer.main,
+    })
+}
+
+impl fmt::Display for Navigator {
+    fn fmt(&self, f: &mut fmt::Formatter) -> fmt::Result {
+        let tasks = &self.session.tasks[..usize::from(self.session.n)];
+        for (i, task) in tasks.iter().enumerate() {
+            let screens = task.screens[..usize::from(task.height)].iter().rev();
+            let screens: Vec<String> = screens.map(u8::to_string).collect();
+            let space = if i == 0 { "" } else { " " };
+            write!(f, "{space}{}:[{}]", task.root, screens.join(","))?;
+        }
+        let comma = if tasks.is_empty() { "" } else { ", " };
+        write!(f, "{comma}m {}", self.session.main)
+    }
+}
+
+impl fmt::Debug for Navigator {
+    fn fmt(&self, f: &mut fmt::Formatter) -> fmt::Result {
+        write!(f, "Navigator({self})")
+    }
+}

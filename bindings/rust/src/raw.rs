@@ -1,0 +1,127 @@
+//! The static library, as it declares itself to C: a slice is a pointer and a
+//! length.
+
+/// The limits of a session: its tasks, and the screens of a task.
+const TASKS: usize = 16;
+const SCREENS: usize = 32;
+
+/// The longest image of a session.
+pub const IMAGE_MAX: usize = TASKS * (2 + SCREENS) + 6;
+
+/// A task, its screens bottom first.
+#[repr(C)]
+#[derive(Clone, Copy, PartialEq, Eq)]
+pub struct Task {
+    pub root: u8,
+    pub height: u8,
+    pub screens: [u8; SCREENS],
+}
+
+/// A session: n tasks, front first, and the main place.
+#[repr(C)]
+#[derive(Clone, Copy, PartialEq, Eq)]
+pub struct Session {
+    pub tasks: [Task; TASKS],
+    pub n: u8,
+    pub main: u8,
+}
+
+impl Session {
+    pub const FRESH: Session = Session {
+        tasks: [Task {
+            root: 0,
+            height: 0,
+            screens: [0; SCREENS],
+        }; TASKS],
+        n: 0,
+        main: 0,
+    };
+}
+
+/// An answer: six numbers.
+#[repr(C)]
+pub struct Answer {
+    pub refusal: u8,
+    pub screen: u8,
+    pub root: u8,
+    pub height: u8,
+    pub tasks: u8,
+    pub main: u8,
+}
+
+/// What a save gives.
+#[repr(C)]
+pub struct SaveReply {
+    pub refusal: u8,
+    pub length: usize,
+}
+
+extern "C" {
+    fn milchkompass_launch(table: *const u8, table_length: usize, s: *mut Session) -> Answer;
+    fn milchkompass_start(
+        table: *const u8,
+        table_length: usize,
+        s: *mut Session,
+        b: u8,
+        word: u32,
+    ) -> Answer;
+    fn milchkompass_finish_start(
+        table: *const u8,
+        table_length: usize,
+        s: *mut Session,
+        b: u8,
+        word: u32,
+    ) -> Answer;
+    fn milchkompass_back(table: *const u8, table_length: usize, s: *mut Session) -> Answer;
+    fn milchkompass_look(table: *const u8, table_length: usize, s: *mut Session) -> Answer;
+    fn milchkompass_save(
+        table: *const u8,
+        table_length: usize,
+        s: Session,
+        out: *mut u8,
+        out_length: usize,
+    ) -> SaveReply;
+    fn milchkompass_restore(
+        table: *const u8,
+        table_length: usize,
+        s: *mut Session,
+        image: *const u8,
+        image_length: usize,
+    ) -> Answer;
+}
+
+// SAFETY of each call below: pointers and lengths are those of whole slices,
+// what is written is borrowed for writing and so apart from the rest, and the
+// library keeps no pointer. It takes any bytes.
+
+pub fn launch(table: &[u8], s: &mut Session) -> Answer {
+    unsafe { milchkompass_launch(table.as_ptr(), table.len(), s) }
+}
+
+pub fn start(table: &[u8], s: &mut Session, b: u8, word: u32) -> Answer {
+    unsafe { milchkompass_start(table.as_ptr(), table.len(), s, b, word) }
+}
+
+pub fn finish_start(table: &[u8], s: &mut Session, b: u8, word: u32) -> Answer {
+    unsafe { milchkompass_finish_start(table.as_ptr(), table.len(), s, b, word) }
+}
+
+pub fn back(table: &[u8], s: &mut Session) -> Answer {
+    unsafe { milchkompass_back(table.as_ptr(), table.len(), s) }
+}
+
+/// A copy is lent: a look changes nothing.
+pub fn look(table: &[u8], s: &Session) -> Answer {
+    let mut copy = *s;
+    unsafe { milchkompass_look(table.as_ptr(), table.len(), &mut copy) }
+}
+
+pub fn save(table: &[u8], s: &Session, out: &mut [u8]) -> SaveReply {
+    let (bytes, length) = (out.as_mut_ptr(), out.len());
+    unsafe { milchkompass_save(table.as_ptr(), table.len(), *s, bytes, length) }
+}
+
+pub fn restore(table: &[u8], s: &mut Session, image: &[u8]) -> Answer {
+    let (bytes, length) = (image.as_ptr(), image.len());
+    unsafe { milchkompass_restore(table.as_ptr(), table.len(), s, bytes, length) }
+}

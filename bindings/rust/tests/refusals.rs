@@ -1,0 +1,94 @@
+//! Every refusal that a caller can provoke, and that it changes nothing. 20
+//! cannot be: the session of a navigator is its own.
+
+mod common;
+
+use common::{image, navigator, table_t};
+use milchkompass::{Flags, LaunchMode, Navigator, Refusal, Screen, Table};
+
+const PLAIN: Screen = Screen::new(LaunchMode::Standard, 0);
+
+#[test]
+fn tables() {
+    for length in [0, 65, 255, 256, 1000] {
+        let screens = vec![PLAIN; length];
+        assert_eq!(Table::new(0, &screens), Err(Refusal::TableLength));
+    }
+    assert!(Table::new(63, &[PLAIN; 64]).is_ok());
+    assert_eq!(Table::new(64, &[PLAIN; 64]), Err(Refusal::TableContent));
+    for bytes in [&[][..], &[1], &[1, 0, 0], &[1, 0, 0, 0, 0]] {
+        assert_eq!(Table::from_bytes(bytes), Err(Refusal::TableLength));
+    }
+    let above_3 = Table::from_bytes(&[1, 0, 4, 0]);
+    assert_eq!(above_3, Err(Refusal::TableContent));
+}
+
+/// A start and a finishing start are both refused so, and change nothing.
+fn starts_refused(before: &Navigator, screen: u8, flags: Flags, refusal: Refusal) {
+    let mut n = before.clone();
+    assert_eq!(n.start(screen, flags), Err(refusal));
+    assert_eq!(n.finish_start(screen, flags), Err(refusal));
+    assert_eq!(&n, before);
+}
+
+#[test]
+fn starts() {
+    let fresh = Navigator::new(table_t());
+    let other = Flags::from_bits(1);
+    starts_refused(&fresh, 6, other, Refusal::NoSuchScreen);
+    starts_refused(&fresh, 0, other, Refusal::OtherFlag);
+    starts_refused(&fresh, 0, Flags::NONE, Refusal::Empty);
+}
+
+#[test]
+fn full_sessions_and_tasks() {
+    let apart = Flags::NEW_TASK | Flags::MULTIPLE_TASK;
+    let task: (u8, &[u8]) = (0, &[0]);
+    let tasks = navigator(&[task; 16], 1);
+    starts_refused(&tasks, 0, apart, Refusal::TasksFull);
+    let mut room = navigator(&[task; 15], 1);
+    assert!(room.start(0, apart).is_ok());
+    let screens = navigator(&[(0, &[0; 32])], 1);
+    starts_refused(&screens, 1, Flags::NONE, Refusal::TaskFull);
+    let mut room = navigator(&[(0, &[0; 31])], 1);
+    assert!(room.start(1, Flags::NONE).is_ok());
+}
+
+#[test]
+fn launch_and_back() {
+    let mut fresh = Navigator::new(table_t());
+    assert_eq!(fresh.back(), Err(Refusal::Empty));
+    assert_eq!(fresh, Navigator::new(table_t()));
+    let before = navigator(&[(3, &[3]), (0, &[1, 0])], 2);
+    let mut n = before.clone();
+    assert_eq!(n.launch(), Err(Refusal::NotEmpty));
+    assert_eq!(n, before);
+}
+
+#[test]
+fn images() {
+    let before = navigator(&[(3, &[3]), (0, &[1, 0])], 2);
+    let cut = &before.save()[1..];
+    for (image, refusal) in [
+        (cut, Refusal::ImageTrailer),
+        (&[], Refusal::ImageTrailer),
+        (&image(&[(0, &[])], 0), Refusal::ImageTasks),
+        (&image(&[(0, &[6])], 0), Refusal::ImageUnsound),
+        (&image(&[(0, &[4])], 0), Refusal::ImageUnsound),
+    ] {
+        let mut n = before.clone();
+        assert_eq!(n.restore(image), Err(refusal));
+        assert_eq!(n, before);
+    }
+    let mut buffer = [0xee; 12];
+    assert_eq!(before.save_into(&mut buffer), Err(Refusal::BufferShort));
+    assert_eq!(buffer, [0xee; 12]);
+}
+
+#[test]
+fn errors() {
+    let error: Box<dyn std::error::Error> = Box::new(Refusal::NotEmpty);
+    assert_eq!(error.to_string(), "refusal 22: launch: not empty");
+    let numbers: Vec<u8> = Refusal::ALL.iter().map(|r| r.number()).collect();
+    assert_eq!(numbers, [1, 2, 3, 4, 5, 6, 7, 8, 20, 21, 22, 23, 24]);
+}

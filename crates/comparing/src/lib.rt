@@ -1,0 +1,142 @@
+// The program `same`: reads two recordings, prints whether their endings are alike, or where they are told apart.
+// It only reads, calls and writes; what it prints is the business of `endings`. Of an input that it cannot take it says what
+// is wrong on standard error, and prints nothing.
+
+ghost use Prim.Native.Nat.{_≤_};
+ghost use mathlib.Core.Path.{_≡_};
+ghost use mathlib.Core.Bool.{true, false};
+ghost use lib.ListN.{length, take};
+ghost use Rattle.model.specs.Table.{tableRefusal};
+ghost use Rattle.model.specs.Player.{tableIn};
+use libc::STDERR_FILENO;
+use libc::STDOUT_FILENO;
+
+// A file that was read: whether all of it was, and how many bytes.
+struct Loaded {
+    ok: bool,
+    long: usize,
+}
+
+// A file that is not taken; why was said.
+fn unread() -> Loaded
+    ensures { λ r. ⌜ r ≡ record { ok = false; long = 0 } ⌝ }
+{
+    Loaded { ok: false, long: 0 }
+}
+
+// Says what is wrong with a file.
+fn complain(path: &[u8], what: &[u8]) {
+    io::write_all(STDERR_FILENO, path);
+    io::write_all(STDERR_FILENO, what);
+}
+
+// Reads all that is left of an open file into the buffer.
+fn read_all(fd: i32, path: &[u8], buffer: &mut [u8]) -> Loaded
+    ensures { λ r. ⌜ r .long ≤ length (now (buffer .exit)) ⌝ }
+{
+    let got = io::read_full(fd, buffer);
+    let mut beyond = [0u8; 1];
+    let more = libc::read(fd, &mut beyond);
+    if more < 0 {
+        os::fail(path);
+        return unread();
+    }
+    if more > 0 {
+        complain(path, b": longer than 1048576 bytes\n");
+        return unread();
+    }
+    Loaded {
+        ok: true,
+        long: got,
+    }
+}
+
+// Reads the file with this path into the buffer.
+fn read_file(path: &[u8], buffer: &mut [u8]) -> Loaded
+    ensures { λ r. ⌜ r .long ≤ length (now (buffer .exit)) ⌝ }
+{
+    let fd = os::open_read(path);
+    if fd < 0 {
+        os::fail(path);
+        return unread();
+    }
+    let file = read_all(fd, path, buffer);
+    libc::close(fd);
+    file
+}
+
+// Reads the recording with this path into the buffer. It begins with a good table.
+fn read_recording(path: &[u8], buffer: &mut [u8]) -> Loaded
+    ensures bound { λ r. ⌜ r .long ≤ length (now (buffer .exit)) ⌝ }
+    ensures table { λ r. ⌜ (r .ok ≡ true → tableRefusal (tableIn (take (r .long) (now (buffer .exit)))) ≡ 0) ⌝ }
+{
+    let file = read_file(path, buffer);
+    if !file.ok {
+        return unread();
+    }
+    let long = file.long;
+    let number = endings::table_refusal(&buffer[..long]);
+    if number != 0 {
+        complain(path, b": table refused: ");
+        io::print_decimal(STDERR_FILENO, number as u64);
+        io::write_all(STDERR_FILENO, b"\n");
+        return unread();
+    }
+    file
+}
+
+// Reads the recording that the argument at this place names.
+fn load(place: usize, buffer: &mut [u8]) -> Loaded
+    ensures bound { λ r. ⌜ r .long ≤ length (now (buffer .exit)) ⌝ }
+    ensures table { λ r. ⌜ (r .ok ≡ true → tableRefusal (tableIn (take (r .long) (now (buffer .exit)))) ≡ 0) ⌝ }
+{
+    let mut path = io::buffer();
+    let n = os::arg(place, &mut path);
+    if os::errno() != 0 {
+        os::fail(b"argument");
+        return unread();
+    }
+    read_recording(&path[..n], buffer)
+}
+
+// Prints the verdict on two recordings. Yields its length, or 0 where their tables differ.
+fn tell(first: &[u8], second: &[u8]) -> usize
+    requires { ⌜ tableRefusal (tableIn (now first)) ≡ 0 ⌝ }
+    ensures { λ r. ⌜ r ≤ 78 ⌝ }
+{
+    if !endings::same_table(first, second) {
+        io::write_all(STDERR_FILENO, b"the tables differ\n");
+        return 0;
+    }
+    let d = endings::compare(first, second);
+    let mut out = [0u8; 78];
+    let long = endings::write_verdict(&mut out, d);
+    if !io::write_all(STDOUT_FILENO, &out[..long]) {
+        os::fail(b"standard output");
+    }
+    long
+}
+
+// The verdict on the recordings that the two arguments name. Yields its length, or 0 where there is none. What is read and
+// written no contract can say; what a verdict is stands in `endings`.
+pub fn compare_files() -> usize
+    ensures { λ r. ⌜ r ≤ 78 ⌝ }
+{
+    if os::arg_count() != 3 {
+        io::write_all(STDERR_FILENO, b"usage: same FIRST SECOND\n");
+        return 0;
+    }
+    let mut first = [0u8; 1048576];
+    let one = load(1, &mut first);
+    if !one.ok {
+        return 0;
+    }
+    let mut second = [0u8; 1048576];
+    let other = load(2, &mut second);
+    if !other.ok {
+        return 0;
+    }
+    let i = one.long;
+    let j = other.long;
+    tell(&first[..i], &second[..j])
+}

@@ -1,0 +1,134 @@
+-- One Back, on a sound session that is not empty: its answer is a look at what it leaves, a screen is gone, and with the
+-- look before it the session is known again.
+use Prim.Native.Nat.{ℕ, suc, _+_, _*_, _≤_}
+use mathlib.Core.Path.{_≡_, refl, sym, _∙_, ap, ap₂}
+use mathlib.Core.List.{List, [], _∷_, _++_, head-eq-of-cons-eq, tail-eq-of-cons-eq}
+use native.Mathlib.Nat.{not-suc-le-zero}
+use native.Mathlib.Omega.{arith}
+use lib.ListN.{length}
+use Rattle.model.specs.declared.Answer.{Answer}
+use Rattle.model.specs.Lists.{All}
+use Rattle.model.specs.Refusals.{refusal}
+use Rattle.model.specs.Table.{tableRefusal}
+use Rattle.model.specs.Session.{Stack, State, stack, state, count, fresh, mostTasks, mostHeight}
+use Rattle.model.specs.Deeds.{closeIn, close}
+use Rattle.model.specs.Answers.{outcome, settle, lookAt}
+use Rattle.model.specs.Calls.{Call, back, look, backed, ownChecks, done, call}
+use Rattle.model.specs.Histories.{after, answers}
+use Rattle.model.proofs.Sound.{TaskSound, Sound}
+use Rattle.model.proofs.Keeps.{settled}
+use Rattle.difference.specs.Apart.{screensIn}
+
+-- ---- a list with one call more
+
+module _ (tb : List ℕ) (c : Call) where
+  pub after-last : (s : State ℕ) (cs : List Call) → after tb s (cs ++ c ∷ []) ≡ call tb (after tb s cs) c .session
+  unfolding after
+  after-last s [] = refl
+  after-last s (d ∷ ds) = after-last (call tb s d .session) ds
+
+  pub answers-last : (s : State ℕ) (cs : List Call) → answers tb s (cs ++ c ∷ []) ≡ answers tb s cs ++ call tb (after tb s cs) c .answer ∷ []
+  unfolding after answers
+  answers-last s [] = refl
+  answers-last s (d ∷ ds) = ap (λ (l : List Answer). call tb s d .answer ∷ l) (answers-last (call tb s d .session) ds)
+
+-- ---- the front screen of a session that is not empty
+
+record Fronted (s : State ℕ) : Type 0 where
+  root : ℕ
+  screen : ℕ
+  below : List ℕ
+  behind : List (Stack ℕ)
+  is : s ≡ state (stack root (screen ∷ below) ∷ behind) (s .main)
+
+fronted : (tb : List ℕ) (s : State ℕ) → Sound tb s → 1 ≤ count s → Fronted s
+fronted tb s h some = of-tasks (s .tasks) (s .main) (h .each) some
+  where
+    of-front : (r : ℕ) (xs : List ℕ) (ts : List (Stack ℕ)) (m : ℕ) → 1 ≤ length xs → Fronted (state (stack r xs ∷ ts) m)
+    of-front r [] ts m l = absurd (not-suc-le-zero l)
+    of-front r (x ∷ xs) ts m l = record { root = r; screen = x; below = xs; behind = ts; is = refl }
+
+    of-tasks : (ts : List (Stack ℕ)) (m : ℕ) → All (TaskSound tb) ts → 1 ≤ length ts → Fronted (state ts m)
+    of-tasks [] m h l = absurd (not-suc-le-zero l)
+    of-tasks (t ∷ ts) m h l = of-front (t .root) (t .screens) ts m (h .0 .filled)
+
+-- ---- what a look and a Back give
+
+module _ (tb : List ℕ) (ok : tableRefusal tb ≡ 0) where
+  pub look-gives : (s : State ℕ) → Sound tb s → call tb s look ≡ outcome s (lookAt s)
+  unfolding ownChecks done refusal
+  look-gives s h = settled tb ok s h look
+
+  pub back-gives : (s : State ℕ) → Sound tb s → 1 ≤ count s → call tb s back ≡ outcome (backed s) (lookAt (backed s))
+  unfolding ownChecks done refusal
+  back-gives s h some = settled tb ok s h back ∙ ap (λ (u : State ℕ). settle (refusal (ownChecks tb u back)) s (backed s)) (fronted tb s h some .is)
+
+-- ---- screens
+
+front-screens : (r x : ℕ) (xs : List ℕ) (ts : List (Stack ℕ)) (m : ℕ)
+    → suc (screensIn (backed (state (stack r (x ∷ xs) ∷ ts) m) .tasks)) ≡ screensIn (stack r (x ∷ xs) ∷ ts)
+unfolding backed close closeIn screensIn
+front-screens r x [] ts m = omega arith
+front-screens r x (y ∷ ys) ts m = omega arith
+
+tasks-most : (tb : List ℕ) (ts : List (Stack ℕ)) → All (TaskSound tb) ts → screensIn ts ≤ length ts * mostHeight
+unfolding screensIn
+tasks-most tb [] h = omega arith
+tasks-most tb (t ∷ ts) h = omega (arith, h .0 .low, tasks-most tb ts (h .1))
+
+module _ (tb : List ℕ) (s : State ℕ) (h : Sound tb s) where
+  pub back-screens : 1 ≤ count s → suc (screensIn (backed s .tasks)) ≡ screensIn (s .tasks)
+  back-screens some =
+      let f = fronted tb s h some in
+      rw (f .is) (front-screens (f .root) (f .screen) (f .below) (f .behind) (s .main))
+
+  -- 16 tasks of 32
+  pub screens-most : screensIn (s .tasks) ≤ mostTasks * mostHeight
+  screens-most = omega (arith, tasks-most tb (s .tasks) (h .each), h .few)
+
+-- ---- what a look and the session after a Back tell
+
+empty : (tb : List ℕ) (s : State ℕ) → Sound tb s → count s ≡ 0 → s ≡ fresh
+empty tb s h e = of-tasks (s .tasks) (s .main) (h .place .most) e
+  where
+    of-tasks : (ts : List (Stack ℕ)) (m : ℕ) → m ≤ length ts → length ts ≡ 0 → state ts m ≡ fresh
+    of-tasks [] m l e = let z : m ≡ 0 = omega arith in ap (state []) z
+    of-tasks (t ∷ ts) m l e = absurd (omega arith)
+
+cons-state : {r r′ m m′ : ℕ} {xs xs′ : List ℕ} {ts ts′ : List (Stack ℕ)}
+    → r ≡ r′ → xs ≡ xs′ → ts ≡ ts′ → m ≡ m′ → state (stack r xs ∷ ts) m ≡ state (stack r′ xs′ ∷ ts′) m′
+cons-state p q e f = cc
+
+module _ (r r′ x x′ : ℕ) (ts ts′ : List (Stack ℕ)) (m m′ : ℕ) where
+  -- the screens below the front ones are as many, as the heights say
+  front-tells : (xs xs′ : List ℕ)
+      → lookAt (state (stack r (x ∷ xs) ∷ ts) m) ≡ lookAt (state (stack r′ (x′ ∷ xs′) ∷ ts′) m′)
+      → backed (state (stack r (x ∷ xs) ∷ ts) m) ≡ backed (state (stack r′ (x′ ∷ xs′) ∷ ts′) m′)
+      → state (stack r (x ∷ xs) ∷ ts) m ≡ state (stack r′ (x′ ∷ xs′) ∷ ts′) m′
+  unfolding lookAt backed close closeIn
+  front-tells [] [] q e =
+      cons-state (ap (λ (a : Answer). a .root) q) (ap (λ (a : Answer). a .screen ∷ []) q) (ap (λ (s : State ℕ). s .tasks) e) (ap (λ (a : Answer). a .main) q)
+  front-tells [] (y′ ∷ ys′) q e = let h : 1 ≡ suc (suc (length ys′)) = ap (λ (a : Answer). a .height) q in absurd (omega arith)
+  front-tells (y ∷ ys) [] q e = let h : suc (suc (length ys)) ≡ 1 = ap (λ (a : Answer). a .height) q in absurd (omega arith)
+  front-tells (y ∷ ys) (y′ ∷ ys′) q e =
+      let us = ap (λ (s : State ℕ). s .tasks) e in
+      cons-state (ap (λ (a : Answer). a .root) q)
+      (ap₂ _∷_ (ap (λ (a : Answer). a .screen) q) (ap (λ (u : Stack ℕ). u .screens) (head-eq-of-cons-eq us)))
+      (tail-eq-of-cons-eq us) (ap (λ (a : Answer). a .main) q)
+
+module _ (tb : List ℕ) (s t : State ℕ) (h : Sound tb s) (k : Sound tb t) (q : lookAt s ≡ lookAt t) where
+  same-count : count s ≡ count t
+  unfolding lookAt
+  same-count = ap (λ (a : Answer). a .tasks) q
+
+  pub back-tells : 1 ≤ count s → backed s ≡ backed t → s ≡ t
+  back-tells some e =
+      let f = fronted tb s h some in
+      let g = fronted tb t k (omega (arith, same-count)) in
+      rw (f .is, g .is)
+      (front-tells (f .root) (g .root) (f .screen) (g .screen) (f .behind) (g .behind) (s .main) (t .main) (f .below) (g .below)
+      (rw (f .is, g .is) at q) (rw (f .is, g .is) at e))
+
+  -- empty sessions look alike
+  pub empty-both : count s ≡ 0 → (s ≡ fresh) × (t ≡ fresh)
+  empty-both e = (empty tb s h e, empty tb t k (sym same-count ∙ e))

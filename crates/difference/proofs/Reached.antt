@@ -1,0 +1,107 @@
+-- Two sessions after a look and k Backs whose answers agreed before the last, and after one Back more.
+use Prim.Native.Nat.{ℕ, suc, _+_, _≤_}
+use mathlib.Core.Path.{_≡_, sym, _∙_, ap}
+use mathlib.Core.List.{List, [], _∷_, _++_}
+use native.Mathlib.Omega.{arith}
+use lib.ListN.{replicate-append-replicate}
+use Rattle.model.specs.declared.Answer.{Answer}
+use Rattle.model.specs.Table.{tableRefusal}
+use Rattle.model.specs.Session.{State, count}
+use Rattle.model.specs.Answers.{Outcome, lookAt}
+use Rattle.model.specs.Calls.{Call, back, look, backed}
+use Rattle.model.specs.Histories.{after, answers}
+use Rattle.model.proofs.Sound.{Sound}
+use Rattle.model.proofs.Close.{backed-sound}
+use Rattle.session.specs.declared.Session.{Session}
+use Rattle.session.specs.Stored.{view, hold, Ready}
+use Rattle.session.proofs.Known.{Sized}
+use Rattle.session.proofs.StoredLaws.{held, view-hold, hold-sound, sound-blank, sound-view}
+use Rattle.answer.specs.Seen.{Seen}
+use Rattle.answer.proofs.LookLaws.{sound-seen}
+use Rattle.difference.specs.Apart.{lookThenBacks, screensIn}
+use Rattle.difference.proofs.Backs.{after-last, answers-last, look-gives, back-gives, back-screens, back-tells}
+
+-- ---- one session
+
+-- the stored session c after a look and k Backs from the session s, and the answers to them before the last
+pub record Reached (tb : List ℕ) (s : State ℕ) (k : ℕ) (before : List Answer) (c : Session) : Type 0 where
+  pub stored : hold (view c) ≡ c
+  pub sound : Sound tb (view c)
+  pub left : after tb s (lookThenBacks k) ≡ view c
+  pub answered : answers tb s (lookThenBacks k) ≡ before ++ lookAt (view c) ∷ []
+
+view-back : (c d : Session) → d ≡ hold (backed (view c)) → view d ≡ backed (view c)
+view-back c d e = ap view e ∙ view-hold (backed (view c))
+
+one-more : (k : ℕ) → lookThenBacks (k + 1) ≡ lookThenBacks k ++ back ∷ []
+one-more k = ap (λ (cs : List Call). look ∷ cs) (sym (replicate-append-replicate k 1 back))
+
+module _ (tb : List ℕ) (ok : tableRefusal tb ≡ 0) where
+  pub reached-look : (c : Session) → Sized c → Ready tb c → Reached tb (view c) 0 [] c
+  unfolding after answers
+  reached-look c z r =
+      let h = sound-view tb c (r .sound) in
+      record {
+        stored = held c z (sound-blank tb c (r .sound));
+        sound = h;
+        left = ap (λ (o : Outcome). o .session) (look-gives tb ok (view c) h);
+        answered = ap (λ (o : Outcome). o .answer ∷ []) (look-gives tb ok (view c) h);
+      }
+
+  reached-back : {s : State ℕ} {k : ℕ} {before : List Answer} {c d : Session} → Reached tb s k before c → 1 ≤ count (view c)
+      → d ≡ hold (backed (view c)) → Reached tb s (k + 1) (before ++ lookAt (view c) ∷ []) d
+  reached-back {s} {k} {before} {c} {d} r some e =
+      let v = view-back c d e in
+      let g = back-gives tb ok (view c) (r .sound) some in
+      record {
+        stored = ap hold v ∙ sym e;
+        sound = rw v (backed-sound tb (view c) (r .sound));
+        left = rw (one-more k, after-last tb back s (lookThenBacks k), r .left, g) (sym v);
+        answered = rw (one-more k, answers-last tb back s (lookThenBacks k), r .left, r .answered, g, v);
+      }
+
+  pub reached-ready : {s : State ℕ} {k : ℕ} {before : List Answer} {c : Session} → Reached tb s k before c → Ready tb c
+  reached-ready {c} r = record { good = ok; sound = rw (r .stored) at (hold-sound tb (view c) (r .sound)) }
+
+pub reached-seen : {tb : List ℕ} {s : State ℕ} {k : ℕ} {before : List Answer} {c : Session} → Reached tb s k before c → Seen c
+reached-seen {tb} {c} r = rw (r .stored) at (sound-seen tb (view c) (r .sound))
+
+pub reached-count : {tb : List ℕ} {s : State ℕ} {k : ℕ} {before : List Answer} {c : Session} → Reached tb s k before c → c .n ≡ count (view c)
+unfolding hold
+reached-count r = sym (ap (λ (x : Session). x .n) (r .stored))
+
+-- a screen is gone
+pub reached-fewer : {tb : List ℕ} {s : State ℕ} {k : ℕ} {before : List Answer} {c : Session} → Reached tb s k before c → 1 ≤ c .n
+    → (d : Session) → d ≡ hold (backed (view c)) → suc (screensIn (view d .tasks)) ≡ screensIn (view c .tasks)
+reached-fewer {tb} {c} r some d e =
+    rw (view-back c d e) (back-screens tb (view c) (r .sound) (omega (arith, reached-count r)))
+
+-- ---- both
+
+-- the stored sessions c and d after a look and k Backs from s and t, whose answers agree before the last
+pub record Both (tb : List ℕ) (s t : State ℕ) (k : ℕ) (c d : Session) : Type 0 where
+  pub before : List Answer
+  pub one : Reached tb s k before c
+  pub other : Reached tb t k before d
+  pub screens : k + screensIn (view c .tasks) ≡ screensIn (s .tasks)
+  -- what is the same now was the same
+  pub same : view c ≡ view d → s ≡ t
+
+module _ {tb : List ℕ} {s t : State ℕ} {k : ℕ} {c d : Session} (r : Both tb s t k c d) (q : lookAt (view c) ≡ lookAt (view d)) where
+  pub both-count : d .n ≡ c .n
+  unfolding lookAt
+  both-count = reached-count (r .other) ∙ sym (ap (λ (a : Answer). a .tasks) q) ∙ sym (reached-count (r .one))
+
+  -- the next Back
+  pub both-back : tableRefusal tb ≡ 0 → 1 ≤ c .n → (c′ d′ : Session) → c′ ≡ hold (backed (view c)) → d′ ≡ hold (backed (view d))
+      → Both tb s t (k + 1) c′ d′
+  both-back ok some c′ d′ e f =
+      let u : 1 ≤ count (view c) = omega (arith, reached-count (r .one)) in
+      let v : 1 ≤ count (view d) = omega (arith, reached-count (r .other), both-count) in
+      record {
+        before = r .before ++ lookAt (view c) ∷ [];
+        one = reached-back tb ok (r .one) u e;
+        other = rw q (reached-back tb ok (r .other) v f);
+        screens = omega (arith, reached-fewer (r .one) some c′ e, r .screens);
+        same = λ p. r .same (back-tells tb (view c) (view d) (r .one .sound) (r .other .sound) q u (sym (view-back c c′ e) ∙ p ∙ view-back d d′ f));
+      }

@@ -1,0 +1,40 @@
+-- The parts that are lent are the tables.
+use mathlib.Core.Path.{sym}
+use borrow.Author.Needs.{needs}
+use lib.Seq.{length-take-le}
+use Rattle.endings.proofs.Tables.{table-part}
+use Rattle.endings.proofs.same_table.Statement.{statement}
+use Rattle.endings.proofs.same_table.Tie as tie
+
+table-end-requires : tie.Need-table-end-requires
+table-end-requires c κs = search needs
+
+table-end-requires-2 : tie.Need-table-end-requires-2
+table-end-requires-2 c κs = search needs
+
+slice-aggregate-same : tie.Need-slice-aggregate-same
+slice-aggregate-same c = sym (length-take-le _ _ (c .before .before .table-end .ensures .1))
+
+slice-aggregate-same-2 : tie.Need-slice-aggregate-same-2
+slice-aggregate-same-2 c = sym (length-take-le _ _ (c .before .before .table-end2 .ensures .1))
+
+same-requires : tie.Need-same-requires
+same-requires c κs = search needs
+
+returns : tie.Need-returns
+returns c =
+    let a = c .before .before .before .before .before .before .before .args in
+    let i = c .before .before .before .before .table-end in
+    let j = c .before .before .before .table-end2 in
+    rw (table-part (a .first .now) (i .result) (i .ensures .0), table-part (a .second .now) (j .result) (j .ensures .0)) at (c .same .ensures)
+
+pub same-table-spec : {M : Type 1} → statement M
+same-table-spec =
+    tie.close
+    (tie.spec
+    table-end-requires
+    table-end-requires-2
+    slice-aggregate-same
+    slice-aggregate-same-2
+    same-requires
+    returns)

@@ -1,0 +1,132 @@
+// Two recordings under one table: where their endings are told apart, and the text that says so.
+
+ghost use Prim.Native.Nat.{_+_, _<_, _≤_};
+ghost use mathlib.Core.Path.{_≡_};
+ghost use mathlib.Core.Logic.{_↔_};
+ghost use mathlib.Core.Bool.{true, false};
+ghost use lib.ListN.{length};
+ghost use Rattle.model.specs.Table.{tableRefusal};
+ghost use Rattle.model.specs.Player.{decimal, tableIn};
+ghost use Rattle.model.specs.Promises.{AnswerAlike};
+ghost use Rattle.model.specs.Written.{written};
+ghost use Rattle.session.specs.Stored.{hold, Ready};
+ghost use Rattle.difference.specs.Apart.{FirstApart};
+ghost use Rattle.endings.specs.Endings.{endingOf};
+ghost use Rattle.endings.specs.Verdict.{lastKind, verdictText};
+use difference::Difference;
+use session::Session;
+
+// The length of the table that a recording begins with, or of what is there of it.
+fn table_end(input: &[u8]) -> usize
+    ensures length { λ r. ⌜ r ≡ length (tableIn (now (input .entry))) ⌝ }
+    ensures bound { λ r. ⌜ r ≤ length (now (input .entry)) ⌝ }
+{
+    let there = input.len();
+    if there == 0 {
+        return 0;
+    }
+    let long = 2 + 2 * (table::size(input) as usize);
+    if long > there {
+        return there;
+    }
+    long
+}
+
+// The refusal of the table that a recording begins with, 0 if none. A table that is cut has the refusal 1.
+pub fn table_refusal(input: &[u8]) -> u8
+    ensures { λ r. ⌜ r ≡ tableRefusal (tableIn (now (input .entry))) ⌝ }
+{
+    let end = table_end(input);
+    table::refusal(&input[..end])
+}
+
+// Both recordings begin with the same table.
+pub fn same_table(first: &[u8], second: &[u8]) -> bool
+    ensures { λ r. ⌜ (r ≡ true) ↔ (tableIn (now (first .entry)) ≡ tableIn (now (second .entry))) ⌝ }
+{
+    let i = table_end(first);
+    let j = table_end(second);
+    check::same(&first[..i], &second[..j])
+}
+
+// The session after a recording's calls.
+fn ending_of(input: &[u8]) -> Session
+    requires { ⌜ tableRefusal (tableIn (now input)) ≡ 0 ⌝ }
+    ensures session { λ r. ⌜ r ≡ hold (endingOf (now (input .entry))) ⌝ }
+    ensures sound { λ r. ⌜ Ready (tableIn (now (input .entry))) r ⌝ }
+{
+    let end = table_end(input);
+    recording::replay(&input[..end], &input[end..]).session
+}
+
+// Where the endings of two recordings under one good table are told apart. No later list of launches, starts, finishing
+// starts, Backs and looks does so exactly where no difference is found.
+pub fn compare(first: &[u8], second: &[u8]) -> Difference
+    requires { ⌜ (tableRefusal (tableIn (now first)) ≡ 0) × (tableIn (now first) ≡ tableIn (now second)) ⌝ }
+    ensures apart { λ r. ⌜ FirstApart (tableIn (now (first .entry))) (endingOf (now (first .entry))) (endingOf (now (second .entry))) r ⌝ }
+    ensures same { λ r. ⌜ (r .found ≡ false) ↔ (endingOf (now (first .entry)) ≡ endingOf (now (second .entry))) ⌝ }
+    ensures alike { λ r. ⌜ (r .found ≡ false) ↔ AnswerAlike (tableIn (now (first .entry))) (endingOf (now (first .entry))) (endingOf (now (second .entry))) ⌝ }
+    ensures bound { λ r. ⌜ r .backs ≤ 512 ⌝ }
+{
+    let end = table_end(first);
+    let s = ending_of(first);
+    let t = ending_of(second);
+    difference::first_difference(&first[..end], s, t)
+}
+
+// ---- text
+
+// Writes a text. Yields the place after it.
+fn write_text(out: &mut [u8], at: usize, text: &[u8]) -> usize
+    requires { ⌜ at + length (now text) ≤ length (now out) ⌝ }
+    ensures place { λ r. ⌜ r ≡ at + length (now (text .entry)) ⌝ }
+    ensures bytes { λ r. ⌜ now (out .exit) ≡ written (now (out .entry)) at (now (text .entry)) ⌝ }
+{
+    at + bytes::copy(text, &mut out[at..])
+}
+
+// Writes a number below 1000 in base ten. Yields the place after it.
+fn write_number(out: &mut [u8], at: usize, x: u16) -> usize
+    requires { ⌜ (x < 1000) × (at + 4 ≤ length (now out)) ⌝ }
+    ensures place { λ r. ⌜ r ≡ at + length (decimal x) ⌝ }
+    ensures bytes { λ r. ⌜ now (out .exit) ≡ written (now (out .entry)) at (decimal x) ⌝ }
+    ensures bound { λ r. ⌜ r ≤ at + 3 ⌝ }
+{
+    let last = b'0' + (x % 10) as u8;
+    if x < 10 {
+        out[at] = last;
+        return at + 1;
+    }
+    line::put(out, at, (x / 10) as u8, last)
+}
+
+// The kind of the last of a look and so many Backs.
+fn last_kind(backs: u16) -> u8
+    ensures { λ r. ⌜ r ≡ lastKind backs ⌝ }
+{
+    if backs == 0 {
+        return 5;
+    }
+    4
+}
+
+// Writes the verdict at the start of a lent buffer: that the endings are alike, or after how many Backs they are told apart,
+// and the player's lines for the two answers that differ. Yields its length.
+pub fn write_verdict(out: &mut [u8], d: Difference) -> usize
+    requires { ⌜ (d .backs ≤ 512) × (78 ≤ length (now out)) ⌝ }
+    ensures length { λ r. ⌜ r ≡ length (verdictText d) ⌝ }
+    ensures text { λ r. ⌜ now (out .exit) ≡ written (now (out .entry)) 0 (verdictText d) ⌝ }
+    ensures bound { λ r. ⌜ r ≤ 78 ⌝ }
+{
+    if !d.found {
+        return write_text(out, 0, b"alike\n");
+    }
+    let number = write_text(out, 0, b"apart after ");
+    let backs = write_number(out, number, d.backs);
+    let line = write_text(out, backs, b" Backs\n");
+    let kind = last_kind(d.backs);
+    let first = d.first;
+    let second = d.second;
+    let next = line::write_line(out, line, kind, first);
+    line::write_line(out, next, kind, second)
+}

@@ -1,0 +1,4 @@
+pub mod ReadTrailer
+pub mod ReadTask
+pub mod ReadTasks
+pub mod Bodies

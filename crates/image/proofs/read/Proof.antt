@@ -1,0 +1,66 @@
+-- `image::read` meets its contract: n is read first, and then the tasks in front of the trailer.
+use Prim.Native.Nat.{_-_, _≤_}
+use mathlib.Core.Path.{sym, _∙_}
+use native.Mathlib.Omega.{arith}
+use lib.ListN.{length}
+use lib.Seq.{length-take-le}
+use borrow.Author.Needs.{needs}
+use Rattle.image.proofs.ReadTrailer.{shaped-six, read-many, read-few}
+use Rattle.image.proofs.read.Statement.{statement}
+use Rattle.image.proofs.read.Tie as tie
+
+sub-end : tie.Need-sub-end
+sub-end c = shaped-six (c .before .args .image .now) (c .before .pre)
+
+add-n : tie.Need-add-n
+add-n c = search needs
+
+shared-slice-read-n : tie.Need-shared-slice-read-n
+shared-slice-read-n c = let l = shaped-six (c .before .before .args .image .now) (c .before .before .pre) in omega arith
+
+add-main : tie.Need-add-main
+add-main c = search needs
+
+shared-slice-read-main : tie.Need-shared-slice-read-main
+shared-slice-read-main c = let l = shaped-six (c .before .before .before .args .image .now) (c .before .before .before .pre) in omega arith
+
+wide-requires : tie.Need-wide-requires
+wide-requires c κs = search needs
+
+unreadable-requires : tie.Need-unreadable-requires
+unreadable-requires c κs = search needs
+
+returns : tie.Need-returns
+returns c =
+    let a = c .before .before .before .before .before .before .args in
+    c .unreadable .ensures ∙ read-many (a .image .now) (omega (arith, c .before .before .wide .ensures .0))
+
+slice-aggregate-read-tasks : tie.Need-slice-aggregate-read-tasks
+slice-aggregate-read-tasks c =
+    let image = c .before .before .before .before .before .before .args .image .now in
+    let l : length image - 6 ≤ length image = omega arith in
+    sym (length-take-le _ _ l)
+
+read-tasks-requires : tie.Need-read-tasks-requires
+read-tasks-requires c κs = search needs
+
+returns-2 : tie.Need-returns-2
+returns-2 c =
+    let a = c .before .before .before .before .before .before .before .args in
+    c .read-tasks .ensures ∙ read-few (a .image .now) (omega (arith, c .before .before .before .wide .ensures .0))
+
+pub read-spec : {M : Type 1} → statement M
+read-spec =
+    tie.close
+    (tie.spec
+    sub-end
+    add-n
+    shared-slice-read-n
+    add-main
+    shared-slice-read-main
+    wide-requires
+    unreadable-requires
+    returns
+    slice-aggregate-read-tasks
+    read-tasks-requires
+    returns-2)

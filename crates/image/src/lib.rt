@@ -1,0 +1,203 @@
+// Images of sessions: each task's root, height and screens, top first, and six trailer bytes. Any bytes may be read:
+// nothing is read outside of them, and reading ends.
+
+ghost use Prim.Native.Nat.{_+_, _<_, _≤_};
+ghost use mathlib.Core.Path.{_≡_};
+ghost use mathlib.Core.Bool.{true};
+ghost use mathlib.Core.List.{[], _∷_, _++_};
+ghost use lib.ListN.{length, drop};
+ghost use Rattle.model.specs.Image.{bodyOf, trailer, image, imageShaped, readTasks};
+ghost use Rattle.model.specs.Written.{written};
+ghost use Rattle.session.specs.Stored.{view, viewTask, storageBlank, holdTask};
+ghost use Rattle.image.specs.Readings.{taskIn, unreadableContents, contentsOf, readStored};
+use session::Session;
+use session::Task;
+
+// The bytes that close an image.
+const CLOSING: [u8; 2] = *b"\x08\x42";
+
+fn wide(x: u8) -> usize
+    ensures { λ r. ⌜ (r ≡ x) × (r < 256) ⌝ }
+{
+    x as usize
+}
+
+// ---- writing
+
+// The length of a session's image.
+pub fn length(s: Session) -> usize
+    requires { ⌜ storageBlank s ≡ true ⌝ }
+    ensures { λ r. ⌜ r ≡ length (image (view s)) ⌝ }
+{
+    let count = s.n as usize;
+    let mut sum: usize = 6;
+    let mut i: usize = 0;
+    while i < count {
+        let t = s.tasks[i];
+        sum += 2 + t.height as usize;
+        i += 1;
+    }
+    sum
+}
+
+// Writes the screens of a task, top first. Yields the place after them.
+fn write_screens(out: &mut [u8], at: usize, t: Task) -> usize
+    requires { ⌜ (t .height ≤ 32) × (at + t .height ≤ length (now out)) ⌝ }
+    ensures place { λ r. ⌜ r ≡ at + length (viewTask t .screens) ⌝ }
+    ensures bytes { λ r. ⌜ now (out .exit) ≡ written (now (out .entry)) at (viewTask t .screens) ⌝ }
+    ensures bound { λ r. ⌜ r ≤ at + 32 ⌝ }
+{
+    let h = t.height as usize;
+    let mut i = h;
+    while i > 0 {
+        let place = at + h - i;
+        i -= 1;
+        out[place] = t.screens[i];
+    }
+    at + h
+}
+
+// Writes a task: its root, its height, its screens. Yields the place after them.
+fn write_task(out: &mut [u8], at: usize, t: Task) -> usize
+    requires { ⌜ (t .height ≤ 32) × (at + 2 + t .height ≤ length (now out)) ⌝ }
+    ensures place { λ r. ⌜ r ≡ at + length (bodyOf (viewTask t ∷ [])) ⌝ }
+    ensures bytes { λ r. ⌜ now (out .exit) ≡ written (now (out .entry)) at (bodyOf (viewTask t ∷ [])) ⌝ }
+    ensures bound { λ r. ⌜ r ≤ at + 34 ⌝ }
+{
+    out[at] = t.root;
+    out[at + 1] = t.height;
+    write_screens(out, at + 2, t)
+}
+
+// Writes the trailer behind `at` bytes. Yields the place after it.
+fn write_trailer(out: &mut [u8], at: usize, n: u8, main: u8) -> usize
+    requires { ⌜ (at < 65536) × (at + 6 ≤ length (now out)) ⌝ }
+    ensures place { λ r. ⌜ r ≡ at + 6 ⌝ }
+    ensures bytes { λ r. ⌜ now (out .exit) ≡ written (now (out .entry)) at (trailer at n main) ⌝ }
+{
+    out[at] = (at / 256) as u8;
+    out[at + 1] = (at % 256) as u8;
+    out[at + 2] = n;
+    out[at + 3] = main;
+    out[at + 4] = CLOSING[0];
+    out[at + 5] = CLOSING[1];
+    at + 6
+}
+
+// Writes a session's image at the start of a lent buffer; the bytes beyond it stay. Yields its length.
+pub fn write(s: Session, out: &mut [u8]) -> usize
+    requires { ⌜ (storageBlank s ≡ true) × (length (image (view s)) ≤ length (now out)) ⌝ }
+    ensures length { λ r. ⌜ r ≡ length (image (view s)) ⌝ }
+    ensures bytes { λ r. ⌜ now (out .exit) ≡ image (view s) ++ drop (length (image (view s))) (now (out .entry)) ⌝ }
+{
+    let tasks = s.n as usize;
+    let mut at: usize = 0;
+    let mut i: usize = 0;
+    while i < tasks {
+        let t = s.tasks[i];
+        at = write_task(out, at, t);
+        i += 1;
+    }
+    write_trailer(out, at, s.n, s.main)
+}
+
+// ---- reading
+
+// Not refusal 5: a trailer stands at the end, and it names the length of what precedes.
+pub fn shaped(image: &[u8]) -> bool
+    ensures { λ r. ⌜ r ≡ imageShaped (now (image .entry)) ⌝ }
+{
+    let long = image.len();
+    if long < 6 {
+        return false;
+    }
+    let end = long - 6;
+    let high = wide(image[end]);
+    let low = wide(image[end + 1]);
+    (image[end + 4] == CLOSING[0]) & (image[end + 5] == CLOSING[1]) & (long == 256 * high + low + 6)
+}
+
+// What is read from an image: whether its tasks can be read, and the session, a fresh one if they cannot.
+pub struct Contents {
+    pub readable: bool,
+    pub session: Session,
+}
+
+fn unreadable() -> Contents
+    ensures { λ r. ⌜ r ≡ unreadableContents ⌝ }
+{
+    Contents {
+        readable: false,
+        session: Session::fresh(),
+    }
+}
+
+// The task whose root stands at a place, its height and its screens behind it. The top screen comes first there, and last
+// in storage.
+fn read_task(body: &[u8], at: usize, height: u8) -> Task
+    requires { ⌜ (height ≤ 32) × (at + 2 + height ≤ length (now body)) ⌝ }
+    ensures { λ r. ⌜ r ≡ holdTask (taskIn (now (body .entry)) at height) ⌝ }
+{
+    let h = height as usize;
+    let bottom = at + 1 + h;
+    let mut out = Task {
+        root: body[at],
+        height: height,
+        screens: [0; Session::SCREENS],
+    };
+    let mut i: usize = 0;
+    while i < h {
+        out.screens[i] = body[bottom - i];
+        i += 1;
+    }
+    out
+}
+
+// The session that the body is of: exactly n tasks of height 1 to 32, front first.
+fn read_tasks(body: &[u8], n: u8, main: u8) -> Contents
+    requires { ⌜ n ≤ 16 ⌝ }
+    ensures { λ r. ⌜ r ≡ contentsOf (readTasks n (now (body .entry))) main ⌝ }
+{
+    let mut s = Session::fresh();
+    let mut at: usize = 0;
+    let mut i: u8 = 0;
+    while i < n {
+        if body.len() - at < 2 {
+            return unreadable();
+        }
+        let height = body[at + 1];
+        let h = wide(height);
+        let left = body.len() - at - 2;
+        let fits = (1 <= h) & ((h <= Session::SCREENS) & (h <= left));
+        if !fits {
+            return unreadable();
+        }
+        let place = i as usize;
+        s.tasks[place] = read_task(body, at, height);
+        at += 2 + h;
+        i += 1;
+    }
+    if at != body.len() {
+        return unreadable();
+    }
+    s.n = n;
+    s.main = main;
+    Contents {
+        readable: true,
+        session: s,
+    }
+}
+
+// Reads an image: n tasks, 16 at most, and the main place.
+pub fn read(image: &[u8]) -> Contents
+    requires { ⌜ imageShaped (now image) ≡ true ⌝ }
+    ensures { λ r. ⌜ r ≡ readStored (now (image .entry)) ⌝ }
+{
+    let end = image.len() - 6;
+    let n = image[end + 2];
+    let main = image[end + 3];
+    if wide(n) > Session::TASKS {
+        return unreadable();
+    }
+    read_tasks(&image[..end], n, main)
+}

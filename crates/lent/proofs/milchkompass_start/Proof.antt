@@ -1,0 +1,24 @@
+-- `lent::milchkompass_start` meets its contract, by the law for all functions with its parameters.
+use contract.Running.{givenOf, tables, tablesOf}
+use denote.Triple.Spec.{tripleOf}
+use denote.Triple.Table.{entered, cited}
+use Rattle.model.specs.Calls.{start}
+use Rattle.navigator.proofs.start.Met as core-thm
+use Rattle.navigator.proofs.start.Symbol as core-def
+use Rattle.navigator.proofs.start.Symbol.{name as #core}
+use Rattle.lent.proofs.Lending.{of-parts}
+use Rattle.lent.proofs.LendingStarts.{Core, meets}
+use Rattle.lent.proofs.milchkompass_start as outer
+use Rattle.lent.proofs.milchkompass_start.Code as code
+use Rattle.lent.proofs.milchkompass_start.Key.{name as #outer}
+use Rattle.lent.proofs.milchkompass_start.Statement as stated
+
+pub milchkompass-start-spec : {M : Type 1} → stated.statement M
+unfolding code.routine tablesOf
+milchkompass-start-spec 𝓤 H 𝓜 𝓖 𝓡 =
+    entered 𝓤 H (tripleOf 𝓤 H (𝓖 .A) outer.signature (outer.spec 𝓤 H (𝓖 .A) (𝓜 .mem) (𝓡 .run)))
+    (tables 𝓤 H 𝓜 𝓡 code.env .C) (tables 𝓤 H 𝓜 𝓡 code.env .Λ) #outer code.function (code.unfolded 𝓤 H 𝓜 𝓡)
+    (meets 𝓤 H (𝓖 .A) start (outer.clauses 𝓤 H (𝓖 .A) (𝓜 .mem) (𝓡 .run)) (λ κs a g r e. of-parts 𝓤 e)
+    (givenOf 𝓤 H 𝓜 𝓖) #core (tablesOf 𝓤 H 𝓜 (tables 𝓤 H 𝓜 𝓡 code.env))
+    (cited 𝓤 H (Core 𝓤 H (𝓖 .A) start) 𝓜 𝓡 code.env #core core-def.routine code.calls-navigator·start
+    (core-thm.met 𝓤 H 𝓜 𝓖 𝓡)))

@@ -1,0 +1,89 @@
+// The calls for programs in C and Rust. A slice is a pointer and a length there; a session that a call may change is lent,
+// and the call writes the new one there. Nothing is decided here: each call is the one of `navigator`.
+
+ghost use mathlib.Core.Path.{_≡_};
+ghost use Rattle.model.specs.Calls.{Call};
+ghost use Rattle.calls.specs.StoredCalls.{callStored};
+ghost use Rattle.calls.specs.StoredSaves.{saved, saveStored};
+use calls::SaveReply;
+use model::Answer;
+use session::Session;
+
+// Look: the answer of the session as it is.
+#[no_mangle]
+pub extern "C" fn milchkompass_look(table: &[u8], s: &mut Session) -> Answer
+    ensures answers { λ r. ⌜ r ≡ callStored (now (table .entry)) (now (s .entry)) Call.look .answer ⌝ }
+    ensures stores { λ _. ⌜ now (s .exit) ≡ callStored (now (table .entry)) (now (s .entry)) Call.look .session ⌝ }
+{
+    let reply = navigator::look(table, *s);
+    *s = reply.session;
+    reply.answer
+}
+
+// Launch, over the session that is lent. A refused call leaves it, here and below.
+#[no_mangle]
+pub extern "C" fn milchkompass_launch(table: &[u8], s: &mut Session) -> Answer
+    ensures answers { λ r. ⌜ r ≡ callStored (now (table .entry)) (now (s .entry)) Call.launch .answer ⌝ }
+    ensures stores { λ _. ⌜ now (s .exit) ≡ callStored (now (table .entry)) (now (s .entry)) Call.launch .session ⌝ }
+{
+    let reply = navigator::launch(table, *s);
+    *s = reply.session;
+    reply.answer
+}
+
+// Start of b with a flag word.
+#[no_mangle]
+pub extern "C" fn milchkompass_start(table: &[u8], s: &mut Session, b: u8, word: u32) -> Answer
+    ensures answers { λ r. ⌜ r ≡ callStored (now (table .entry)) (now (s .entry)) (Call.start b word) .answer ⌝ }
+    ensures stores { λ _. ⌜ now (s .exit) ≡ callStored (now (table .entry)) (now (s .entry)) (Call.start b word) .session ⌝ }
+{
+    let reply = navigator::start(table, *s, b, word);
+    *s = reply.session;
+    reply.answer
+}
+
+// Finishing start of b with a flag word: the caller closes itself.
+#[no_mangle]
+pub extern "C" fn milchkompass_finish_start(
+    table: &[u8],
+    s: &mut Session,
+    b: u8,
+    word: u32,
+) -> Answer
+    ensures answers { λ r. ⌜ r ≡ callStored (now (table .entry)) (now (s .entry)) (Call.finishingStart b word) .answer ⌝ }
+    ensures stores { λ _. ⌜ now (s .exit) ≡ callStored (now (table .entry)) (now (s .entry)) (Call.finishingStart b word) .session ⌝ }
+{
+    let reply = navigator::finish_start(table, *s, b, word);
+    *s = reply.session;
+    reply.answer
+}
+
+// Back.
+#[no_mangle]
+pub extern "C" fn milchkompass_back(table: &[u8], s: &mut Session) -> Answer
+    ensures answers { λ r. ⌜ r ≡ callStored (now (table .entry)) (now (s .entry)) Call.back .answer ⌝ }
+    ensures stores { λ _. ⌜ now (s .exit) ≡ callStored (now (table .entry)) (now (s .entry)) Call.back .session ⌝ }
+{
+    let reply = navigator::back(table, *s);
+    *s = reply.session;
+    reply.answer
+}
+
+// Restore: the session of a whole image, over the one that is lent. A refused restore leaves it.
+#[no_mangle]
+pub extern "C" fn milchkompass_restore(table: &[u8], s: &mut Session, image: &[u8]) -> Answer
+    ensures answers { λ r. ⌜ r ≡ callStored (now (table .entry)) (now (s .entry)) (Call.restore (now (image .entry))) .answer ⌝ }
+    ensures stores { λ _. ⌜ now (s .exit) ≡ callStored (now (table .entry)) (now (s .entry)) (Call.restore (now (image .entry))) .session ⌝ }
+{
+    let reply = navigator::restore(table, *s, image);
+    *s = reply.session;
+    reply.answer
+}
+
+// Save: the session's image at the start of the buffer; the rest of the buffer, or all of it where save is refused, stays.
+#[no_mangle]
+pub extern "C" fn milchkompass_save(table: &[u8], s: Session, out: &mut [u8]) -> SaveReply
+    ensures { λ r. ⌜ saved r (now (out .exit)) ≡ saveStored (now (table .entry)) s (now (out .entry)) ⌝ }
+{
+    navigator::save(table, s, out)
+}

@@ -1,0 +1,49 @@
+-- `navigator::save` meets its contract: refused by the shared checks, or what `calls::save` gives on a sound session.
+use mathlib.Core.Path.{sym, _∙_}
+use borrow.Author.Needs.{needs}
+use Rattle.session.proofs.Known.{sized}
+use Rattle.calls.proofs.Settling.{shared-ready}
+use Rattle.calls.proofs.Saving.{save-refused, save-gives}
+use Rattle.navigator.proofs.save.Statement.{statement}
+use Rattle.navigator.proofs.save.Tie as tie
+
+shared-refusal-requires : tie.Need-shared-refusal-requires
+shared-refusal-requires c κs = search needs
+
+refuse-save-requires : tie.Need-refuse-save-requires
+refuse-save-requires c κs = search needs
+
+returns : tie.Need-returns
+returns c =
+    let start = c .before .before .before .before .before in
+    let a = start .args in
+    let k = c .before .before .shared-refusal in
+    let e = save-refused (a .table .now) (a .s) (a .out .now) (k .result) (sym (k .ensures)) (c .before .if1 .taken) in
+    save-gives (a .table .now) (a .s) (a .out .now) (sized (a .s) _ (start .good .1 .0)) (c .refuse-save .result) (a .out .now)
+    (rw (c .refuse-save .ensures) (sym e))
+
+save-requires : tie.Need-save-requires
+save-requires c κs =
+    let a = c .before .before .before .before .before .args in
+    shared-ready (a .table .now) (a .s) (sym (c .before .before .shared-refusal .ensures) ∙ c .before .if1 .left)
+
+same-length : tie.Need-same-length
+same-length c = search needs
+
+returns-2 : tie.Need-returns-2
+returns-2 c =
+    let start = c .before .before .before .before .before .before .before .before in
+    let a = start .args in
+    save-gives (a .table .now) (a .s) (a .out .now) (sized (a .s) _ (start .good .1 .0)) (c .before .before .save .result) _
+    (c .before .before .save .ensures)
+
+pub save-spec : {M : Type 1} → statement M
+save-spec =
+    tie.close
+    (tie.spec
+    shared-refusal-requires
+    refuse-save-requires
+    returns
+    save-requires
+    same-length
+    returns-2)

@@ -1,0 +1,91 @@
+-- Where a list of calls ends: by document 01's rules, by the program's calls, and as it is stored.
+use Prim.Native.Nat.{ℕ, zero, suc, _≤_}
+use mathlib.Core.Path.{_≡_, refl, sym, _∙_, ap}
+use mathlib.Core.Logic.{_↔_, Iff·trans}
+use mathlib.Core.Bool.{true}
+use mathlib.Core.List.{List}
+use native.Mathlib.Omega.{arith}
+use lib.ListN.{length}
+use borrow.Author.Tests.{ne-eqb}
+use Rattle.model.specs.Table.{tableRefusal}
+use Rattle.model.specs.Session.{fresh}
+use Rattle.model.specs.Image.{image}
+use Rattle.model.specs.Promises.{Lifelong}
+use Rattle.model.proofs.Sound.{Sound}
+use Rattle.model.proofs.Keeps.{fresh-sound, after-sound}
+use Rattle.model.proofs.ImageLaws.{image-short}
+use Rattle.model.proofs.Promise3.{sound-lifelong, promise3}
+use Rattle.session.specs.declared.Session.{Session}
+use Rattle.session.specs.Stored.{freshSession, view, hold, storageBlank, soundStored}
+use Rattle.session.proofs.StoredLaws.{fresh-held, view-hold, hold-sound, sound-blank, sound-view}
+use Rattle.calls.proofs.HistoryLaws.{alike-held, after-fresh, answers-fresh}
+use Rattle.recording.specs.CallBytes.{callsIn}
+use Rattle.recording.specs.Replay.{ending, replayed, SameImage, EndAlike, EndAlikeStored, ReplayPromise}
+use Rattle.recording.proofs.EveryList.{every-list}
+
+pub fresh-stored : (tb : List ℕ) → soundStored tb freshSession ≡ true
+fresh-stored tb = rw (← fresh-held) (hold-sound tb fresh (fresh-sound tb))
+
+module _ (tb : List ℕ) (ok : tableRefusal tb ≡ 0) where
+  ending-sound : (bytes : List ℕ) → Sound tb (ending tb bytes)
+  ending-sound bytes = after-sound tb ok fresh (fresh-sound tb) (callsIn bytes)
+
+  pub replayed-good : (bytes : List ℕ) → replayed tb bytes ≡ hold (ending tb bytes)
+  unfolding replayed
+  replayed-good bytes = rw ok
+
+  -- the image of the session after a list
+  pub replayed-image : (bytes : List ℕ) → image (view (replayed tb bytes)) ≡ image (ending tb bytes)
+  replayed-image bytes = ap image (ap view (replayed-good bytes) ∙ view-hold (ending tb bytes))
+
+  -- ---- two lists
+
+  module _ (first second : List ℕ) where
+    -- equal images, equal answers by the rules, equal answers by the calls: each exactly where the others are
+    pub images-alike : SameImage tb first second ↔ EndAlike tb first second
+    images-alike = promise3 .imagesTell tb ok (callsIn first) (callsIn second)
+
+    pub alike-stored : EndAlike tb first second ↔ EndAlikeStored tb first second
+    alike-stored =
+        rw (replayed-good first, replayed-good second)
+        (alike-held tb ok (ending tb first) (ending tb second) (ending-sound first) (ending-sound second))
+
+pub replayed-refused : (tb : List ℕ) → (tableRefusal tb ≡ 0 → ⊥) → (bytes : List ℕ) → replayed tb bytes ≡ freshSession
+unfolding replayed
+replayed-refused tb bad bytes = rw (ne-eqb (tableRefusal tb) 0 bad)
+
+-- the session after a list is sound, under a table that is refused too, where it is fresh
+pub replayed-sound : (tb bytes : List ℕ) → soundStored tb (replayed tb bytes) ≡ true
+replayed-sound tb bytes = go (tableRefusal tb) refl
+  where
+    go : (n : ℕ) → tableRefusal tb ≡ n → soundStored tb (replayed tb bytes) ≡ true
+    go zero e = rw (replayed-good tb e bytes) (hold-sound tb (ending tb bytes) (ending-sound tb e bytes))
+    go (suc n) e = rw (replayed-refused tb (λ z. omega arith) bytes) (fresh-stored tb)
+
+-- so it keeps the lifelong rules, and its image is short
+module _ (tb : List ℕ) (c : Session) (e : soundStored tb c ≡ true) where
+  pub stored-lifelong : Lifelong tb (view c)
+  stored-lifelong = sound-lifelong tb (view c) (sound-view tb c e)
+
+  pub stored-short : (storageBlank c ≡ true) × (length (image (view c)) ≤ 550)
+  stored-short = (sound-blank tb c e, image-short tb (view c) (sound-view tb c e))
+
+-- ---- the promise
+
+pub replay-promise : ReplayPromise
+replay-promise =
+    record {
+      everyList = λ ks h.
+          let (bytes, small, alike) = every-list ks h in (
+            bytes,
+            small,
+            λ tb ok. (
+              replayed-good tb ok bytes ∙ ap hold (alike tb fresh .0) ∙ sym (after-fresh tb ok ks),
+              answers-fresh tb ok (callsIn bytes) ∙ alike tb fresh .1 ∙ sym (answers-fresh tb ok ks),
+            ),
+          );
+      lifelong = λ tb bytes. stored-lifelong tb (replayed tb bytes) (replayed-sound tb bytes);
+      imagesTell = λ tb ok first second.
+          rw (replayed-image tb ok first, replayed-image tb ok second)
+          (Iff·trans (images-alike tb ok first second) (alike-stored tb ok first second));
+    }

@@ -1,0 +1,5 @@
+pub mod Reading
+pub mod Writing
+pub mod EveryList
+pub mod Endings
+pub mod Replaying

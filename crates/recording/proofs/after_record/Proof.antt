@@ -1,0 +1,83 @@
+-- The call of a record, by its kind.
+use borrow.Author.Needs.{needs}
+use mathlib.Core.Path.{ap}
+use borrow.Author.Tests.{ne-eqb}
+use Rattle.model.specs.Player.{requestOf}
+use Rattle.calls.specs.declared.Reply.{Reply}
+use Rattle.calls.specs.StoredHistories.{afterStored}
+use Rattle.recording.specs.CallBytes.{callOf}
+use Rattle.recording.proofs.after_record.Statement.{statement}
+use Rattle.recording.proofs.after_record.Tie as tie
+
+launch-requires : tie.Need-launch-requires
+launch-requires c κs = search needs
+
+start-requires : tie.Need-start-requires
+start-requires c κs = search needs
+
+finish-start-requires : tie.Need-finish-start-requires
+finish-start-requires c κs = search needs
+
+back-requires : tie.Need-back-requires
+back-requires c κs = search needs
+
+look-requires : tie.Need-look-requires
+look-requires c κs = search needs
+
+restore-requires : tie.Need-restore-requires
+restore-requires c κs = search needs
+
+returns : tie.Need-returns
+unfolding afterStored callOf requestOf
+returns c = rw (c .before .before .match .keys1) (ap (λ (r : Reply). r .session) (c .before .launch .ensures))
+
+returns-2 : tie.Need-returns-2
+unfolding afterStored callOf requestOf
+returns-2 c = rw (c .before .before .match .keys2) (ap (λ (r : Reply). r .session) (c .before .start .ensures))
+
+returns-3 : tie.Need-returns-3
+unfolding afterStored callOf requestOf
+returns-3 c = rw (c .before .before .match .keys3) (ap (λ (r : Reply). r .session) (c .before .finish-start .ensures))
+
+returns-4 : tie.Need-returns-4
+unfolding afterStored callOf requestOf
+returns-4 c = rw (c .before .before .match .keys4) (ap (λ (r : Reply). r .session) (c .before .back .ensures))
+
+returns-5 : tie.Need-returns-5
+unfolding afterStored callOf requestOf
+returns-5 c = rw (c .before .before .match .keys5) (ap (λ (r : Reply). r .session) (c .before .look .ensures))
+
+returns-6 : tie.Need-returns-6
+unfolding afterStored callOf requestOf
+returns-6 c = rw (c .before .before .match .keys6) (ap (λ (r : Reply). r .session) (c .before .restore .ensures))
+
+returns-7 : tie.Need-returns-7
+unfolding afterStored callOf requestOf
+returns-7 c =
+    let r = c .match .rest in
+    rw (
+      ne-eqb _ _ (r .1),
+      ne-eqb _ _ (r .0 .0 .0 .0 .0 .1),
+      ne-eqb _ _ (r .0 .0 .0 .0 .1),
+      ne-eqb _ _ (r .0 .0 .0 .1),
+      ne-eqb _ _ (r .0 .0 .1),
+      ne-eqb _ _ (r .0 .1),
+    )
+
+pub after-record-spec : {M : Type 1} → statement M
+after-record-spec =
+    tie.close
+    (tie.spec
+    launch-requires
+    start-requires
+    finish-start-requires
+    back-requires
+    look-requires
+    restore-requires
+    returns
+    returns-2
+    returns-3
+    returns-4
+    returns-5
+    returns-6
+    returns-7)

@@ -1,0 +1,51 @@
+-- A fresh session where the table is refused; else the session after the list. Both are sound, so the lifelong rules hold.
+use borrow.Author.Needs.{needs}
+use mathlib.Core.Path.{_≡_, sym, _∙_}
+use Rattle.model.specs.Table.{tableRefusal}
+use Rattle.calls.proofs.HistoryLaws.{after-fresh}
+use Rattle.recording.specs.CallBytes.{callsIn}
+use Rattle.recording.specs.Replay.{replayed}
+use Rattle.recording.proofs.Endings.{fresh-stored, replayed-good, replayed-refused, replayed-sound, stored-lifelong}
+use Rattle.recording.proofs.replay.Statement.{statement}
+use Rattle.recording.proofs.replay.Tie as tie
+
+fresh-requires : tie.Need-fresh-requires
+fresh-requires c κs = search needs
+
+refusal-requires : tie.Need-refusal-requires
+refusal-requires c κs = search needs
+
+returns : tie.Need-returns
+returns c =
+    let a = c .before .before .before .before .before .args in
+    let tb = a .table .now in
+    let number = c .before .refusal .ensures in
+    let fresh = c .before .before .fresh in
+    let bad : tableRefusal tb ≡ 0 → ⊥ = λ z. c .if1 .taken (number ∙ z) in
+    let e : fresh .result ≡ replayed tb (a .calls .now) = fresh .ensures ∙ sym (replayed-refused tb bad (a .calls .now)) in
+    let s = rw (← e) at (replayed-sound tb (a .calls .now)) in
+    let l = stored-lifelong tb (fresh .result) s in
+    (number, (e, (λ z. absurd (bad z), (s, (l .eachHasScreen, (l .instanceIsAlone, l .rootsDiffer))))))
+
+after-calls-requires : tie.Need-after-calls-requires
+after-calls-requires c κs =
+    let a = c .before .before .before .before .before .args in
+    record {
+      good = sym (c .before .refusal .ensures) ∙ c .if1 .left;
+      sound = rw (c .before .before .fresh .ensures) (fresh-stored (a .table .now));
+    }
+
+returns-2 : tie.Need-returns-2
+returns-2 c =
+    let a = c .before .before .before .before .before .before .args in
+    let tb = a .table .now in
+    let ok : tableRefusal tb ≡ 0 = sym (c .before .before .refusal .ensures) ∙ c .before .if1 .left in
+    let called = rw (c .before .before .before .fresh .ensures) at (c .after-calls .ensures) in
+    let e : c .after-calls .result ≡ replayed tb (a .calls .now) =
+    called ∙ after-fresh tb ok (callsIn (a .calls .now)) ∙ sym (replayed-good tb ok (a .calls .now)) in
+    let s = rw (← e) at (replayed-sound tb (a .calls .now)) in
+    let l = stored-lifelong tb (c .after-calls .result) s in
+    (sym ok, (e, (λ z. called, (s, (l .eachHasScreen, (l .instanceIsAlone, l .rootsDiffer))))))
+
+pub replay-spec : {M : Type 1} → statement M
+replay-spec = tie.close (tie.spec fresh-requires refusal-requires returns after-calls-requires returns-2)

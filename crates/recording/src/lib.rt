@@ -1,0 +1,143 @@
+// Lists of calls, given as bytes: the session after a whole list, and whether two lists end in sessions that no later list
+// tells apart. The table is checked once, and the session not at all: each call leaves it sound.
+
+ghost use Prim.Native.Nat.{_≤_};
+ghost use mathlib.Core.Path.{_≡_};
+ghost use mathlib.Core.Logic.{_↔_};
+ghost use mathlib.Core.Bool.{true, false};
+ghost use mathlib.Core.List.{[], _∷_};
+ghost use lib.ListN.{length};
+ghost use Rattle.model.specs.Lists.{All, Pairwise};
+ghost use Rattle.model.specs.Table.{isSingleInstance, rootsOnce, tableRefusal};
+ghost use Rattle.model.specs.Session.{height};
+ghost use Rattle.model.specs.Image.{image};
+ghost use Rattle.session.specs.Stored.{freshSession, view, storageBlank, soundStored, Ready};
+ghost use Rattle.calls.specs.StoredHistories.{afterStored};
+ghost use Rattle.recording.specs.CallBytes.{imageLength, callOf, callsIn};
+ghost use Rattle.recording.specs.Replay.{replayed, SameImage, EndAlike, EndAlikeStored};
+use session::Session;
+
+// How many bytes of an image follow a record.
+fn image_length(kind: u8, word: u32) -> usize
+    ensures { λ r. ⌜ r ≡ imageLength kind word ⌝ }
+{
+    if kind == 6 {
+        return word as usize;
+    }
+    0
+}
+
+// The session after the call of one whole record, with the image that follows it. An unknown kind is no call.
+fn after_record(table: &[u8], s: Session, kind: u8, b: u8, word: u32, image: &[u8]) -> Session
+    requires { ⌜ Ready (now table) s ⌝ }
+    ensures { λ r. ⌜ r ≡ afterStored (now (table .entry)) s (callOf kind b word (now (image .entry))) ⌝ }
+{
+    match kind {
+        1 => calls::launch(table, s).session,
+        2 => calls::start(table, s, b, word).session,
+        3 => calls::finish_start(table, s, b, word).session,
+        4 => calls::back(table, s).session,
+        5 => calls::look(table, s).session,
+        6 => calls::restore(table, s, image).session,
+        _ => s,
+    }
+}
+
+// The session after a list of calls, made one after the other.
+fn after_calls(table: &[u8], begun: Session, calls: &[u8]) -> Session
+    requires { ⌜ Ready (now table) begun ⌝ }
+    ensures { λ r. ⌜ r ≡ afterStored (now (table .entry)) begun (callsIn (now (calls .entry))) ⌝ }
+{
+    let mut s = begun;
+    let mut p: usize = 0;
+    while calls.len() - p >= 6 {
+        let kind = calls[p];
+        let b = calls[p + 1];
+        let word = play::word_at(calls, p);
+        let from = p + 6;
+        let n = image_length(kind, word);
+        if n > calls.len() - from {
+            return s;
+        }
+        p = from + n;
+        s = after_record(table, s, kind, b, word, &calls[from..p]);
+    }
+    s
+}
+
+// What a list of calls leaves: the refusal of the table (0 if none), and the session.
+#[repr(C)]
+pub struct Replayed {
+    pub refusal: u8,
+    pub session: Session,
+}
+
+// Makes a whole list of calls, from a fresh session. In that session each task has a screen, a single-instance screen is
+// alone in its task, and no single-task or single-instance screen is the root of two tasks.
+pub fn replay(table: &[u8], calls: &[u8]) -> Replayed
+    ensures refusal { λ r. ⌜ r .refusal ≡ tableRefusal (now (table .entry)) ⌝ }
+    ensures session { λ r. ⌜ r .session ≡ replayed (now (table .entry)) (now (calls .entry)) ⌝ }
+    ensures called { λ r. ⌜ (tableRefusal (now (table .entry)) ≡ 0 → r .session ≡ afterStored (now (table .entry)) freshSession (callsIn (now (calls .entry)))) ⌝ }
+    ensures sound { λ r. ⌜ soundStored (now (table .entry)) (r .session) ≡ true ⌝ }
+    ensures screens { λ r. ⌜ All (λ t. 1 ≤ height t) (view (r .session) .tasks) ⌝ }
+    ensures instances { λ r. ⌜ All (λ t. All (λ x. isSingleInstance (now (table .entry)) x ≡ true → t .screens ≡ x ∷ []) (t .screens)) (view (r .session) .tasks) ⌝ }
+    ensures roots { λ r. ⌜ Pairwise (λ t u. rootsOnce (now (table .entry)) (t .root) ≡ true → t .root ≡ u .root → ⊥) (view (r .session) .tasks) ⌝ }
+{
+    let fresh = Session::fresh();
+    let number = table::refusal(table);
+    if number != 0 {
+        return Replayed {
+            refusal: number,
+            session: fresh,
+        };
+    }
+    Replayed {
+        refusal: 0,
+        session: after_calls(table, fresh, calls),
+    }
+}
+
+// Two sessions have equal images: the same length and the same bytes. No image of a sound session is longer than 550 bytes.
+fn same_image(s: Session, t: Session) -> bool
+    requires { ⌜ (storageBlank s ≡ true) × (length (image (view s)) ≤ 550) ⌝ }
+    requires { ⌜ (storageBlank t ≡ true) × (length (image (view t)) ≤ 550) ⌝ }
+    ensures { λ r. ⌜ (r ≡ true) ↔ (image (view s) ≡ image (view t)) ⌝ }
+{
+    let mut a = [0u8; 550];
+    let mut b = [0u8; 550];
+    let n = image::write(s, &mut a);
+    let m = image::write(t, &mut b);
+    check::same(&a[..n], &b[..m])
+}
+
+// What two lists are to each other: the refusal of the table (0 if none), and whether they end alike.
+#[repr(C)]
+pub struct Ending {
+    pub refusal: u8,
+    pub alike: bool,
+}
+
+// Do two lists of calls end in sessions that no later list of calls tells apart? They do exactly where the images of those
+// sessions are equal.
+pub fn same_ending(table: &[u8], first: &[u8], second: &[u8]) -> Ending
+    ensures refusal { λ r. ⌜ r .refusal ≡ tableRefusal (now (table .entry)) ⌝ }
+    ensures images { λ r. ⌜ (tableRefusal (now (table .entry)) ≡ 0 → ((r .alike ≡ true) ↔ SameImage (now (table .entry)) (now (first .entry)) (now (second .entry)))) ⌝ }
+    ensures alike { λ r. ⌜ (tableRefusal (now (table .entry)) ≡ 0 → ((r .alike ≡ true) ↔ EndAlike (now (table .entry)) (now (first .entry)) (now (second .entry)))) ⌝ }
+    ensures called { λ r. ⌜ (tableRefusal (now (table .entry)) ≡ 0 → ((r .alike ≡ true) ↔ EndAlikeStored (now (table .entry)) (now (first .entry)) (now (second .entry)))) ⌝ }
+    ensures refused { λ r. ⌜ ((tableRefusal (now (table .entry)) ≡ 0 → ⊥) → r .alike ≡ false) ⌝ }
+{
+    let one = replay(table, first);
+    if one.refusal != 0 {
+        return Ending {
+            refusal: one.refusal,
+            alike: false,
+        };
+    }
+    let other = replay(table, second);
+    let s = one.session;
+    let t = other.session;
+    Ending {
+        refusal: 0,
+        alike: same_image(s, t),
+    }
+}

@@ -1,0 +1,98 @@
+//! Turns of both, and the table of their times.
+
+use std::time::Instant;
+
+use crate::lot::{self, measured_copy, measured_lent, measured_second, Lot, CALLS};
+use crate::sizes::Size;
+
+/// How many turns each of the two takes.
+const TURNS: usize = 500;
+
+/// Nanoseconds a call of each turn.
+#[derive(Default)]
+struct Times(Vec<f64>);
+
+impl Times {
+    fn measure(&mut self, lot: impl FnOnce()) {
+        let begun = Instant::now();
+        lot();
+        let nanoseconds = begun.elapsed().as_nanos() as f64;
+        self.0.push(nanoseconds / CALLS as f64);
+    }
+
+    fn best(&self) -> f64 {
+        self.0.iter().copied().fold(f64::INFINITY, f64::min)
+    }
+
+    fn middle(&self) -> f64 {
+        let mut sorted = self.0.clone();
+        sorted.sort_by(f64::total_cmp);
+        sorted[sorted.len() / 2]
+    }
+}
+
+pub fn print_table() {
+    println!("nanoseconds a call, best (middle) of {TURNS} turns of {CALLS} calls");
+    println!("call            size             lent           second  ratio");
+    for kind in lot::KINDS {
+        for size in Size::ALL {
+            let [lent, second] = alternate(&Lot::new(kind, size));
+            println!(
+                "{:<15} {:<8} {:>7.0} {:>8} {:>7.0} {:>8} {:>6.2}",
+                kind.name(),
+                size.name(),
+                lent.best(),
+                format!("({:.0})", lent.middle()),
+                second.best(),
+                format!("({:.0})", second.middle()),
+                lent.best() / second.best()
+            );
+        }
+    }
+    let copy = copies();
+    println!(
+        "copying a session of 546 bytes: {:.1} ({:.1})",
+        copy.best(),
+        copy.middle()
+    );
+}
+
+fn alternate(lot: &Lot) -> [Times; 2] {
+    let (mut lent, mut second) = (Times::default(), Times::default());
+    for _ in 0..TURNS {
+        let mut sessions = lot.for_library();
+        lent.measure(|| measured_lent(lot, &mut sessions));
+        let mut sessions = lot.for_second();
+        second.measure(|| measured_second(lot, &mut sessions));
+    }
+    [lent, second]
+}
+
+fn copies() -> Times {
+    let lot = Lot::new(lot::KINDS[0], Size::Full);
+    let from = lot.for_library();
+    let mut times = Times::default();
+    for _ in 0..TURNS {
+        let mut to = lot.for_library();
+        times.measure(|| measured_copy(&from, &mut to));
+    }
+    times
+}
+
+/// So many calls by the library.
+pub fn once_lent(lot: &Lot, count: usize) {
+    for made in (0..count).step_by(CALLS) {
+        let mut sessions = lot.for_library();
+        sessions.truncate(count - made);
+        measured_lent(lot, &mut sessions);
+    }
+}
+
+/// So many calls by the second navigator.
+pub fn once_second(lot: &Lot, count: usize) {
+    for made in (0..count).step_by(CALLS) {
+        let mut sessions = lot.for_second();
+        sessions.truncate(count - made);
+        measured_second(lot, &mut sessions);
+    }
+}

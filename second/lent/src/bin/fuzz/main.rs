@@ -1,0 +1,143 @@
+//! Calls the proved static library with random and damaged bytes at the edges
+//! of memory.
+//!
+//!     fuzz [--seed N] [--seconds N] [--calls N]
+//!
+//! The table, the session, the image and the buffer of every call end at a page
+//! that may not be touched, or begin right behind one. The program ends after so
+//! many seconds, or after so many calls if that is sooner. A fault ends it with the
+//! call's number and exit code 1, and so does an answer, session or buffer that
+//! is not the second navigator's, and a change of any other byte.
+
+mod fault;
+mod made;
+mod pages;
+
+use std::process::ExitCode;
+use std::time::{Duration, Instant};
+
+use second::random::Random;
+
+use lent_calls::call::{by_library, Call, Kind, Outcome};
+use lent_calls::check::{buffer_before, Checked, Checker};
+use lent_calls::run;
+use lent_calls::stored::{Stored, SESSION};
+
+use made::{Base, Made};
+use pages::{Edge, Pages};
+
+/// How many bytes beside a region are watched, and what they hold.
+const WATCHED: usize = 64;
+const WATCHED_BYTE: u8 = 0x5a;
+/// How many calls are made from one table and session.
+const CALLS_OF_A_BASE: u64 = 20;
+
+fn main() -> ExitCode {
+    let known = [("--seed", 1), ("--seconds", 5), ("--calls", u64::MAX)];
+    let Some([seed, seconds, calls]) = run::options(known) else {
+        eprintln!("usage: fuzz [--seed N] [--seconds N] [--calls N]");
+        return ExitCode::from(2);
+    };
+    fault::watch();
+    let begun = Instant::now();
+    let end = begun + Duration::from_secs(seconds);
+    let mut checker = Checker::default();
+    let found = fuzz(&mut checker, seed, end, calls);
+    run::end("fuzz", seed, begun, &checker, found, &[])
+}
+
+fn fuzz(checker: &mut Checker, seed: u64, end: Instant, calls: u64) -> Checked {
+    let mut random = Random::new(seed);
+    let mut memory = Memory::new();
+    let mut made = 0;
+    while made < calls && Instant::now() < end {
+        let base = Base::random(&mut random);
+        checker.counts.add_session(&base.session);
+        for _ in 0..CALLS_OF_A_BASE.min(calls - made) {
+            fault::begin_call(made);
+            let bytes = base.made(&mut random);
+            memory.call(checker, &mut random, &bytes)?;
+            made += 1;
+        }
+    }
+    Ok(())
+}
+
+/// The pages that the four regions lie in.
+struct Memory {
+    table: Pages,
+    session: Pages,
+    image: Pages,
+    buffer: Pages,
+}
+
+impl Memory {
+    fn new() -> Memory {
+        Memory {
+            table: Pages::new(made::LONGEST_TABLE),
+            session: Pages::new(SESSION),
+            image: Pages::new(made::LONGEST_IMAGE),
+            buffer: Pages::new(made::LONGEST_BUFFER),
+        }
+    }
+
+    /// Makes one call and compares all of these pages that it could reach.
+    fn call(&mut self, checker: &mut Checker, random: &mut Random, bytes: &Made) -> Checked {
+        let before = buffer_before(bytes.call(&bytes.image));
+        let present = bytes.session.bytes();
+        let mut edge = || random.one_of(&[Edge::BeginsAt, Edge::EndsAt]);
+        let edges = [edge(), edge(), edge(), edge()];
+        let table = place(&mut self.table, &bytes.table, edges[0]);
+        let session = place(&mut self.session, &present, edges[1]);
+        let image = place(&mut self.image, &bytes.image, edges[2]);
+        let buffer = place(&mut self.buffer, &before, edges[3]);
+
+        let reply = by_library(bytes.call(image), table, Stored::lent(session), buffer);
+        let outcome = Outcome {
+            reply,
+            session: *Stored::lent(session),
+            buffer: buffer.to_vec(),
+        };
+        let outside = *table != bytes.table[..]
+            || *image != bytes.image[..]
+            || touched(&mut self.table, bytes.table.len(), edges[0])
+            || touched(&mut self.session, SESSION, edges[1])
+            || touched(&mut self.image, bytes.image.len(), edges[2])
+            || touched(&mut self.buffer, before.len(), edges[3]);
+        let call = bytes.call(&bytes.image);
+        checker.judge("fuzz", &bytes.table, &bytes.session, call, outcome, outside)?;
+        Ok(())
+    }
+}
+
+/// Puts bytes at an edge, and marks those beside them.
+fn place<'a>(pages: &'a mut Pages, bytes: &[u8], edge: Edge) -> &'a mut [u8] {
+    pages.beside(bytes.len(), edge, WATCHED).fill(WATCHED_BYTE);
+    let region = pages.region(bytes.len(), edge);
+    region.copy_from_slice(bytes);
+    region
+}
+
+/// Whether the bytes beside a region were written.
+fn touched(pages: &mut Pages, length: usize, edge: Edge) -> bool {
+    let beside = pages.beside(length, edge, WATCHED);
+    beside.iter().any(|&byte| byte != WATCHED_BYTE)
+}
+
+impl Made {
+    /// The call, with the image in this place.
+    fn call<'a>(&self, image: &'a [u8]) -> Call<'a> {
+        let (screen, flags) = (self.screen, self.flags);
+        match self.kind {
+            Kind::Launch => Call::Launch,
+            Kind::Start => Call::Start { screen, flags },
+            Kind::FinishingStart => Call::FinishingStart { screen, flags },
+            Kind::Back => Call::Back,
+            Kind::Look => Call::Look,
+            Kind::Save => Call::Save {
+                length: self.length,
+            },
+            Kind::Restore => Call::Restore { image },
+        }
+    }
+}

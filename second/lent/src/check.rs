@@ -1,0 +1,141 @@
+//! Makes a call by the static library and by the second navigator, and compares
+//! all that the two give.
+
+use std::fmt;
+
+use second::hex::hex;
+
+use crate::call::{by_library, by_second, Call, Outcome};
+use crate::counts::Counts;
+use crate::stored::{Stored, SESSION, TASK};
+
+/// How many bytes before and after what is lent are watched.
+const GUARD: usize = 32;
+const GUARDS: [u8; GUARD] = [0xa5; GUARD];
+
+/// A call on which the two differ.
+pub struct Difference {
+    what: &'static str,
+    table: Vec<u8>,
+    session: Stored,
+    call: String,
+    library: Outcome,
+    /// Whether the library wrote outside of what it was lent.
+    outside: bool,
+    second: Outcome,
+}
+
+pub type Checked<T = ()> = Result<T, Box<Difference>>;
+
+#[derive(Default)]
+pub struct Checker {
+    pub counts: Counts,
+}
+
+/// A session with bytes around it that nobody may write.
+#[repr(C)]
+struct Guarded {
+    before: [u8; GUARD],
+    session: Stored,
+    after: [u8; GUARD],
+}
+
+impl Checker {
+    /// Makes a call on the present session; gives the session after it.
+    pub fn check(
+        &mut self,
+        what: &'static str,
+        table: &[u8],
+        present: &Stored,
+        call: Call,
+    ) -> Checked<Stored> {
+        let (library, outside) = outcome_by_library(table, present, call);
+        self.judge(what, table, present, call, library, outside)
+    }
+
+    /// Compares what the library gave with the second navigator, which makes
+    /// the call now.
+    pub fn judge(
+        &mut self,
+        what: &'static str,
+        table: &[u8],
+        present: &Stored,
+        call: Call,
+        library: Outcome,
+        outside: bool,
+    ) -> Checked<Stored> {
+        let second = outcome_by_second(table, present, call);
+        self.counts.add(table, present, call, &second.reply);
+        if library == second && !outside {
+            return Ok(second.session);
+        }
+        Err(Box::new(Difference {
+            what,
+            table: table.to_vec(),
+            session: *present,
+            call: call.to_string(),
+            library,
+            outside,
+            second,
+        }))
+    }
+}
+
+/// What the buffer holds before a call.
+pub fn buffer_before(call: Call) -> Vec<u8> {
+    let places = 0..call.buffer_length();
+    places.map(|i| (i * 37 + i / 256) as u8).collect()
+}
+
+/// What the library gives, and whether it wrote outside of what it was lent.
+fn outcome_by_library(table: &[u8], present: &Stored, call: Call) -> (Outcome, bool) {
+    let mut lent = Guarded {
+        before: GUARDS,
+        session: *present,
+        after: GUARDS,
+    };
+    let mut bytes = [&GUARDS[..], &buffer_before(call), &GUARDS].concat();
+    let end = bytes.len() - GUARD;
+    let reply = by_library(call, table, &mut lent.session, &mut bytes[GUARD..end]);
+    let kept = bytes[..GUARD] == GUARDS && bytes[end..] == GUARDS;
+    let given = Outcome {
+        reply,
+        session: lent.session,
+        buffer: bytes[GUARD..end].to_vec(),
+    };
+    (
+        given,
+        !kept || lent.before != GUARDS || lent.after != GUARDS,
+    )
+}
+
+/// What the second navigator gives.
+fn outcome_by_second(table: &[u8], present: &Stored, call: Call) -> Outcome {
+    let mut session = *present;
+    let mut buffer = buffer_before(call);
+    let reply = by_second(call, table, &mut session, &mut buffer);
+    Outcome {
+        reply,
+        session,
+        buffer,
+    }
+}
+
+impl fmt::Display for Difference {
+    fn fmt(&self, f: &mut fmt::Formatter) -> fmt::Result {
+        writeln!(f, "difference, found in: {}", self.what)?;
+        writeln!(f, "table, hex: {}", hex(&self.table, 1))?;
+        writeln!(f, "session, hex: {}", hex(&self.session.bytes(), TASK))?;
+        writeln!(f, "{}", self.call)?;
+        writeln!(f, "library: {}", self.library)?;
+        if self.outside {
+            writeln!(f, "  and wrote outside")?;
+        }
+        writeln!(f, "second: {}", self.second)?;
+        let (library, second) = (self.library.session.bytes(), self.second.session.bytes());
+        match (0..SESSION).find(|&place| library[place] != second[place]) {
+            Some(place) => writeln!(f, "the sessions differ first at byte {place}"),
+            None => Ok(()),
+        }
+    }
+}

@@ -1,0 +1,21 @@
+//! The calls of the proved static library, made beside the second navigator's.
+//!
+//! - `library`: the static library's functions, as they are declared to C
+//! - `stored`: sessions as the static library stores them
+//! - `call`: a call with its arguments, made by either of the two
+//! - `check`: makes a call by both and compares all that they give
+//! - `counts`: how often each call was made, each refusal and rule came up
+//! - `sessions`, `damage`: random good and bad tables, sessions and images
+//! - `run`: options and endings of the comparing programs
+//!
+//! The programs: `images` compares save and restore, `calls` all calls, `fuzz`
+//! makes calls on any bytes at the edges of memory, `calls_bench` measures.
+
+pub mod call;
+pub mod check;
+pub mod counts;
+pub mod damage;
+pub mod library;
+pub mod run;
+pub mod sessions;
+pub mod stored;

@@ -1,0 +1,129 @@
+//! The static library's calls, as it declares them to C: a slice is a pointer
+//! and a length; the session is lent, to save passed by value.
+
+use crate::stored::Stored;
+
+/// What a call answers: the paper's six numbers.
+#[repr(C)]
+#[derive(Clone, Copy)]
+pub struct Answer {
+    refusal: u8,
+    screen: u8,
+    root: u8,
+    height: u8,
+    tasks: u8,
+    main: u8,
+}
+
+/// What save gives: the refusal's number, or 0, and the image's length.
+#[repr(C)]
+#[derive(Clone, Copy)]
+pub struct SaveReply {
+    refusal: u8,
+    length: usize,
+}
+
+extern "C" {
+    fn milchkompass_launch(table: *const u8, table_length: usize, session: *mut Stored) -> Answer;
+
+    fn milchkompass_start(
+        table: *const u8,
+        table_length: usize,
+        session: *mut Stored,
+        screen: u8,
+        flags: u32,
+    ) -> Answer;
+
+    fn milchkompass_finish_start(
+        table: *const u8,
+        table_length: usize,
+        session: *mut Stored,
+        screen: u8,
+        flags: u32,
+    ) -> Answer;
+
+    fn milchkompass_back(table: *const u8, table_length: usize, session: *mut Stored) -> Answer;
+
+    fn milchkompass_look(table: *const u8, table_length: usize, session: *mut Stored) -> Answer;
+
+    fn milchkompass_restore(
+        table: *const u8,
+        table_length: usize,
+        session: *mut Stored,
+        image: *const u8,
+        image_length: usize,
+    ) -> Answer;
+
+    fn milchkompass_save(
+        table: *const u8,
+        table_length: usize,
+        session: Stored,
+        buffer: *mut u8,
+        buffer_length: usize,
+    ) -> SaveReply;
+}
+
+impl Answer {
+    /// The six numbers in the paper's order.
+    fn numbers(self) -> [u8; 6] {
+        [
+            self.refusal,
+            self.screen,
+            self.root,
+            self.height,
+            self.tasks,
+            self.main,
+        ]
+    }
+}
+
+// In each function below the pointers and lengths are those of whole slices and
+// of one session, and the library keeps none of them.
+
+pub fn launch(table: &[u8], session: &mut Stored) -> [u8; 6] {
+    unsafe { milchkompass_launch(table.as_ptr(), table.len(), session) }.numbers()
+}
+
+pub fn start(table: &[u8], session: &mut Stored, screen: u8, flags: u32) -> [u8; 6] {
+    unsafe { milchkompass_start(table.as_ptr(), table.len(), session, screen, flags) }.numbers()
+}
+
+pub fn finishing_start(table: &[u8], session: &mut Stored, screen: u8, flags: u32) -> [u8; 6] {
+    unsafe { milchkompass_finish_start(table.as_ptr(), table.len(), session, screen, flags) }
+        .numbers()
+}
+
+pub fn back(table: &[u8], session: &mut Stored) -> [u8; 6] {
+    unsafe { milchkompass_back(table.as_ptr(), table.len(), session) }.numbers()
+}
+
+pub fn look(table: &[u8], session: &mut Stored) -> [u8; 6] {
+    unsafe { milchkompass_look(table.as_ptr(), table.len(), session) }.numbers()
+}
+
+pub fn restore(table: &[u8], session: &mut Stored, image: &[u8]) -> [u8; 6] {
+    unsafe {
+        milchkompass_restore(
+            table.as_ptr(),
+            table.len(),
+            session,
+            image.as_ptr(),
+            image.len(),
+        )
+    }
+    .numbers()
+}
+
+/// Save: the refusal's number, or 0, and the image's length.
+pub fn save(table: &[u8], session: &Stored, buffer: &mut [u8]) -> (u8, usize) {
+    let reply = unsafe {
+        milchkompass_save(
+            table.as_ptr(),
+            table.len(),
+            *session,
+            buffer.as_mut_ptr(),
+            buffer.len(),
+        )
+    };
+    (reply.refusal, reply.length)
+}

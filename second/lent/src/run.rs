@@ -1,0 +1,47 @@
+//! What the comparing programs share: their options, and how they end.
+
+use std::process::ExitCode;
+use std::time::Instant;
+
+use crate::call::Kind;
+use crate::check::{Checked, Checker};
+
+/// The numbers given after these options, or what stands here. `None` if the
+/// arguments are not such options.
+pub fn options<const N: usize>(mut known: [(&str, u64); N]) -> Option<[u64; N]> {
+    let mut arguments = std::env::args().skip(1);
+    while let Some(argument) = arguments.next() {
+        let option = known.iter_mut().find(|(name, _)| *name == argument)?;
+        option.1 = arguments.next()?.parse().ok()?;
+    }
+    Some(known.map(|(_, number)| number))
+}
+
+/// Tells what a comparison found; it fails by a difference, and by a refusal or
+/// rule that never came up in calls of these kinds.
+pub fn end(
+    program: &str,
+    seed: u64,
+    begun: Instant,
+    checker: &Checker,
+    found: Checked,
+    kinds: &[Kind],
+) -> ExitCode {
+    if let Err(difference) = found {
+        print!("{difference}");
+        println!("{program}: seed {seed}, a difference");
+        return ExitCode::FAILURE;
+    }
+    print!("{}", checker.counts);
+    let missing = checker.counts.missing(kinds);
+    if !missing.is_empty() {
+        println!("{program}: never came up: {}", missing.join(", "));
+        return ExitCode::FAILURE;
+    }
+    println!(
+        "{program}: seed {seed}, {} calls, no difference, {:.1} s",
+        checker.counts.all_calls(),
+        begun.elapsed().as_secs_f64()
+    );
+    ExitCode::SUCCESS
+}
