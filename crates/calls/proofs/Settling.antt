@@ -1,4 +1,4 @@
--- A call on a stored session, by what its first checks said; and that what it leaves is sound.
+-- A call on a stored session, by its refusal and by what its first checks said; and that what it leaves is sound.
 use Prim.Native.Nat.{ℕ, zero, suc, _≤_}
 use mathlib.Core.Path.{_≡_, refl, sym, _∙_, ap}
 use mathlib.Core.Bool.{true, false, not}
@@ -22,7 +22,25 @@ use Rattle.session.proofs.Known.{Sized}
 use Rattle.session.proofs.StoredLaws.{held, view-hold, view-count, hold-sound, sound-blank, blank-few, sound-view}
 use Rattle.answer.proofs.LookLaws.{sound-seen}
 use Rattle.calls.specs.declared.Reply.{Reply}
-use Rattle.calls.specs.StoredCalls.{reply, settleStored, refusalStored, sharedRefusal, callStored, KeepsSound}
+use Rattle.calls.specs.StoredCalls.{reply, settleStored, settled, refusalStored, sharedRefusal, callStored, KeepsSound}
+
+-- ---- the answer, by the refusal
+
+pub settle-refused : (c : Session) (k : ℕ) → (k ≡ 0 → ⊥) → settled k c ≡ reply c (refused k)
+settle-refused c zero n = absurd (n refl)
+settle-refused c (suc k) n = refl
+
+pub settle-accepted : (c : Session) (k : ℕ) → k ≡ 0 → settled k c ≡ reply c (lookAt (view c))
+settle-accepted c k e = rw e
+
+pub settle-told : (c : Session) (k : ℕ) → reply c (settled k c .answer) ≡ settled k c
+settle-told c zero = refl
+settle-told c (suc k) = refl
+
+-- the call k on c left the session s, with the refusal n
+pub record Left (tb : List ℕ) (c : Session) (k : Call) (n : ℕ) (s : Session) : Type 0 where
+  pub settles : settled n s ≡ callStored tb c k
+  pub seen : n ≡ 0 → Seen s
 
 -- ---- the shared checks
 

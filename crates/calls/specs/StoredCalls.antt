@@ -1,15 +1,12 @@
 -- Calls on stored sessions: what the program gives for each, refused or not.
 use Prim.Native.Nat.{ℕ, zero, suc}
 use mathlib.Core.Path.{_≡_}
-use mathlib.Core.Bool.{Bool, true, false, not}
-use mathlib.Core.List.{List, [], _∷_}
-use lib.Dec.{ltb}
+use mathlib.Core.Bool.{Bool, true, false}
+use mathlib.Core.List.{List, []}
 use Rattle.model.specs.declared.Answer.{Answer}
-use Rattle.model.specs.Lists.{isEmpty}
-use Rattle.model.specs.Refusals.{Check, check, refusal}
-use Rattle.model.specs.Table.{sizeOf, tableRefusal}
+use Rattle.model.specs.Refusals.{refusal}
+use Rattle.model.specs.Table.{tableRefusal}
 use Rattle.model.specs.Session.{State}
-use Rattle.model.specs.Flags.{hasOtherBit}
 use Rattle.model.specs.Answers.{lookAt, refused}
 use Rattle.model.specs.Calls.{Call, start, finishingStart, checksIn, ownChecks, done}
 use Rattle.session.specs.declared.Session.{Session}
@@ -40,15 +37,10 @@ abbrev pub startCall : Bool → ℕ → ℕ → Call
 startCall true b w = finishingStart b w
 startCall false b w = start b w
 
--- a start's own checks before it looks for room: 3, 4, 21, or 0
-abbrev pub entryChecks : List ℕ → Session → ℕ → ℕ → List Check
-entryChecks tb c b w =
-    check 3 (not (ltb b (sizeOf tb))) ∷ check 4 (hasOtherBit w) ∷ check 21 (isEmpty (view c .tasks)) ∷ []
-
--- a start that passed them, refused by 23 or 24 or not
-abbrev pub settleStart : ℕ → Session → Reply
-settleStart zero c = reply c (lookAt (view c))
-settleStart (suc k) c = reply c (refused (suc k))
+-- a call that left the session c, with the refusal k (0 if none)
+abbrev pub settled : ℕ → Session → Reply
+settled zero c = reply c (lookAt (view c))
+settled (suc k) c = reply c (refused (suc k))
 
 -- under a good table a sound session stays sound
 abbrev pub KeepsSound : List ℕ → Session → Session → Type 0

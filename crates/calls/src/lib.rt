@@ -2,15 +2,19 @@
 // what is read.
 
 ghost use mathlib.Core.Path.{_≡_};
+ghost use lib.Dec.{eqb};
+ghost use Rattle.model.specs.Lists.{if_then_else_};
 ghost use Rattle.model.specs.Answers.{lookAt, refused as refusedAnswer};
 ghost use Rattle.model.specs.Calls.{Call};
+ghost use Rattle.model.specs.Table.{tableRefusal};
 ghost use Rattle.model.specs.Refusals.{refusal as refusalOf};
 ghost use Rattle.session.specs.Stored.{view, Ready};
 ghost use Rattle.answer.specs.Seen.{Seen};
-ghost use Rattle.calls.specs.StoredCalls.{reply, startCall, entryChecks, settleStart, callStored};
+ghost use Rattle.rules.specs.Starts.{startEntry};
+ghost use Rattle.calls.specs.StoredCalls.{reply, startCall, settled, callStored};
 ghost use Rattle.calls.specs.StoredSaves.{saved, saveStored};
 use model::Answer;
-use rules::Started;
+use model::Mark;
 use session::Session;
 
 // What a call gives: the session after it, and the answer.
@@ -60,21 +64,52 @@ pub fn launch(table: &[u8], s: Session) -> Reply
     accept(rules::launch(table))
 }
 
+// The answer of a call that left this session: refused by this number, or by 0 accepted.
+fn told(number: u8, s: Session) -> Answer
+    requires { ⌜ (number ≡ 0 → Seen s) ⌝ }
+    ensures { λ r. ⌜ r ≡ settled number s .answer ⌝ }
+{
+    if number != 0 {
+        return answer::refused(number);
+    }
+    answer::look_at(s)
+}
+
+// Back's own check: 21 where no task stands, or 0.
+fn back_refusal(tasks: u8) -> u8
+    ensures { λ r. ⌜ r ≡ (if eqb tasks 0 then 21 else 0) ⌝ }
+{
+    if tasks == 0 {
+        return 21;
+    }
+    0
+}
+
 // Back, on a session that is not empty.
 pub fn back(table: &[u8], s: Session) -> Reply
     requires { ⌜ Ready (now table) s ⌝ }
     ensures { λ r. ⌜ r ≡ callStored (now (table .entry)) s Call.back ⌝ }
 {
-    if s.n == 0 {
-        return refuse(s, 21);
+    let mut out = s;
+    let number = back_refusal(out.n);
+    if number == 0 {
+        let front = out.tasks[0];
+        if front.height > 1 {
+            out.tasks[0] = front.pop();
+        } else {
+            out = closing::without_task(out, 0);
+        }
     }
-    accept(rules::back(table, s))
+    Reply {
+        session: out,
+        answer: told(number, out),
+    }
 }
 
-// A start's own checks before it looks for room: 3, 4, 21, or 0.
-fn entry_refusal(table: &[u8], s: Session, b: u8, word: u32) -> u8
-    requires { ⌜ Ready (now table) s ⌝ }
-    ensures { λ r. ⌜ r ≡ refusalOf (entryChecks (now (table .entry)) s b word) ⌝ }
+// A start's own checks before it looks for room, where n tasks stand: 3, 4, 21, or 0.
+fn entry_refusal(table: &[u8], n: u8, b: u8, word: u32) -> u8
+    requires { ⌜ tableRefusal (now table) ≡ 0 ⌝ }
+    ensures { λ r. ⌜ r ≡ refusalOf (startEntry (now (table .entry)) n b word) ⌝ }
 {
     if b >= table::size(table) {
         return 3;
@@ -82,34 +117,57 @@ fn entry_refusal(table: &[u8], s: Session, b: u8, word: u32) -> u8
     if flags::has_other_bit(word) {
         return 4;
     }
-    if s.n == 0 {
+    if n == 0 {
         return 21;
     }
     0
 }
 
-// A start that passed those checks, refused by 23 or 24 or not.
-fn settle(out: Started) -> Reply
-    requires { ⌜ (out .refusal ≡ 0 → Seen (out .session)) ⌝ }
-    ensures { λ r. ⌜ r ≡ settleStart (out .refusal) (out .session) ⌝ }
-{
-    let s = out.session;
-    if out.refusal != 0 {
-        return refuse(s, out.refusal);
-    }
-    accept(s)
-}
-
-// A start of b with a flag word, or a finishing start.
-fn make_start(table: &[u8], s: Session, b: u8, word: u32, finishing: bool) -> Reply
+// A start of b with a flag word, or a finishing start, where the screen that was in front then closes, if it still stands.
+pub fn make_start(table: &[u8], s: Session, b: u8, word: u32, finishing: bool) -> Reply
     requires { ⌜ Ready (now table) s ⌝ }
     ensures { λ r. ⌜ r ≡ callStored (now (table .entry)) s (startCall finishing b word) ⌝ }
 {
-    let number = entry_refusal(table, s, b, word);
-    if number != 0 {
-        return refuse(s, number);
+    let mut out = s;
+    let mut number = entry_refusal(table, out.n, b, word);
+    if number == 0 {
+        let f = flags::read(word);
+        let front = out.tasks[0];
+        let group = choice::group_of(table, front.top(), b, f);
+        let found = choice::sought_by(table, out, b, f, group);
+        let t = out.tasks[choice::index_of(found)];
+        let rule = choice::rule_in(table, group, t, out.main, b, f, found);
+        let deed = choice::deed_of(rule);
+        number = choice::room_refusal(out.n, t, deed);
+        if number == 0 {
+            let place = choice::place_of(found);
+            let mut i = deeds::shift_of(deed, place, out.n) as usize;
+            while i > 0 {
+                let x = out.tasks[i - 1];
+                out.tasks[i] = x;
+                i -= 1;
+            }
+            out.tasks[0] = deeds::front_after(t, b, deed);
+            out.n = deeds::count_after(deed, out.n);
+            out.main = deeds::main_after(deed, place, out.main);
+            if finishing {
+                let mark = closing::mark_of(deed, place, b == front.top());
+                if let Mark::Stands(behind, below) = mark {
+                    let k = behind as usize;
+                    let u = out.tasks[k];
+                    if u.height > 1 {
+                        out.tasks[k] = closing::without_screen(u, below);
+                    } else {
+                        out = closing::without_task(out, behind);
+                    }
+                }
+            }
+        }
     }
-    settle(rules::start(table, s, b, flags::read(word), finishing))
+    Reply {
+        session: out,
+        answer: told(number, out),
+    }
 }
 
 // Start of b with a flag word.

@@ -11,7 +11,7 @@ use Rattle.model.specs.declared.Group.{Group}
 use Rattle.model.specs.Table.{sizeOf}
 use Rattle.model.specs.Session.{noStack, frontScreen, count, top, mostTasks}
 use Rattle.model.specs.Search.{seekRoot, seek}
-use Rattle.model.specs.Rules.{groupOf, soughtBy, chooseIn, choose}
+use Rattle.model.specs.Rules.{soughtBy}
 use Rattle.model.proofs.Logic.{All-at, if-elim}
 use Rattle.model.proofs.Sound.{TaskSound}
 use Rattle.model.proofs.Start.{Sought, seekRoot-sought, seek-sought}
@@ -100,8 +100,3 @@ module _ (tb : List ℕ) (c : Session) (b : ℕ) (z : Sized c) (h : Startable tb
   -- a task stands at the index of the task that a group seeks
   pub index-stands : (f : Flags) (g : Group) {t : Found} → t ≡ soughtBy tb (view c) b f g → {i : ℕ} → i ≡ indexOf t → i < c .n
   index-stands f g e k = rw (k, e) (sought-index f g)
-
-  -- and of the task that is found for a start
-  pub chosen-stands : (f : Flags) {t : Found} → t ≡ choose tb (view c) b f .found → {i : ℕ} → i ≡ indexOf t → i < c .n
-  unfolding choose chooseIn
-  chosen-stands f e k = index-stands f (groupOf tb (view c) b f) e k

@@ -19,7 +19,6 @@ ghost use Rattle.choice.specs.Startable.{Startable};
 ghost use Rattle.choice.specs.Shows.{indexOf, Shows, Filled};
 ghost use Rattle.choice.specs.Groups.{ruleOf};
 use model::Change;
-use model::Choice;
 use model::Deed;
 use model::Flags;
 use model::Found;
@@ -245,23 +244,6 @@ pub fn rule_in(table: &[u8], group: Group, t: Task, main: u8, b: u8, f: Flags, f
         Group::Task => task_rule(t, b, f, found),
         Group::Near => near_rule(table, t, b, f),
         Group::Apart => apart_rule(table, t, main, b, f, found),
-    }
-}
-
-// The rule that a start of b uses, and the task that was found for it.
-pub fn choose(table: &[u8], s: Session, b: u8, f: Flags) -> Choice
-    requires { ⌜ Startable (now table) s b ⌝ }
-    ensures { λ r. ⌜ r ≡ chooseRule (now (table .entry)) (view s) b f ⌝ }
-{
-    let front = s.tasks[0];
-    let group = group_of(table, front.top(), b, f);
-    let found = sought_by(table, s, b, f, group);
-    let k = index_of(found);
-    let t = s.tasks[k];
-    let rule = rule_in(table, group, t, s.main, b, f, found);
-    Choice {
-        rule: rule,
-        found: found,
     }
 }
 

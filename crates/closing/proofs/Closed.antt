@@ -1,21 +1,24 @@
--- Closing a screen of a stored session, by the height of its task; and the main place, by the tests that code makes.
+-- Closing a screen of a stored session, by the height of its task; the main place, by the tests that code makes; and that
+-- Back finds a screen.
 use Prim.Native.Nat.{ℕ, suc, _-_, _≤_, _<_, pred}
-use mathlib.Core.Path.{_≡_, refl, _∙_, ap, ap₂}
+use mathlib.Core.Path.{_≡_, refl, sym, _∙_, ap, ap₂}
 use mathlib.Core.Bool.{Bool, true, false}
 use mathlib.Core.List.{List, [], _∷_}
 use native.Mathlib.Omega.{arith}
 use lib.ListN.{length, getD, set}
 use borrow.Author.Tests.{eq-eqb, ne-eqb, lt-ltb, le-ltb}
 use Rattle.model.specs.Lists.{isEmpty, omit, if_then_else_}
-use Rattle.model.specs.Session.{Stack, stack, state, noStack, height, count, mostHeight}
+use Rattle.model.specs.Session.{Stack, stack, state, noStack, height, count, mostTasks, mostHeight}
 use Rattle.model.specs.Deeds.{mainWithout, close}
+use Rattle.model.proofs.Logic.{All-at}
 use Rattle.model.proofs.ListLaws.{omit-length}
+use Rattle.model.proofs.Sound.{TaskSound}
 use Rattle.model.proofs.Close.{closeIn-emptied, closeIn-kept, shortened}
 use Rattle.session.specs.declared.Session.{Session}
 use Rattle.session.specs.declared.Task.{Task}
-use Rattle.session.specs.Stored.{view, viewTask, hold, holdTask, noTask, popped}
+use Rattle.session.specs.Stored.{view, viewTask, hold, holdTask, noTask, popped, blankAbove, storageBlank, Ready}
 use Rattle.session.proofs.Known.{Sized}
-use Rattle.session.proofs.StoredLaws.{held, hold-viewTask, view-at, blank-few, sized-at}
+use Rattle.session.proofs.StoredLaws.{held, hold-viewTask, view-at, blank-few, sized-at, sound-blank, sound-view}
 use Rattle.session.proofs.SessionLaws.{stored, hold-set}
 use Rattle.session.proofs.TaskLaws.{hold-popped}
 use Rattle.deeds.specs.Rows.{withTasks}
@@ -39,7 +42,7 @@ module _ (p m : ℕ) where
     unfolding mainWithout
     without-before l = rw (ne-eqb m p other, le-ltb p m l)
 
--- ---- closing
+-- ---- closing a screen, also for a caller that closes in place
 
 empty-is : {A : Type 0} (xs : List A) → length xs ≡ 0 → isEmpty xs ≡ true
 empty-is [] e = refl
@@ -53,22 +56,19 @@ module _ (s : Session) (z : Sized s) (k i : ℕ) (c : Closable s k i) where
   abbrev t : Task
   t = getD (s .tasks) k noTask
 
-  pub inside : k < s .n
+  inside : k < s .n
   inside = let n = counted s z (c .blank) in omega (arith, c .there .0)
 
   abbrev xs : List ℕ
   xs = getD (view s .tasks) k noStack .screens
 
-  pub tall : length xs ≡ t .height
+  tall : length xs ≡ t .height
   tall =
       let few = blank-few s (c .blank) in
       let h = inside in
       ap height (view-at s k h) ∙ blank-height t (sized-at s z k (omega arith)) (stored-blank s z (c .blank) k h)
 
-  pub below-low : i < t .height
-  below-low = let h = tall in omega (arith, c .there .1)
-
-  pub closed-last : t .height ≡ 1 → hold (close k i (view s)) ≡ hold (state (omit k (view s .tasks)) (mainWithout (suc k) (s .main)))
+  closed-last : t .height ≡ 1 → hold (close k i (view s)) ≡ hold (state (omit k (view s .tasks)) (mainWithout (suc k) (s .main)))
   unfolding close view
   closed-last one =
       let h = tall in
@@ -76,7 +76,7 @@ module _ (s : Session) (z : Sized s) (k i : ℕ) (c : Closable s k i) where
       ap₂ (λ (ts : List (Stack ℕ)) (b : Bool). hold (state ts (if b then mainWithout (suc k) (s .main) else s .main)))
       (closeIn-emptied k i (view s .tasks) e) e
 
-  pub closed-kept : (t .height ≡ 1 → ⊥)
+  closed-kept : (t .height ≡ 1 → ⊥)
       → hold (close k i (view s)) ≡ stored (set (s .tasks) k (holdTask (stack (t .root) (omit i (viewTask t .screens))))) (s .n) (s .main)
   unfolding close view viewTask
   closed-kept more =
@@ -89,6 +89,26 @@ module _ (s : Session) (z : Sized s) (k i : ℕ) (c : Closable s k i) where
       ∙ ap₂ (λ (o : Session) (u : Stack ℕ). stored (set (o .tasks) k (holdTask (stack (u .root) (omit i (u .screens))))) (count (view s)) (s .main))
       (held s z (c .blank)) (view-at s k inside)
       ∙ ap (λ (j : ℕ). stored (set (s .tasks) k (holdTask (stack (t .root) (omit i (viewTask t .screens))))) j (s .main)) n
+
+  -- the place is one of the array
+  pub place-inside : k < mostTasks
+  place-inside = let few = blank-few s (c .blank) in omega (arith, inside)
+
+  -- where the task has one screen: what `without_task` requires, and what it leaves
+  pub task-there : (storageBlank s ≡ true) × (k < s .n)
+  task-there = (c .blank, inside)
+
+  pub task-closed : t .height ≡ 1 → {r : Session} → r ≡ hold (state (omit k (view s .tasks)) (mainWithout (suc k) (s .main)))
+      → r ≡ hold (close k i (view s))
+  task-closed one e = e ∙ sym (closed-last one)
+
+  -- where it has more: what `without_screen` requires, and what is left when its task is put in place
+  pub screen-there : (blankAbove t ≡ true) × (i < t .height)
+  screen-there = let h = tall in (stored-blank s z (c .blank) k inside, omega (arith, c .there .1))
+
+  pub screen-closed : (t .height ≡ 1 → ⊥) → {r : Task} → r ≡ holdTask (stack (t .root) (omit i (viewTask t .screens)))
+      → withTasks s (set (s .tasks) k r) ≡ hold (close k i (view s))
+  screen-closed more e = ap (λ (u : Task). withTasks s (set (s .tasks) k u)) e ∙ sym (closed-kept more)
 
 -- ---- the top screen of a task that keeps others
 
@@ -110,3 +130,13 @@ top-closed s z k c more =
     closed-kept s z k 0 c (λ q. omega arith)
     ∙ ap (λ (u : Task). withTasks s (set (s .tasks) k u))
     (hold-first-gone (t .root) (viewTask t .screens) (omega arith) (omega arith) ∙ ap popped (hold-viewTask t l e))
+
+-- ---- Back
+
+-- it finds a screen to close
+pub back-closable : (tb : List ℕ) (c : Session) → Sized c → Ready tb c → 1 ≤ c .n → Closable c 0 0
+back-closable tb c z h some =
+    let blank = sound-blank tb c (h .sound) in
+    let n = counted c z blank in
+    let l : 0 < count (view c) = omega arith in
+    record { blank = blank; there = (l, All-at (TaskSound tb) (view c .tasks) 0 noStack l (sound-view tb c (h .sound) .each) .filled) }

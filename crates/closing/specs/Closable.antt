@@ -3,14 +3,15 @@ use Prim.Native.Nat.{ℕ}
 use mathlib.Core.Path.{_≡_}
 use mathlib.Core.Bool.{Bool, true}
 use Rattle.model.specs.declared.Deed.{Deed}
-use Rattle.model.specs.Marks.{stands, markAfter, Stands}
+use Rattle.model.specs.declared.Mark.{Mark}
+use Rattle.model.specs.Marks.{markAfter, Stands}
 use Rattle.session.specs.declared.Session.{Session}
 use Rattle.session.specs.Stored.{view, storageBlank}
 
 -- a screen stands behind k tasks and below i screens
 pub record Closable (s : Session) (k i : ℕ) : Type 0 where
   pub blank : storageBlank s ≡ true
-  pub there : Stands (stands k i) (view s)
+  pub there : Stands (Mark.Stands k i) (view s)
 
 -- the marked screen stands where its mark says, or it is gone
 pub record Markable (s : Session) (d : Deed) (p : ℕ) (isB : Bool) : Type 0 where

@@ -6,19 +6,20 @@ ghost use mathlib.Core.Bool.{true};
 ghost use Rattle.model.specs.Lists.{omit};
 ghost use Rattle.model.specs.Session.{stack, state};
 ghost use Rattle.model.specs.Deeds.{mainWithout, close as closeScreen};
-ghost use Rattle.model.specs.Marks.{markIn, markAfter, closeAt, Stands};
+ghost use Rattle.model.specs.Marks.{markIn, markAfter, closeAt};
 ghost use Rattle.session.specs.Stored.{view, viewTask, hold, holdTask, blankTask, blankAbove, storageBlank};
 ghost use Rattle.deeds.specs.Rows.{closedUp, withTasks};
 ghost use Rattle.closing.specs.Closable.{Closable, Markable};
 use model::Change;
 use model::Deed;
+use model::Mark;
 use session::Session;
 use session::Task;
 
 // ---- a screen of a task
 
 // The task without the screen that stands below so many others.
-fn without_screen(t: Task, below: u8) -> Task
+pub fn without_screen(t: Task, below: u8) -> Task
     requires { ⌜ (blankAbove t ≡ true) × (below < t .height) ⌝ }
     ensures { λ r. ⌜ r ≡ holdTask (stack (t .root) (omit below (viewTask t .screens))) ⌝ }
 {
@@ -66,7 +67,7 @@ fn main_without(place: u8, main: u8) -> u8
 }
 
 // The session without the task behind so many others; the main place follows its task or becomes 0.
-fn without_task(s: Session, behind: u8) -> Session
+pub fn without_task(s: Session, behind: u8) -> Session
     requires { ⌜ (storageBlank s ≡ true) × (behind < s .n) ⌝ }
     ensures { λ r. ⌜ r ≡ hold (state (omit behind (view s .tasks)) (mainWithout (suc behind) (s .main))) ⌝ }
 {
@@ -95,27 +96,44 @@ pub fn close(s: Session, behind: u8, below: u8) -> Session
     out
 }
 
-// Where the front task was changed: the screen that was on top closes, if it still stands; same tells whether it is B.
-fn close_in(s: Session, change: Change, same: bool) -> Session
-    requires { ⌜ (storageBlank s ≡ true) × Stands (markIn change same) (view s) ⌝ }
-    ensures { λ r. ⌜ r ≡ hold (closeAt (markIn change same) (view s)) ⌝ }
+// ---- the marked screen
+
+// Where the screen that was on top stands after a change of its own task; same tells whether it is B.
+fn mark_in(change: Change, same: bool) -> Mark
+    ensures { λ r. ⌜ r ≡ markIn change same ⌝ }
 {
     match change {
-        Change::Keep => close(s, 0, 0),
-        Change::Renew => s,
+        Change::Keep => Mark::Stands(0, 0),
+        Change::Renew => Mark::Gone,
         Change::Clear => {
             if same {
-                return close(s, 0, 0);
+                return Mark::Stands(0, 0);
             }
-            s
+            Mark::Gone
         }
         Change::Lift => {
             if same {
-                return close(s, 0, 0);
+                return Mark::Stands(0, 0);
             }
-            close(s, 0, 1)
+            Mark::Stands(0, 1)
         }
-        Change::Push => close(s, 0, 1),
+        Change::Push => Mark::Stands(0, 1),
+    }
+}
+
+// Where the screen that was in front stands after a deed; same tells whether it is B.
+pub fn mark_of(deed: Deed, place: u8, same: bool) -> Mark
+    ensures { λ r. ⌜ r ≡ markAfter deed place same ⌝ }
+{
+    match deed {
+        Deed::New => Mark::Stands(1, 0),
+        Deed::InFront(change) => mark_in(change, same),
+        Deed::MoveAnd(change) => {
+            if place <= 1 {
+                return mark_in(change, same);
+            }
+            Mark::Stands(1, 0)
+        }
     }
 }
 
@@ -124,14 +142,9 @@ pub fn close_mark(s: Session, deed: Deed, place: u8, same: bool) -> Session
     requires { ⌜ Markable s deed place same ⌝ }
     ensures { λ r. ⌜ r ≡ hold (closeAt (markAfter deed place same) (view s)) ⌝ }
 {
-    match deed {
-        Deed::New => close(s, 1, 0),
-        Deed::InFront(change) => close_in(s, change, same),
-        Deed::MoveAnd(change) => {
-            if place <= 1 {
-                return close_in(s, change, same);
-            }
-            close(s, 1, 0)
-        }
+    let mark = mark_of(deed, place, same);
+    match mark {
+        Mark::Gone => s,
+        Mark::Stands(behind, below) => close(s, behind, below),
     }
 }

@@ -3,3 +3,4 @@ pub mod Places
 pub mod Fronts
 pub mod Changes
 pub mod Carried
+pub mod Shifts

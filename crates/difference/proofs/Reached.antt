@@ -15,9 +15,11 @@ use Rattle.model.proofs.Close.{backed-sound}
 use Rattle.session.specs.declared.Session.{Session}
 use Rattle.session.specs.Stored.{view, hold, Ready}
 use Rattle.session.proofs.Known.{Sized}
-use Rattle.session.proofs.StoredLaws.{held, view-hold, hold-sound, sound-blank, sound-view}
+use Rattle.session.proofs.StoredLaws.{held, view-hold, hold-sound, hold-sized, sound-fits, sound-blank, sound-view}
 use Rattle.answer.specs.Seen.{Seen}
 use Rattle.answer.proofs.LookLaws.{sound-seen}
+use Rattle.closing.specs.Closable.{Closable}
+use Rattle.closing.proofs.Closed.{back-closable}
 use Rattle.difference.specs.Apart.{lookThenBacks, screensIn}
 use Rattle.difference.proofs.Backs.{after-last, answers-last, look-gives, back-gives, back-screens, back-tells}
 
@@ -60,8 +62,12 @@ module _ (tb : List ℕ) (ok : tableRefusal tb ≡ 0) where
         answered = rw (one-more k, answers-last tb back s (lookThenBacks k), r .left, r .answered, g, v);
       }
 
-  pub reached-ready : {s : State ℕ} {k : ℕ} {before : List Answer} {c : Session} → Reached tb s k before c → Ready tb c
+  reached-ready : {s : State ℕ} {k : ℕ} {before : List Answer} {c : Session} → Reached tb s k before c → Ready tb c
   reached-ready {c} r = record { good = ok; sound = rw (r .stored) at (hold-sound tb (view c) (r .sound)) }
+
+  -- the next Back finds a screen
+  pub reached-closable : {s : State ℕ} {k : ℕ} {before : List Answer} {c : Session} → Reached tb s k before c → 1 ≤ c .n → Closable c 0 0
+  reached-closable {c} r some = back-closable tb c (rw (r .stored) at (hold-sized (view c) (sound-fits tb (view c) (r .sound)))) (reached-ready r) some
 
 pub reached-seen : {tb : List ℕ} {s : State ℕ} {k : ℕ} {before : List Answer} {c : Session} → Reached tb s k before c → Seen c
 reached-seen {tb} {c} r = rw (r .stored) at (sound-seen tb (view c) (r .sound))

@@ -53,8 +53,8 @@ pub fn first_difference(table: &[u8], first: Session, second: Session) -> Differ
                 second: b,
             };
         }
-        s = rules::back(table, s);
-        t = rules::back(table, t);
+        s = closing::close(s, 0, 0);
+        t = closing::close(t, 0, 0);
         backs += 1;
     }
 }

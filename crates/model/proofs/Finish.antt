@@ -11,6 +11,7 @@ use Rattle.model.specs.declared.Change.{Change}
 use Rattle.model.specs.declared.Choice.{Choice}
 use Rattle.model.specs.declared.Deed.{Deed}
 use Rattle.model.specs.declared.Flags.{Flags}
+use Rattle.model.specs.declared.Mark.{Mark}
 use Rattle.model.specs.Refusals.{refusal}
 use Rattle.model.specs.Session.{Stack, State, stack, state, taskAt, front, frontScreen, count}
 use Rattle.model.specs.Flags.{flagsOf}
@@ -18,7 +19,7 @@ use Rattle.model.specs.Search.{placeOf}
 use Rattle.model.specs.Deeds.{deedOf}
 use Rattle.model.specs.Rules.{choose}
 use Rattle.model.specs.Calls.{chosen, startedBy, started, finishedBy, finished, startChecks}
-use Rattle.model.specs.Marks.{Mark, gone, stands, markAfter, closeAt, Stands}
+use Rattle.model.specs.Marks.{markAfter, closeAt, Stands}
 use Rattle.model.proofs.Sound.{Sound}
 use Rattle.model.proofs.Close.{close-sound}
 use Rattle.model.proofs.Deeds.{Suits, Ready}
@@ -82,8 +83,8 @@ module _ (tb : List ℕ) (b : ℕ) (f : Flags) where
       mark-stands b r x m xs ts (deedOf (c .rule)) (placeOf (c .found)) a) (s .tasks) (s .main) h l
 
 close-at-sound : (tb : List ℕ) (k : Mark) (s : State ℕ) → Sound tb s → Sound tb (closeAt k s)
-close-at-sound tb gone s h = h
-close-at-sound tb (stands k i) s h = close-sound tb k i s h
+close-at-sound tb Mark.Gone s h = h
+close-at-sound tb (Mark.Stands k i) s h = close-sound tb k i s h
 
 pub finished-sound : (tb : List ℕ) (s : State ℕ) (b w : ℕ) → Sound tb s → refusal (startChecks tb s b w) ≡ 0 → Sound tb (finished tb s b w)
 unfolding finished started

@@ -10,11 +10,12 @@ use lib.ListN.{length}
 use borrow.Author.Tests.{lt-leb}
 use Rattle.model.specs.declared.Change.{Change}
 use Rattle.model.specs.declared.Deed.{Deed}
+use Rattle.model.specs.declared.Mark.{Mark}
 use Rattle.model.specs.Lists.{find, putSecond, toFront}
 use Rattle.model.specs.Session.{Stack, State, stack, state}
 use Rattle.model.specs.Search.{holds}
 use Rattle.model.specs.Deeds.{mainMoved, move, changed, changeFront, putNew, carryOut}
-use Rattle.model.specs.Marks.{stands, markIn, markAfter, Stands}
+use Rattle.model.specs.Marks.{markIn, markAfter, Stands}
 use Rattle.model.proofs.ListLaws.{toFront-length}
 use Rattle.model.proofs.Marks.{AbleIn, Able}
 
@@ -43,7 +44,7 @@ module _ (b r x m : ℕ) (xs : List ℕ) (ts : List (Stack ℕ)) where
   in-front m′ Change.Push same e h = (omega arith, omega arith)
 
   behind : (m′ : ℕ) (c : Change) (us : List (Stack ℕ)) → 1 ≤ length us
-      → Stands (stands 1 0) (changeFront (changed (eqb b) b c) (state (putSecond (stack r (x ∷ xs)) us) m′))
+      → Stands (Mark.Stands 1 0) (changeFront (changed (eqb b) b c) (state (putSecond (stack r (x ∷ xs)) us) m′))
   unfolding changeFront
   behind m′ c [] l = absurd (not-suc-le-zero l)
   behind m′ c (u ∷ us) l = (omega arith, omega arith)

@@ -12,12 +12,13 @@ use lib.ListN.{length, getD, drop, length-map, List·getD-map}
 use borrow.Author.Tests.{lt-leb}
 use Rattle.model.specs.declared.Change.{Change}
 use Rattle.model.specs.declared.Deed.{Deed}
+use Rattle.model.specs.declared.Mark.{Mark}
 use Rattle.model.specs.Lists.{if_then_else_, isEmpty, isPlace, further, find, omit, putSecond, toFront, All}
 use Rattle.model.specs.Session.{Stack, State, stack, state, noStack, front, count}
 use Rattle.model.specs.Search.{holds}
 use Rattle.model.specs.Deeds.{move, changed, changeFront, putNew, carryOut, closeIn, close}
 use Rattle.model.specs.Calls.{Marked, unmarked, mapScreens, mapState, markFront, holdsMark, closeMarked}
-use Rattle.model.specs.Marks.{Mark, gone, stands, markIn, markAfter, closeAt}
+use Rattle.model.specs.Marks.{markIn, markAfter, closeAt}
 use Rattle.model.proofs.Logic.{All-of}
 use Rattle.model.proofs.ListLaws.{toFront-length, All-drop, All-toFront, All-to-map, map-omit, map-toFront, map-drop, map-onFirst, find-map, isEmpty-map}
 
@@ -47,8 +48,8 @@ module _ {A B : Type 0} (f : A → B) where
       )
 
   map-close-at : (k : Mark) (s : State A) → mapState f (closeAt k s) ≡ closeAt k (mapState f s)
-  map-close-at gone s = refl
-  map-close-at (stands k i) s = map-close k i s
+  map-close-at Mark.Gone s = refl
+  map-close-at (Mark.Stands k i) s = map-close k i s
 
   module _ (isB : B → Bool) (b : ℕ) (x : A) where
     map-changed : (c : Change) (xs : List A) → map f (changed (λ y. isB (f y)) x c xs) ≡ changed isB (f x) c (map f xs)

@@ -93,7 +93,7 @@ module _ (tb : List ℕ) where
       d : Decides (not (rootsOnce tb (t .root) && eqb (t .root) (u .root))) ((rootsOnce tb (t .root) ≡ true) × (t .root ≡ u .root) → ⊥)
       d = not-decides (and-decides (self-decides (rootsOnce tb (t .root))) (eqb-decides (t .root) (u .root)))
 
-  pub main-decides : (ts : List (Stack ℕ)) (m : ℕ) → Decides (mainSound tb ts m) (MainSound tb ts m)
+  main-decides : (ts : List (Stack ℕ)) (m : ℕ) → Decides (mainSound tb ts m) (MainSound tb ts m)
   unfolding mainSound
   main-decides ts m =
       record { holds = λ h. let r = d .holds h in record { most = r .0; root = r .1 }; shows = λ k. d .shows (k .most, k .root) }

@@ -6,34 +6,31 @@ use lib.Dec.{leb}
 use lib.ListN.{getD}
 use Rattle.model.specs.declared.Change.{Change}
 use Rattle.model.specs.declared.Deed.{Deed}
+use Rattle.model.specs.declared.Mark.{Mark}
 use Rattle.model.specs.Lists.{if_then_else_}
 use Rattle.model.specs.Session.{State, noStack, height, count}
 use Rattle.model.specs.Deeds.{close}
 
--- where the marked screen stands after the start: nowhere, or behind k tasks and below i screens
-pub data Mark : Type 0 where
-  gone : Mark
-  stands : ℕ → ℕ → Mark
-
--- after a change of its own task; the test tells whether the marked screen is B
+-- where the marked screen stands after the start is a `Mark`: nowhere, or behind k tasks and below i screens.
+-- Here after a change of its own task; the test tells whether the marked screen is B
 abbrev pub markIn : Change → Bool → Mark
-markIn Change.Keep isB = stands 0 0
-markIn Change.Renew isB = gone
-markIn Change.Clear isB = if isB then stands 0 0 else gone
-markIn Change.Lift isB = if isB then stands 0 0 else stands 0 1
-markIn Change.Push isB = stands 0 1
+markIn Change.Keep isB = Mark.Stands 0 0
+markIn Change.Renew isB = Mark.Gone
+markIn Change.Clear isB = if isB then Mark.Stands 0 0 else Mark.Gone
+markIn Change.Lift isB = if isB then Mark.Stands 0 0 else Mark.Stands 0 1
+markIn Change.Push isB = Mark.Stands 0 1
 
 -- after a deed; p is the place of the task found
 abbrev pub markAfter : Deed → ℕ → Bool → Mark
-markAfter Deed.New p isB = stands 1 0
+markAfter Deed.New p isB = Mark.Stands 1 0
 markAfter (Deed.InFront c) p isB = markIn c isB
-markAfter (Deed.MoveAnd c) p isB = if leb p 1 then markIn c isB else stands 1 0
+markAfter (Deed.MoveAnd c) p isB = if leb p 1 then markIn c isB else Mark.Stands 1 0
 
 abbrev pub closeAt : {A : Type 0} → Mark → State A → State A
-closeAt gone s = s
-closeAt (stands k i) s = close k i s
+closeAt Mark.Gone s = s
+closeAt (Mark.Stands k i) s = close k i s
 
 -- a screen stands at the position
 abbrev pub Stands : Mark → State ℕ → Type 0
-Stands gone s = Unit {0}
-Stands (stands k i) s = (k < count s) × (i < height (getD (s .tasks) k noStack))
+Stands Mark.Gone s = Unit {0}
+Stands (Mark.Stands k i) s = (k < count s) × (i < height (getD (s .tasks) k noStack))

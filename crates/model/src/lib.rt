@@ -81,3 +81,9 @@ pub enum Deed {
     InFront(Change),
     MoveAnd(Change),
 }
+
+// Where the marked screen stands after a start: nowhere, or behind so many tasks and below so many screens.
+pub enum Mark {
+    Gone,
+    Stands(u8, u8),
+}

@@ -1,23 +1,19 @@
 -- The checks of a record, one by one: what number they give, and what is known where they give none.
-use Prim.Native.Nat.{ℕ, zero, suc, _≤_, _<_, zero-le, suc-le-suc}
-use mathlib.Core.Path.{_≡_, refl, _∙_}
-use mathlib.Core.Bool.{Bool, true, false, not}
-use mathlib.Core.List.{List, [], _∷_}
+use Prim.Native.Nat.{ℕ, zero, suc, _≤_}
+use mathlib.Core.Path.{_≡_, refl}
+use mathlib.Core.Bool.{Bool, true, false}
+use mathlib.Core.List.{List, []}
 use native.Mathlib.Omega.{arith}
-use lib.Dec.{ltb, eqb}
-use borrow.Author.Tests.{ltb-true, eqb-true, eqb-false, lt-ltb, le-ltb, eq-eqb, ne-eqb, not-false}
+use lib.Dec.{eqb}
+use borrow.Author.Tests.{eqb-true, eqb-false, ne-eqb}
 use Rattle.model.specs.Lists.{All}
-use Rattle.model.specs.Refusals.{check, refusal}
-use Rattle.model.specs.Table.{sizeOf, tableRefusal}
-use Rattle.model.specs.Flags.{hasOtherBit}
+use Rattle.model.specs.Refusals.{refusal}
+use Rattle.model.specs.Table.{tableRefusal}
 use Rattle.model.specs.Calls.{Call, launch, start, finishingStart, back, look, restore}
 use Rattle.model.specs.Player.{Request, unplayable, asks, requestOf}
-use Rattle.model.proofs.RefusalLaws.{refusal-skip, refusal-applies, refusal-passes}
-use Rattle.play.specs.Steps.{firstOf, startEntry, entryChecks, entryRefusal}
-
-pub refusal-none : refusal [] ≡ 0
-unfolding refusal
-refusal-none = refl
+use Rattle.model.proofs.RefusalLaws.{refusal-skip}
+use Rattle.rules.proofs.Entries.{refusal-none, some-stand, start-numbers}
+use Rattle.play.specs.Steps.{firstOf, entryChecks, entryRefusal}
 
 -- ---- what a record asks for, by its kind
 
@@ -87,53 +83,14 @@ pub first-none : (j k : ℕ) → firstOf j k ≡ 0 → (j ≡ 0) × (k ≡ 0)
 first-none zero k e = (refl, e)
 first-none (suc j) k e = absurd (omega arith)
 
-some-stand : (n : ℕ) → eqb n 0 ≡ false → 1 ≤ n
-some-stand n e = let f = eqb-false n 0 e in go n f
-  where
-    go : (n : ℕ) → (n ≡ 0 → ⊥) → 1 ≤ n
-    go zero f = absurd (f refl)
-    go (suc n) f = suc-le-suc zero-le
-
--- ---- a start's checks
-
-module _ (tb : List ℕ) (n b w : ℕ) where
-  pub start-3 : sizeOf tb ≤ b → refusal (startEntry tb n b w) ≡ 3
-  start-3 l = refusal-applies 3 _ _ (rw (le-ltb b (sizeOf tb) l))
-
-  module _ (known : b < sizeOf tb) where
-    pass-3 : refusal (startEntry tb n b w) ≡ refusal (check 4 (hasOtherBit w) ∷ check 21 (eqb n 0) ∷ [])
-    pass-3 = refusal-passes 3 _ _ (rw (lt-ltb b (sizeOf tb) known))
-
-    pub start-4 : hasOtherBit w ≡ true → refusal (startEntry tb n b w) ≡ 4
-    start-4 e = pass-3 ∙ refusal-applies 4 _ _ e
-
-    module _ (six : hasOtherBit w ≡ false) where
-      pub start-21 : n ≡ 0 → refusal (startEntry tb n b w) ≡ 21
-      start-21 e = pass-3 ∙ refusal-passes 4 _ _ six ∙ refusal-applies 21 _ _ (eq-eqb n 0 e)
-
-      pub start-0 : (n ≡ 0 → ⊥) → refusal (startEntry tb n b w) ≡ 0
-      start-0 e = pass-3 ∙ refusal-passes 4 _ _ six ∙ refusal-passes 21 _ _ (ne-eqb n 0 e) ∙ refusal-none
-
-  -- what is known where they pass
-  pub record Entered : Type 0 where
-    pub known : b < sizeOf tb
-    pub some : 1 ≤ n
-
-  pub start-entered : refusal (startEntry tb n b w) ≡ 0 → Entered
-  start-entered e =
-      let c₃ = refusal-skip 2 (not (ltb b (sizeOf tb))) _ e in
-      let c₄ = refusal-skip 3 (hasOtherBit w) _ (c₃ .1) in
-      let c₂₁ = refusal-skip 20 (eqb n 0) _ (c₄ .1) in
-      record { known = ltb-true b (sizeOf tb) (not-false _ (c₃ .0)); some = some-stand n (c₂₁ .0) }
-
 -- ---- all checks
 
 module _ (tb : List ℕ) (n : ℕ) where
   pub entry-numbers : (k : Call) → All (λ c. 1 ≤ c .number) (entryChecks tb n k)
   unfolding entryChecks
   entry-numbers launch = (omega arith, tt)
-  entry-numbers (start b w) = (omega arith, (omega arith, (omega arith, tt)))
-  entry-numbers (finishingStart b w) = (omega arith, (omega arith, (omega arith, tt)))
+  entry-numbers (start b w) = start-numbers tb n b w
+  entry-numbers (finishingStart b w) = start-numbers tb n b w
   entry-numbers back = (omega arith, tt)
   entry-numbers look = tt
   entry-numbers (restore bytes) = tt

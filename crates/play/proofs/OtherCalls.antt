@@ -4,7 +4,7 @@ use mathlib.Core.Path.{_≡_, refl, sym, _∙_, ap}
 use mathlib.Core.Bool.{true, false, not, _&&_, _||_}
 use mathlib.Core.List.{List, [], _∷_}
 use native.Mathlib.Omega.{arith}
-use borrow.Author.Tests.{ltb-true}
+use borrow.Author.Tests.{ltb-true, ltb-false}
 use lib.Dec.{ltb, eqb}
 use lib.ListN.{length, getD, set}
 use Rattle.model.specs.Lists.{if_then_else_}
@@ -18,9 +18,8 @@ use Rattle.session.specs.Stored.{view, hold, popped, noTask, Ready}
 use Rattle.session.proofs.Known.{Sized}
 use Rattle.choice.specs.Shows.{Filled}
 use Rattle.deeds.specs.Rows.{withTasks}
-use Rattle.closing.proofs.Closed.{top-closed}
-use Rattle.rules.specs.declared.Started.{Started}
-use Rattle.rules.proofs.LaunchLaws.{back-closable, front-low, front-filled}
+use Rattle.rules.specs.Starts.{Started}
+use Rattle.rules.proofs.LaunchLaws.{front-low, front-filled, back-kept}
 use Rattle.play.specs.Steps.{Playable, entryRefusal}
 use Rattle.play.proofs.Entry.{Kind, launches, starts, finishes, backs, looks, kind-of, request-1, request-4, request-5, entry-good}
 use Rattle.play.proofs.Replies.{stepOf, back-ready, step-launch, step-back, step-look}
@@ -61,7 +60,6 @@ module _ (tb : List ℕ) (c : Session) (z : Sized c) (p : Playable tb c) (kind b
   pub stays-left : (eqb kind 5 || (eqb kind 4 && ltb 1 (front .height))) ≡ true
       → {t : Task} → t ≡ (if eqb kind 4 then popped front else front)
       → accepted (withTasks c (set (c .tasks) 0 t)) ≡ stepOf tb c (requestOf kind b w)
-  unfolding backed
   stays-left s {t} f = go (kind-of tb (c .n) kind b w e)
     where
       go : Kind kind → accepted (withTasks c (set (c .tasks) 0 t)) ≡ stepOf tb c (requestOf kind b w)
@@ -71,23 +69,22 @@ module _ (tb : List ℕ) (c : Session) (z : Sized c) (p : Playable tb c) (kind b
       go (backs k) =
           let r = back-enters k in
           let more : 1 < front .height = ltb-true 1 (front .height) (rw k at s) in
-          let g : t ≡ popped front = rw k at f in
-          rw g (ap accepted (sym (top-closed c z 0 (back-closable tb c z (r .0) (r .1)) more)) ∙ back-left k)
+          ap accepted (back-kept tb c z (r .0) (r .1) more (rw k at f)) ∙ back-left k
       go (looks k) =
           let g : t ≡ front = rw k at f in
           rw (g, set-first (c .tasks) (omega (arith, z .tasks))) (look-left k)
 
-  -- ---- launch, and Back
+  -- ---- launch, and Back in a task of one screen
 
   module _ (s : (not (eqb kind 2) && not (eqb kind 3)) ≡ true) (o : (eqb kind 5 || (eqb kind 4 && ltb 1 (front .height))) ≡ false) where
-    pub launch-or-back-ready : (tableRefusal tb ≡ 0) × ((kind ≡ 1 → ⊥) → Ready tb c × (1 ≤ c .n))
+    pub launch-or-back-ready : (tableRefusal tb ≡ 0) × ((kind ≡ 1 → ⊥) → Ready tb c × ((1 ≤ c .n) × (front .height ≤ 1)))
     launch-or-back-ready = (entry-good tb (c .n) (requestOf kind b w) e, λ n. go n (kind-of tb (c .n) kind b w e))
       where
-        go : (kind ≡ 1 → ⊥) → Kind kind → Ready tb c × (1 ≤ c .n)
+        go : (kind ≡ 1 → ⊥) → Kind kind → Ready tb c × ((1 ≤ c .n) × (front .height ≤ 1))
         go n (launches k) = absurd (n k)
         go n (starts k) = never (sym (rw k at s))
         go n (finishes k) = never (sym (rw k at s))
-        go n (backs k) = back-enters k
+        go n (backs k) = let r = back-enters k in (r .0, (r .1, ltb-false 1 (front .height) (rw k at o)))
         go n (looks k) = never (rw k at o)
 
     pub launch-or-back-left : {d : Session} → d ≡ hold (if eqb kind 1 then launched tb else backed (view c))

@@ -17,7 +17,7 @@ use Rattle.model.specs.Written.{written}
 use Rattle.model.proofs.WrittenLaws.{Wrote, wrote-nil, wrote-append}
 use Rattle.answer.specs.Seen.{Seen}
 use Rattle.answer.proofs.LookLaws.{sound-seen}
-use Rattle.rules.specs.declared.Started.{Started}
+use Rattle.rules.specs.Starts.{Started}
 use Rattle.play.specs.declared.Played.{Played}
 use Rattle.play.specs.Steps.{Playable, entryRefusal}
 use Rattle.play.specs.Fitting.{longestLine, fitting, bytesOf, Plays}

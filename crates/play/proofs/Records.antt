@@ -7,7 +7,7 @@ use native.Mathlib.Nat.{add-zero}
 use lib.ListN.{length, getD, take, drop, length-append, length-drop, drop-of-length-le}
 use lib.Seq.{take-at, drop-drop, getD-drop, append-snoc, take-all}
 use Rattle.model.specs.Player.{Record, recordOf, unplayable, requestOf, recordsIn}
-use Rattle.play.specs.Fitting.{wordAt}
+use Rattle.flags.specs.Words.{wordAt}
 
 -- the whole record at a place, and a cut one
 abbrev pub recordAt : List ℕ → ℕ → Record

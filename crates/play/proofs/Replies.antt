@@ -2,15 +2,10 @@
 -- after it can be played on and looked at.
 use Prim.Native.Nat.{ℕ, zero, suc, _≤_}
 use mathlib.Core.Path.{_≡_, refl, sym, _∙_, ap}
-use mathlib.Core.List.{List, [], _∷_, _++_}
-use native.Mathlib.Omega.{arith}
-use lib.Dec.{eqb}
-use lib.ListN.{length}
-use borrow.Author.Tests.{ne-eqb}
-use Rattle.model.specs.Lists.{isEmpty}
+use mathlib.Core.List.{List, [], _++_}
 use Rattle.model.specs.Refusals.{Check, refusal}
 use Rattle.model.specs.Table.{tableRefusal}
-use Rattle.model.specs.Session.{Stack, State, fresh, sound}
+use Rattle.model.specs.Session.{State, fresh, sound}
 use Rattle.model.specs.Flags.{flagsOf}
 use Rattle.model.specs.Image.{imageChecks}
 use Rattle.model.specs.declared.Answer.{Answer}
@@ -23,12 +18,12 @@ use Rattle.model.proofs.Keeps.{settled, fresh-sound, call-sound}
 use Rattle.session.specs.declared.Session.{Session}
 use Rattle.session.specs.Stored.{freshSession, view, hold, Ready}
 use Rattle.session.proofs.Known.{Sized}
-use Rattle.session.proofs.StoredLaws.{fresh-held, held, view-hold, view-count, hold-sound, hold-blank, hold-sized, sound-fits, blank-few, sound-view}
+use Rattle.session.proofs.StoredLaws.{fresh-held, held, view-hold, hold-sound, hold-blank, hold-sized, sound-fits, sound-view}
 use Rattle.choice.specs.Startable.{Startable}
-use Rattle.rules.specs.declared.Started.{Started}
-use Rattle.rules.specs.Starts.{settleRoom, startStored, finishStored}
-use Rattle.play.specs.Steps.{Playable, firstOf, startEntry, entryChecks, entryRefusal}
-use Rattle.play.proofs.Entry.{refusal-none, start-entered, entry-numbers, entry-none, back-entered}
+use Rattle.rules.specs.Starts.{Started, startEntry, settleRoom, startStored, finishStored}
+use Rattle.rules.proofs.Entries.{refusal-none, start-entered, empty, start-split}
+use Rattle.play.specs.Steps.{Playable, firstOf, entryChecks, entryRefusal}
+use Rattle.play.proofs.Entry.{entry-numbers, entry-none, back-entered}
 
 -- ---- the call
 
@@ -50,9 +45,6 @@ answerAfter (suc k) c = refused (suc k)
 pub after-refused : (n : ℕ) (c : Session) → (n ≡ 0 → ⊥) → answerAfter n c ≡ refused n
 after-refused zero c f = absurd (f refl)
 after-refused (suc n) c f = refl
-
-pub after-accepted : (n : ℕ) (c : Session) → n ≡ 0 → answerAfter n c ≡ lookAt (view c)
-after-accepted n c e = rw e
 
 answer-settled : (n : ℕ) (s s′ : State ℕ) → settle n s s′ .answer ≡ answerAfter (stored (settle n s s′) .refusal) (stored (settle n s s′) .session)
 unfolding lookAt
@@ -88,13 +80,6 @@ module _ (tb : List ℕ) (c : Session) (z : Sized c) (p : Playable tb c) where
   same : hold (view c) ≡ c
   same = held c z (p .blank)
 
-  empty : isEmpty (view c .tasks) ≡ eqb (c .n) 0
-  empty = go (view c .tasks) ∙ ap (λ (n : ℕ). eqb n 0) (view-count c z (blank-few c (p .blank)))
-    where
-      go : (ts : List (Stack ℕ)) → isEmpty ts ≡ eqb (length ts) 0
-      go [] = refl
-      go (t ∷ ts) = sym (ne-eqb (suc (length ts)) 0 (λ e. omega arith))
-
   -- ---- the checks of a call: those at its entry, and the rest
 
   abbrev rest : Call → List Check
@@ -107,10 +92,10 @@ module _ (tb : List ℕ) (c : Session) (z : Sized c) (p : Playable tb c) where
 
   own-split : (k : Call) → ownChecks tb (view c) k ≡ entryChecks tb (c .n) k ++ rest k
   unfolding ownChecks entryChecks
-  own-split launch = rw empty
-  own-split (start b w) = rw empty
-  own-split (finishingStart b w) = rw empty
-  own-split back = rw empty
+  own-split launch = rw (empty c z (p .blank))
+  own-split (start b w) = start-split c z (p .blank) tb b w
+  own-split (finishingStart b w) = start-split c z (p .blank) tb b w
+  own-split back = rw (empty c z (p .blank))
   own-split look = refl
   own-split (restore bytes) = refl
 

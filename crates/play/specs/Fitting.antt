@@ -5,8 +5,9 @@ use mathlib.Core.Path.{_≡_}
 use mathlib.Core.List.{List}
 use lib.ListN.{length, getD, take}
 use Rattle.model.specs.Flags.{flagsOf}
-use Rattle.model.specs.Player.{Record, wordOf, recordsIn, textOf, sessionAfter}
+use Rattle.model.specs.Player.{Record, recordsIn, textOf, sessionAfter}
 use Rattle.session.specs.declared.Session.{Session}
+use Rattle.flags.specs.Words.{wordAt}
 use Rattle.session.specs.Stored.{view, hold}
 use Rattle.model.specs.Written.{written as writtenInto}
 use Rattle.play.specs.declared.Fields.{Fields}
@@ -24,10 +25,6 @@ fitting input out = take (length out / longestLine) (recordsIn input)
 -- the bytes of these records, of which the input's last one may be cut
 abbrev pub bytesOf : List ℕ → List Record → ℕ
 bytesOf input rs = min (length input) (6 * length rs)
-
--- "flag word high byte first", of the record at a place
-abbrev pub wordAt : List ℕ → ℕ → ℕ
-wordAt l p = wordOf (getD l (p + 2) 0) (getD l (p + 3) 0) (getD l (p + 4) 0) (getD l (p + 5) 0)
 
 -- the fields of that record: "kind .., screen, flag word high byte first"
 abbrev pub fieldsAt : List ℕ → ℕ → Fields

@@ -3,14 +3,14 @@ use Prim.Native.Nat.{ℕ, zero, suc}
 use mathlib.Core.Path.{_≡_}
 use mathlib.Core.Bool.{true, not}
 use mathlib.Core.List.{List, [], _∷_}
-use lib.Dec.{ltb, eqb}
+use lib.Dec.{eqb}
 use Rattle.model.specs.Refusals.{Check, check, refusal}
-use Rattle.model.specs.Table.{sizeOf, tableRefusal}
-use Rattle.model.specs.Flags.{hasOtherBit}
+use Rattle.model.specs.Table.{tableRefusal}
 use Rattle.model.specs.Calls.{Call, launch, start, finishingStart, back, look, restore}
 use Rattle.model.specs.Player.{Request, unplayable, asks}
 use Rattle.session.specs.declared.Session.{Session}
 use Rattle.session.specs.Stored.{storageBlank, soundStored}
+use Rattle.rules.specs.Starts.{startEntry}
 
 -- storage beyond what stands in it holds 0; and under a table that is not refused the session is sound
 pub record Playable (tb : List ℕ) (c : Session) : Type 0 where
@@ -18,10 +18,6 @@ pub record Playable (tb : List ℕ) (c : Session) : Type 0 where
   pub sound : tableRefusal tb ≡ 0 → soundStored tb c ≡ true
 
 -- ---- checks
-
--- 3, 4 and 21, of a start where n tasks stand; 23 and 24 come after them
-abbrev pub startEntry : List ℕ → ℕ → ℕ → ℕ → List Check
-startEntry tb n b w = check 3 (not (ltb b (sizeOf tb))) ∷ check 4 (hasOtherBit w) ∷ check 21 (eqb n 0) ∷ []
 
 -- the checks named for a call, but for 23 and 24, where n tasks stand. No record asks for a restore.
 unfoldable pub entryChecks : List ℕ → ℕ → Call → List Check

@@ -7,16 +7,17 @@ ghost use mathlib.Core.Path.{_≡_};
 ghost use mathlib.Core.Bool.{_&&_, _||_};
 ghost use mathlib.Core.List.{[], _∷_};
 ghost use lib.Dec.{ltb, eqb};
-ghost use lib.ListN.{length, take};
+ghost use lib.ListN.{length, getD, take};
 ghost use Rattle.model.specs.Lists.{if_then_else_};
 ghost use Rattle.model.specs.Refusals.{check, refusal};
 ghost use Rattle.model.specs.Table.{tableRefusal};
 ghost use Rattle.model.specs.Calls.{launched, backed};
 ghost use Rattle.model.specs.Player.{requestOf, recordsIn, textOf, sessionAfter};
-ghost use Rattle.session.specs.Stored.{view, hold, popped, Ready};
+ghost use Rattle.session.specs.Stored.{view, hold, popped, noTask, Ready};
 ghost use Rattle.choice.specs.Shows.{Filled};
-ghost use Rattle.play.specs.Steps.{Playable, firstOf, startEntry, entryRefusal};
-ghost use Rattle.play.specs.Fitting.{fitting, bytesOf, wordAt, fieldsAt, Plays};
+ghost use Rattle.rules.specs.Starts.{startEntry};
+ghost use Rattle.play.specs.Steps.{Playable, firstOf, entryRefusal};
+ghost use Rattle.play.specs.Fitting.{fitting, bytesOf, fieldsAt, Plays};
 ghost use Rattle.model.specs.Written.{written as writtenInto};
 use model::Flags;
 use session::Session;
@@ -91,13 +92,13 @@ fn front_left(kind: u8, front: Task) -> Task
 
 // The session after launch, and after Back where the front task goes.
 fn launch_or_back(table: &[u8], s: Session, kind: u8) -> Session
-    requires { ⌜ (tableRefusal (now table) ≡ 0) × ((kind ≡ 1 → ⊥) → Ready (now table) s × (1 ≤ s .n)) ⌝ }
+    requires { ⌜ (tableRefusal (now table) ≡ 0) × ((kind ≡ 1 → ⊥) → Ready (now table) s × ((1 ≤ s .n) × (getD (s .tasks) 0 noTask .height ≤ 1))) ⌝ }
     ensures { λ r. ⌜ r ≡ hold (if eqb kind 1 then launched (now (table .entry)) else backed (view s)) ⌝ }
 {
     if kind == 1 {
         return rules::launch(table);
     }
-    rules::back(table, s)
+    closing::without_task(s, 0)
 }
 
 // The task at a place, where the one before it moves back or does not.
@@ -108,23 +109,6 @@ fn task_behind(before: Task, moves: bool, own: Task) -> Task
         return before;
     }
     own
-}
-
-fn wide(x: u8) -> u32
-    ensures { λ r. ⌜ (r ≡ x) × (r < 256) ⌝ }
-{
-    x as u32
-}
-
-// The flag word of the record at a place of the input, high byte first.
-pub fn word_at(input: &[u8], p: usize) -> u32
-    requires { ⌜ p + 6 ≤ length (now input) ⌝ }
-    ensures { λ r. ⌜ r ≡ wordAt (now (input .entry)) p ⌝ }
-{
-    0x1000000 * wide(input[p + 2])
-        + 0x10000 * wide(input[p + 3])
-        + 0x100 * wide(input[p + 4])
-        + wide(input[p + 5])
 }
 
 // The fields of a record; the flags are those of its word.
@@ -141,7 +125,7 @@ fn fields_at(input: &[u8], i: usize) -> Fields
     ensures { λ r. ⌜ r ≡ fieldsAt (now (input .entry)) (6 * i) ⌝ }
 {
     let p = 6 * i;
-    let word = word_at(input, p);
+    let word = flags::word_at(input, p);
     Fields {
         kind: input[p],
         screen: input[p + 1],

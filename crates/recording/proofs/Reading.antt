@@ -9,7 +9,7 @@ use lib.Seq.{drop-drop, getD-drop}
 use borrow.Author.Tests.{le-leb, lt-leb}
 use Rattle.model.specs.Calls.{Call}
 use Rattle.model.specs.Player.{wordOf}
-use Rattle.play.specs.Fitting.{wordAt}
+use Rattle.flags.specs.Words.{wordAt}
 use Rattle.recording.specs.CallBytes.{imageLength, callOf, callsBehind, callsIn}
 
 -- the calls behind an image are those in what follows it

@@ -8,7 +8,7 @@ use lib.ListN.{length, getD, take, drop}
 use Rattle.model.specs.Table.{tableRefusal}
 use Rattle.session.specs.declared.Session.{Session}
 use Rattle.session.specs.Stored.{soundStored}
-use Rattle.play.specs.Fitting.{wordAt}
+use Rattle.flags.specs.Words.{wordAt}
 use Rattle.calls.specs.StoredHistories.{afterStored}
 use Rattle.calls.proofs.HistoryLaws.{after-append, after-keeps}
 use Rattle.recording.specs.CallBytes.{imageLength, callOf, callsIn}

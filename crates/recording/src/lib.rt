@@ -53,7 +53,7 @@ fn after_calls(table: &[u8], begun: Session, calls: &[u8]) -> Session
     while calls.len() - p >= 6 {
         let kind = calls[p];
         let b = calls[p + 1];
-        let word = play::word_at(calls, p);
+        let word = flags::word_at(calls, p);
         let from = p + 6;
         let n = image_length(kind, word);
         if n > calls.len() - from {

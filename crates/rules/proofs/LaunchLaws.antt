@@ -1,26 +1,26 @@
--- Launch as the code makes it; that Back finds a screen to close; and the front screen as the code reads it.
+-- Launch and Back as the code makes them, and the front screen as the code reads it.
 use Prim.Native.Nat.{ℕ, _≤_, _<_}
-use mathlib.Core.Path.{_≡_, ap}
+use mathlib.Core.Path.{_≡_, refl, sym, ap}
 use mathlib.Core.List.{List, []}
 use native.Mathlib.Omega.{arith}
 use lib.Dec.{eqb}
-use lib.ListN.{getD}
+use lib.ListN.{getD, set}
 use Rattle.model.specs.declared.Deed.{Deed}
+use Rattle.model.specs.Lists.{omit}
 use Rattle.model.specs.Table.{mainScreen}
-use Rattle.model.specs.Session.{noStack, fresh, count, mostHeight, top, frontScreen}
-use Rattle.model.specs.Deeds.{putNew, carryOut}
-use Rattle.model.specs.Calls.{launched}
-use Rattle.model.proofs.Logic.{All-at}
-use Rattle.model.proofs.Sound.{TaskSound}
+use Rattle.model.specs.Session.{state, fresh, mostHeight, top, frontScreen}
+use Rattle.model.specs.Deeds.{mainWithout, putNew, carryOut}
+use Rattle.model.specs.Calls.{launched, backed}
 use Rattle.model.proofs.Keeps.{fresh-sound}
 use Rattle.session.specs.declared.Session.{Session}
 use Rattle.session.specs.declared.Task.{Task}
-use Rattle.session.specs.Stored.{view, viewTask, hold, freshSession, noTask, Ready}
+use Rattle.session.specs.Stored.{view, viewTask, hold, freshSession, noTask, popped, Ready}
 use Rattle.session.proofs.Known.{Sized}
-use Rattle.session.proofs.StoredLaws.{view-fresh, fresh-held, view-count, view-at, sized-at, stored-height, blank-few, sound-blank, sound-view, sound-fits, hold-blank}
+use Rattle.session.proofs.StoredLaws.{view-fresh, fresh-held, view-at, sized-at, stored-height, sound-blank, sound-fits, hold-blank}
 use Rattle.session.proofs.TaskLaws.{view-height}
+use Rattle.deeds.specs.Rows.{withTasks}
 use Rattle.deeds.specs.Carriable.{Carriable}
-use Rattle.closing.specs.Closable.{Closable}
+use Rattle.closing.proofs.Closed.{back-closable, task-closed, top-closed}
 
 pub fresh-carriable : Carriable freshSession Deed.New 0
 fresh-carriable =
@@ -34,13 +34,6 @@ pub launch-held : (tb : List ℕ) (b : ℕ) (s : Session) → b ≡ mainScreen t
     → record { tasks = s .tasks; n = s .n; main = 1 } ≡ hold (launched tb)
 unfolding hold launched putNew carryOut
 launch-held tb b s e f = rw (f, view-fresh, e)
-
-pub back-closable : (tb : List ℕ) (c : Session) → Sized c → Ready tb c → 1 ≤ c .n → Closable c 0 0
-back-closable tb c z h some =
-    let blank = sound-blank tb c (h .sound) in
-    let n = view-count c z (blank-few c blank) in
-    let l : 0 < count (view c) = omega arith in
-    record { blank = blank; there = (l, All-at (TaskSound tb) (view c .tasks) 0 noStack l (sound-view tb c (h .sound) .each) .filled) }
 
 -- ---- the front screen
 
@@ -59,3 +52,13 @@ module _ (tb : List ℕ) (c : Session) (z : Sized c) (h : Ready tb c) (some : 1 
 
   pub front-top : frontScreen (view c) ≡ top (viewTask frontTask)
   front-top = ap top (view-at c 0 some)
+
+  -- ---- Back as the code makes it, by the height of the front task
+
+  pub back-kept : 1 < frontTask .height → {t : Task} → t ≡ popped frontTask → withTasks c (set (c .tasks) 0 t) ≡ hold (backed (view c))
+  unfolding backed
+  back-kept more e = rw e (sym (top-closed c z 0 (back-closable tb c z h some) more))
+
+  pub back-gone : frontTask .height ≤ 1 → hold (state (omit 0 (view c .tasks)) (mainWithout 1 (c .main))) ≡ hold (backed (view c))
+  unfolding backed
+  back-gone low = let l = front-filled in task-closed c z 0 0 (back-closable tb c z h some) (omega arith) refl

@@ -1,2 +1,4 @@
 pub mod StartLaws
 pub mod LaunchLaws
+pub mod Picks
+pub mod Entries

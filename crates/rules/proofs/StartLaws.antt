@@ -21,7 +21,7 @@ use Rattle.model.proofs.Finish.{markOf, finished-by, marked-stands}
 use Rattle.session.specs.declared.Session.{Session}
 use Rattle.session.specs.Stored.{view, hold}
 use Rattle.session.proofs.Known.{Sized}
-use Rattle.session.proofs.StoredLaws.{view-hold, view-count, blank-few, sound-blank, sound-view, sound-fits, hold-blank}
+use Rattle.session.proofs.StoredLaws.{view-hold, view-count, blank-few, sound-blank, sound-view, sound-fits, hold-blank, hold-sized}
 use Rattle.choice.specs.Startable.{Startable}
 use Rattle.deeds.specs.Carriable.{Carriable}
 use Rattle.deeds.proofs.Carried.{carriable}
@@ -59,6 +59,9 @@ module _ (tb : List ℕ) (c : Session) (b : ℕ) (f : Flags) (z : Sized c) (h : 
 
     started-sound : Sound tb (startedBy chosen b (view c))
     started-sound = carry-sound tb b (h .known) (deedOf (chosen .rule)) (placeOf (chosen .found)) (view c) deed-ready no-23 no-24 sound-v
+
+    pub start-sized : Sized (hold (startedBy chosen b (view c)))
+    start-sized = hold-sized (startedBy chosen b (view c)) (sound-fits tb (startedBy chosen b (view c)) started-sound)
 
     -- the marked screen may be closed
     pub start-markable : Markable (hold (startedBy chosen b (view c))) (deedOf (chosen .rule)) (placeOf (chosen .found)) (eqb b (frontScreen (view c)))

@@ -1,25 +1,33 @@
 -- Soundness of what is stored, in the terms in which the code tests it: the screens as they are stored, bottom first,
 -- and each test of the code by itself.
-use Prim.Native.Nat.{ℕ, _≤_, _<_}
+use Prim.Native.Nat.{ℕ, pred, _≤_, _<_}
 use mathlib.Core.Path.{_≡_, refl, sym, _∙_, ap}
 use mathlib.Core.Bool.{Bool, true, false, not, _&&_}
 use mathlib.Core.List.{List, [], _∷_, map, reverse, reverse-reverse}
 use native.Mathlib.Omega.{arith}
 use lib.Dec.{leb, ltb, eqb}
-use lib.ListN.{length, getD, take, drop, length-take, length-map}
+use lib.ListN.{length, getD, take, drop, length-take, length-map, List·getD-map}
 use lib.Seq.{getD-take, length-take-le, take-suc}
 use Rattle.model.specs.Lists.{all, pairwise, All}
 use Rattle.model.specs.Table.{sizeOf, isSingleInstance, rootsOnce}
 use Rattle.model.specs.Session.{mostTasks, mostHeight, taskSound, rootsDiffer, mainSound, sound}
-use Rattle.model.proofs.Logic.{Decides, and-decides, leb-decides, ltb-decides, self-decides, false-decides, all-decides, and-right}
+use Rattle.model.proofs.Logic.{Decides, and-decides, leb-decides, ltb-decides, self-decides, false-decides, all-decides, same-test, and-right, All-map}
 use Rattle.model.proofs.Sound.{TaskSound, Plain, task-decides}
 use Rattle.model.proofs.Walks.{all-reverse, all-map, all-both, all-cong, all-true, pairwise-map}
 use Rattle.session.specs.declared.Task.{Task}
 use Rattle.session.specs.declared.Session.{Session}
-use Rattle.session.specs.Stored.{viewTask, view, blankAbove, isBlank, storageBlank, soundStored}
+use Rattle.session.specs.Stored.{noTask, viewTask, view, blankAbove, isBlank, storageBlank, soundStored}
 use Rattle.session.proofs.Known.{Screens32}
 use Rattle.session.proofs.TaskLaws.{view-height}
-use Rattle.soundness.specs.Tests.{otherRoot, plainScreen, storedTaskSound, storedRootsDiffer}
+use Rattle.soundness.specs.Tests.{total, noSum, otherRoot, plainScreen, usedSound, usedSum, storedTaskSound, rootsKnown, mayBeRoots, mainRootSound}
+use Rattle.soundness.proofs.Sums.{used-sum-decides}
+
+-- the roots of stored tasks
+abbrev pub root : Task → ℕ
+root t = t .root
+
+abbrev pub rootsOf : List Task → List ℕ
+rootsOf ts = map root ts
 
 -- ---- a task
 
@@ -27,7 +35,6 @@ pub record TaskFits (tb : List ℕ) (t : Task) : Type 0 where
   pub known : t .root < sizeOf tb
   pub filled : 1 ≤ t .height
   pub low : t .height ≤ mostHeight
-  pub rest : all (eqb 0) (drop (t .height) (t .screens)) ≡ true
   pub lone : isSingleInstance tb (t .root) ≡ true → (t .height ≡ 1) × (getD (t .screens) 0 0 ≡ t .root)
   pub plain : isSingleInstance tb (t .root) ≡ false → all (plainScreen tb) (take (t .height) (t .screens)) ≡ true
 
@@ -53,18 +60,14 @@ module _ (tb : List ℕ) where
         let f : take 1 (t .screens) ≡ getD (t .screens) 0 0 ∷ [] = take-suc (t .screens) 0 0 (omega arith) in
         rw (h .0, f, h .1)
 
-    abbrev Storage : Type 0
-    Storage = (t .height ≤ mostHeight) × (all (eqb 0) (drop (t .height) (t .screens)) ≡ true)
-
-    fits-in : Storage → TaskSound tb (viewTask t) → TaskFits tb t
+    fits-in : t .height ≤ mostHeight → TaskSound tb (viewTask t) → TaskFits tb t
     unfolding viewTask
-    fits-in b k =
+    fits-in low k =
         record {
           known = k .known;
           filled = omega (arith, k .filled, view-height t (omega arith));
-          low = b .0;
-          rest = b .1;
-          lone = λ a. alone-in (b .0) (k .lone a);
+          low = low;
+          lone = λ a. alone-in low (k .lone a);
           plain = λ a. plain-decides xs .shows (k .below, k .plain a);
         }
 
@@ -85,32 +88,52 @@ module _ (tb : List ℕ) where
         go true a = rw (alone-out (f .lone a)) (f .known, tt)
         go false a = plain-decides xs .holds (f .plain a) .0
 
-    pub task-fits : Decides (storedTaskSound tb t) (TaskFits tb t)
-    unfolding storedTaskSound blankAbove
+    pub task-fits : Decides (usedSound tb t) (TaskFits tb t)
+    unfolding usedSound
     task-fits =
-        record {
-          holds = λ h. let r = d .holds h in fits-in (r .0) (r .1);
-          shows = λ f. d .shows ((f .low, f .rest), fits-out f);
-        }
-      where
-        d : Decides ((leb (t .height) mostHeight && all (eqb 0) (drop (t .height) (t .screens))) && taskSound tb (viewTask t)) (Storage × TaskSound tb (viewTask t))
-        d =
-            and-decides (and-decides (leb-decides (t .height) mostHeight) (self-decides (all (eqb 0) (drop (t .height) (t .screens)))))
-            (task-decides tb (viewTask t))
+        let d = and-decides (leb-decides (t .height) mostHeight) (task-decides tb (viewTask t)) in
+        record { holds = λ h. let r = d .holds h in fits-in (r .0) (r .1); shows = λ f. d .shows (f .low, fits-out f) }
 
-  pub root-known : (t : Task) → storedTaskSound tb t ≡ true → t .root < sizeOf tb
-  unfolding storedTaskSound viewTask
-  root-known t e = task-decides tb (viewTask t) .holds (and-right (blankAbove t) (taskSound tb (viewTask t)) e) .known
+  -- the sum up to the height is that of all screens exactly where the task is sound and 0 stands beyond
+  pub used-stored : (t : Task) → total (t .screens) < noSum → eqb (usedSum tb t) (total (t .screens)) ≡ storedTaskSound tb t
+  unfolding usedSum usedSound storedTaskSound blankAbove
+  used-stored t few =
+      same-test (used-sum-decides (t .height) (t .screens) (usedSound tb t) few)
+      (record {
+        holds = λ h. let r = d .holds h in (u .shows (r .0 .0, r .1), r .0 .1);
+        shows = λ k. let r = u .holds (k .0) in d .shows ((r .0, k .1), r .1);
+      })
+    where
+      low : Decides (leb (t .height) mostHeight) (t .height ≤ mostHeight)
+      low = leb-decides (t .height) mostHeight
+
+      u : Decides (leb (t .height) mostHeight && taskSound tb (viewTask t)) ((t .height ≤ mostHeight) × (taskSound tb (viewTask t) ≡ true))
+      u = and-decides low (self-decides (taskSound tb (viewTask t)))
+
+      d : Decides ((leb (t .height) mostHeight && all (eqb 0) (drop (t .height) (t .screens))) && taskSound tb (viewTask t))
+          (((t .height ≤ mostHeight) × (all (eqb 0) (drop (t .height) (t .screens)) ≡ true)) × (taskSound tb (viewTask t) ≡ true))
+      d = and-decides (and-decides low (self-decides (all (eqb 0) (drop (t .height) (t .screens))))) (self-decides (taskSound tb (viewTask t)))
 
   -- ---- roots
 
-  pub differ-once : (t : Task) (us : List Task) → rootsOnce tb (t .root) ≡ true → all (storedRootsDiffer tb t) us ≡ all (otherRoot (t .root)) us
-  unfolding storedRootsDiffer rootsDiffer otherRoot viewTask
-  differ-once t us e = all-cong (storedRootsDiffer tb t) (otherRoot (t .root)) (λ u. rw e) us
+  pub differ-once : (x : ℕ) (ys : List ℕ) → rootsOnce tb x ≡ true → all (mayBeRoots tb x) ys ≡ all (otherRoot x) ys
+  unfolding mayBeRoots otherRoot
+  differ-once x ys e = all-cong (mayBeRoots tb x) (otherRoot x) (λ y. rw e) ys
 
-  pub differ-often : (t : Task) (us : List Task) → rootsOnce tb (t .root) ≡ false → all (storedRootsDiffer tb t) us ≡ true
-  unfolding storedRootsDiffer rootsDiffer viewTask
-  differ-often t us e = all-true (storedRootsDiffer tb t) (λ u. rw e) us
+  pub differ-often : (x : ℕ) (ys : List ℕ) → rootsOnce tb x ≡ false → all (mayBeRoots tb x) ys ≡ true
+  unfolding mayBeRoots
+  differ-often x ys e = all-true (mayBeRoots tb x) (λ y. rw e) ys
+
+  root-known : (t : Task) → storedTaskSound tb t ≡ true → t .root < sizeOf tb
+  unfolding storedTaskSound viewTask
+  root-known t e = task-decides tb (viewTask t) .holds (and-right (blankAbove t) (taskSound tb (viewTask t)) e) .known
+
+  pub roots-known : (ts : List Task) → all (storedTaskSound tb) ts ≡ true → rootsKnown tb (rootsOf ts) ≡ true
+  unfolding rootsKnown
+  roots-known ts e =
+      all-map root (λ x. ltb x (sizeOf tb)) ts
+      ∙ all-decides (λ t. ltb-decides (t .root) (sizeOf tb)) ts .shows
+      (All-map root-known ts (all-decides (λ t. self-decides (storedTaskSound tb t)) ts .holds e))
 
 -- ---- a session
 
@@ -118,8 +141,8 @@ pub record SessionFits (tb : List ℕ) (c : Session) : Type 0 where
   pub few : c .n ≤ mostTasks
   pub each : all (storedTaskSound tb) (take (c .n) (c .tasks)) ≡ true
   pub rest : all isBlank (drop (c .n) (c .tasks)) ≡ true
-  pub pairs : pairwise (storedRootsDiffer tb) (take (c .n) (c .tasks)) ≡ true
-  pub place : mainSound tb (view c .tasks) (c .main) ≡ true
+  pub pairs : pairwise (mayBeRoots tb) (rootsOf (take (c .n) (c .tasks))) ≡ true
+  pub place : mainRootSound tb (rootsOf (take (c .n) (c .tasks))) (c .main) ≡ true
 
 module _ (tb : List ℕ) (c : Session) where
   abbrev ts : List Task
@@ -129,9 +152,19 @@ module _ (tb : List ℕ) (c : Session) where
   unfolding storedTaskSound
   each-is = rw (all-map viewTask (taskSound tb) ts) (all-both blankAbove (λ t. taskSound tb (viewTask t)) ts)
 
-  pairs-is : pairwise (rootsDiffer tb) (map viewTask ts) ≡ pairwise (storedRootsDiffer tb) ts
-  unfolding storedRootsDiffer
-  pairs-is = pairwise-map viewTask (rootsDiffer tb) ts
+  pairs-is : pairwise (rootsDiffer tb) (map viewTask ts) ≡ pairwise (mayBeRoots tb) (rootsOf ts)
+  unfolding rootsDiffer mayBeRoots viewTask
+  pairs-is = pairwise-map viewTask (rootsDiffer tb) ts ∙ sym (pairwise-map root (mayBeRoots tb) ts)
+
+  place-is : mainSound tb (map viewTask ts) (c .main) ≡ mainRootSound tb (rootsOf ts) (c .main)
+  unfolding mainSound mainRootSound viewTask
+  place-is =
+      rw (
+        length-map ts viewTask,
+        length-map ts root,
+        List·getD-map viewTask ts (pred (c .main)) noTask,
+        List·getD-map root ts (pred (c .main)) noTask,
+      )
 
   pub session-fits : Decides (soundStored tb c) (SessionFits tb c)
   unfolding soundStored storageBlank sound view
@@ -144,12 +177,12 @@ module _ (tb : List ℕ) (c : Session) where
               each = sym each-is ∙ both .shows (r .0 .1 .0, r .1 .0 .1);
               rest = r .0 .1 .1;
               pairs = sym pairs-is ∙ r .1 .1 .0;
-              place = r .1 .1 .1;
+              place = sym place-is ∙ r .1 .1 .1;
             };
         shows = λ f.
             let b = both .holds (each-is ∙ f .each) in
             let few : length (map viewTask ts) ≤ mostTasks = omega (arith, f .few, length-take (c .n) (c .tasks), length-map ts viewTask) in
-            d .shows ((f .few, (b .0, f .rest)), ((few, b .1), (pairs-is ∙ f .pairs, f .place)));
+            d .shows ((f .few, (b .0, f .rest)), ((few, b .1), (pairs-is ∙ f .pairs, place-is ∙ f .place)));
       }
     where
       both : Decides (all blankAbove ts && all (taskSound tb) (map viewTask ts)) ((all blankAbove ts ≡ true) × (all (taskSound tb) (map viewTask ts) ≡ true))

@@ -1,1 +1,4 @@
+pub mod Sums
+pub mod Bytes
 pub mod Fits
+pub mod Places

@@ -3,76 +3,28 @@
 ghost use Prim.Native.Nat.{_≤_};
 ghost use mathlib.Core.Path.{_≡_};
 ghost use mathlib.Core.Bool.{true};
-ghost use lib.Dec.{eqb};
 ghost use lib.ListN.{take, drop};
 ghost use Rattle.model.specs.Lists.{all, pairwise};
 ghost use Rattle.model.specs.Table.{tableRefusal};
-ghost use Rattle.model.specs.Session.{mainSound};
-ghost use Rattle.session.specs.Stored.{view, isBlank, soundStored};
-ghost use Rattle.soundness.specs.Tests.{otherRoot, plainScreen, storedTaskSound, storedRootsDiffer};
+ghost use Rattle.session.specs.Stored.{isBlank, soundStored};
+ghost use Rattle.soundness.specs.Tests.{total, otherRoot, plainSum, usedSum, rootsKnown, mayBeRoots, mainRootSound};
 use session::Session;
 use session::Task;
 
-// Every screen from a place on is 0: their sum is.
-fn zero_from(t: Task, from: usize) -> bool
-    requires { ⌜ from ≤ 32 ⌝ }
-    ensures { λ r. ⌜ r ≡ all (eqb 0) (drop from (t .screens)) ⌝ }
+// A number that no sum of 32 bytes is.
+const NO_SUM: u32 = 0x10000;
+
+// The sum of a task's screens and of the bytes beyond its height.
+fn sum_of(t: Task) -> u32
+    ensures { λ r. ⌜ r ≡ total (t .screens) ⌝ }
 {
     let mut sum: u32 = 0;
-    let mut i = from;
+    let mut i: usize = 0;
     while i < Session::SCREENS {
         sum += t.screens[i] as u32;
         i += 1;
     }
-    0 == sum
-}
-
-// Each of the first h screens is below N and not single-instance.
-fn plain(table: &[u8], t: Task, h: usize) -> bool
-    requires { ⌜ (tableRefusal (now table) ≡ 0) × (h ≤ 32) ⌝ }
-    ensures { λ r. ⌜ r ≡ all (plainScreen (now (table .entry))) (take h (t .screens)) ⌝ }
-{
-    let size = table::size(table);
-    let mut i: usize = 0;
-    while i < h {
-        let x = t.screens[i];
-        if x >= size {
-            return false;
-        }
-        if table::mode(table, x) == 3 {
-            return false;
-        }
-        i += 1;
-    }
-    true
-}
-
-// A stored task is sound, and 0 stands beyond its height.
-fn task_sound(table: &[u8], t: Task) -> bool
-    requires { ⌜ tableRefusal (now table) ≡ 0 ⌝ }
-    ensures { λ r. ⌜ r ≡ storedTaskSound (now (table .entry)) t ⌝ }
-{
-    let root = t.root;
-    if root >= table::size(table) {
-        return false;
-    }
-    let h = t.height as usize;
-    if h < 1 {
-        return false;
-    }
-    if h > Session::SCREENS {
-        return false;
-    }
-    if !zero_from(t, h) {
-        return false;
-    }
-    if table::mode(table, root) != 3 {
-        return plain(table, t, h);
-    }
-    if h > 1 {
-        return false;
-    }
-    t.screens[0] == root
+    sum
 }
 
 // Storage for a task in which nothing stands.
@@ -85,50 +37,73 @@ fn is_blank(t: Task) -> bool
     if t.height != 0 {
         return false;
     }
-    zero_from(t, 0)
-}
-
-// Each of the first n tasks is sound.
-fn tasks_sound(table: &[u8], s: Session, n: usize) -> bool
-    requires { ⌜ (tableRefusal (now table) ≡ 0) × (n ≤ 16) ⌝ }
-    ensures { λ r. ⌜ r ≡ all (storedTaskSound (now (table .entry))) (take n (s .tasks)) ⌝ }
-{
+    let mut zero = true;
     let mut i: usize = 0;
-    while i < n {
-        let t = s.tasks[i];
-        if !task_sound(table, t) {
-            return false;
-        }
+    while i < Session::SCREENS {
+        zero = zero & (t.screens[i] == 0);
         i += 1;
     }
-    true
+    zero
 }
 
-// Nothing stands beyond n tasks.
-fn blank_from(s: Session, n: usize) -> bool
-    requires { ⌜ n ≤ 16 ⌝ }
-    ensures { λ r. ⌜ r ≡ all isBlank (drop n (s .tasks)) ⌝ }
+// The sum of the h lowest screens; a number that no sum is where one of them is not below N or is single-instance.
+fn plain_sum(table: &[u8], t: Task, h: usize) -> u32
+    requires { ⌜ (tableRefusal (now table) ≡ 0) × (h ≤ 32) ⌝ }
+    ensures { λ r. ⌜ r ≡ plainSum (now (table .entry)) (take h (t .screens)) ⌝ }
 {
-    let mut i = n;
-    while i < Session::TASKS {
-        let t = s.tasks[i];
-        if !is_blank(t) {
-            return false;
+    let size = table::size(table);
+    let mut sum: u32 = 0;
+    let mut i: usize = 0;
+    while i < h {
+        let x = t.screens[i];
+        if x >= size {
+            return NO_SUM;
         }
+        if table::mode(table, x) == 3 {
+            return NO_SUM;
+        }
+        sum += x as u32;
         i += 1;
     }
-    true
+    sum
 }
 
-// No task from a place on, of the first n, has the root b.
-fn no_root(s: Session, from: usize, n: usize, b: u8) -> bool
+// The sum of the screens up to the height of a sound task, or NO_SUM where those, the height or the root are not sound.
+fn used_sum(table: &[u8], t: Task) -> u32
+    requires { ⌜ tableRefusal (now table) ≡ 0 ⌝ }
+    ensures { λ r. ⌜ r ≡ usedSum (now (table .entry)) t ⌝ }
+{
+    let root = t.root;
+    if root >= table::size(table) {
+        return NO_SUM;
+    }
+    let h = t.height as usize;
+    if h < 1 {
+        return NO_SUM;
+    }
+    if h > Session::SCREENS {
+        return NO_SUM;
+    }
+    if table::mode(table, root) != 3 {
+        return plain_sum(table, t, h);
+    }
+    if h > 1 {
+        return NO_SUM;
+    }
+    if t.top() != root {
+        return NO_SUM;
+    }
+    root as u32
+}
+
+// No root from a place on, of the first n, is b.
+fn no_root(roots: [u8; Session::TASKS], from: usize, n: usize, b: u8) -> bool
     requires { ⌜ (from ≤ n) × (n ≤ 16) ⌝ }
-    ensures { λ r. ⌜ r ≡ all (otherRoot b) (drop from (take n (s .tasks))) ⌝ }
+    ensures { λ r. ⌜ r ≡ all (otherRoot b) (drop from (take n roots)) ⌝ }
 {
     let mut i = from;
     while i < n {
-        let t = s.tasks[i];
-        if b == t.root {
+        if b == roots[i] {
             return false;
         }
         i += 1;
@@ -136,18 +111,18 @@ fn no_root(s: Session, from: usize, n: usize, b: u8) -> bool
     true
 }
 
-// No single-task or single-instance screen is the root of two of the first n tasks.
-fn roots_differ(table: &[u8], s: Session, n: usize) -> bool
-    requires { ⌜ (tableRefusal (now table) ≡ 0) × ((n ≤ 16) × (all (storedTaskSound (now table)) (take n (s .tasks)) ≡ true)) ⌝ }
-    ensures { λ r. ⌜ r ≡ pairwise (storedRootsDiffer (now (table .entry))) (take n (s .tasks)) ⌝ }
+// No single-task or single-instance screen is twice among the first n roots.
+fn roots_differ(table: &[u8], roots: [u8; Session::TASKS], n: usize) -> bool
+    requires { ⌜ (tableRefusal (now table) ≡ 0) × ((n ≤ 16) × (rootsKnown (now table) (take n roots) ≡ true)) ⌝ }
+    ensures { λ r. ⌜ r ≡ pairwise (mayBeRoots (now (table .entry))) (take n roots) ⌝ }
 {
     let mut i: usize = 0;
     while i < n {
-        let t = s.tasks[i];
+        let b = roots[i];
         i += 1;
-        let mode = table::mode(table, t.root);
+        let mode = table::mode(table, b);
         if (mode == 2) | (mode == 3) {
-            if !no_root(s, i, n, t.root) {
+            if !no_root(roots, i, n, b) {
                 return false;
             }
         }
@@ -155,21 +130,19 @@ fn roots_differ(table: &[u8], s: Session, n: usize) -> bool
     true
 }
 
-// The main place is 0, or that of a task whose root is the main screen.
-fn main_sound(table: &[u8], s: Session) -> bool
-    requires { ⌜ (tableRefusal (now table) ≡ 0) × (s .n ≤ 16) ⌝ }
-    ensures { λ r. ⌜ r ≡ mainSound (now (table .entry)) (view s .tasks) (s .main) ⌝ }
+// The main place m is 0, or that of one of the n roots, which is the main screen.
+fn main_sound(table: &[u8], roots: [u8; Session::TASKS], n: u8, m: u8) -> bool
+    requires { ⌜ (tableRefusal (now table) ≡ 0) × (n ≤ 16) ⌝ }
+    ensures { λ r. ⌜ r ≡ mainRootSound (now (table .entry)) (take n roots) m ⌝ }
 {
-    let m = s.main;
-    if m > s.n {
+    if m > n {
         return false;
     }
     if m == 0 {
         return true;
     }
     let i = (m - 1) as usize;
-    let t = s.tasks[i];
-    t.root == table::main_screen(table)
+    roots[i] == table::main_screen(table)
 }
 
 // The session is sound under a good table.
@@ -181,14 +154,24 @@ pub fn sound(table: &[u8], s: Session) -> bool
     if n > Session::TASKS {
         return false;
     }
-    if !tasks_sound(table, s, n) {
+    let mut roots = [0; Session::TASKS];
+    let mut i: usize = 0;
+    while i < Session::TASKS {
+        if i < n {
+            if used_sum(table, s.tasks[i]) != sum_of(s.tasks[i]) {
+                return false;
+            }
+            let t = s.tasks[i];
+            roots[i] = t.root;
+        } else {
+            if !is_blank(s.tasks[i]) {
+                return false;
+            }
+        }
+        i += 1;
+    }
+    if !roots_differ(table, roots, n) {
         return false;
     }
-    if !blank_from(s, n) {
-        return false;
-    }
-    if !roots_differ(table, s, n) {
-        return false;
-    }
-    main_sound(table, s)
+    main_sound(table, roots, s.n, s.main)
 }

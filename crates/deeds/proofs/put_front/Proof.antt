@@ -1,30 +1,22 @@
 -- `deeds::put_front` meets its contract. The loop's invariant: the last k - i of the k tasks have gone one place back.
-use Prim.Native.Nat.{ℕ, suc, _-_, _≤_}
-use mathlib.Core.Path.{_≡_, _∙_, ap, ap₂}
+use Prim.Native.Nat.{_≤_}
+use mathlib.Core.Path.{_≡_}
 use native.Mathlib.Omega.{arith}
 use borrow.Author.Needs.{needs}
-use lib.ListN.{length, getD, set, drop}
-use Rattle.session.specs.declared.Session.{Session}
-use Rattle.session.specs.Stored.{noTask}
+use lib.ListN.{length}
 use Rattle.session.proofs.Known.{long}
-use Rattle.deeds.specs.Rows.{withTasks}
-use Rattle.deeds.proofs.Rows.{shifting, shift-begin, shift-step, shift-end}
+use Rattle.deeds.proofs.Shifts.{shiftingIn, shifts-begin, shifts-step, shifts-end}
 use Rattle.deeds.proofs.put_front.Statement.{statement}
 use Rattle.deeds.proofs.put_front.Tie as tie
 
 abbrev Inv-loop : tie.InvT-loop
-Inv-loop t k out₀ i₀ out i = (i ≤ k) × (out ≡ withTasks out₀ (shifting i (k - i) (drop (suc k) (out₀ .tasks)) (out₀ .tasks)))
+Inv-loop t k out₀ i₀ out i = (i ≤ k) × (out ≡ shiftingIn out₀ k i)
 
 abbrev μ-loop : tie.MeasureT-loop
 μ-loop t k out₀ i₀ out i = i
 
 loop-holds : tie.Need-loop-holds Inv-loop μ-loop
-loop-holds c =
-    let s = c .args .s in
-    let k = c .args .k in
-    let zs = drop (suc k) (s .tasks) in
-    let j : 0 ≡ k - k = omega arith in
-    (search needs, ap (withTasks s) (shift-begin k (s .tasks)) ∙ ap (λ (j : ℕ). withTasks s (shifting k j zs (s .tasks))) j)
+loop-holds c = (search needs, shifts-begin (c .args .s) (c .args .k))
 
 sub-x : tie.Need-sub-x Inv-loop μ-loop
 sub-x c = search needs
@@ -50,20 +42,10 @@ loop-less c = search needs
 loop-again : tie.Need-loop-again Inv-loop μ-loop
 loop-again c =
     let here = c .before .before .loop in
-    let a = c .before .before .before .args in
-    let xs = a .s .tasks in
-    let zs = drop (suc (a .k)) xs in
-    let m = here .i - 1 in
-    let j = a .k - here .i in
-    let l : length xs ≡ 16 = search (needs, long) in
-    let n : here .i ≡ suc m = omega arith in
-    let k : suc j ≡ a .k - m = omega arith in (
-      omega arith,
-      ap (λ (o : Session). withTasks o (set (o .tasks) (here .i) (getD (o .tasks) m noTask))) (here .inv .1)
-          ∙ ap (λ (i : ℕ). withTasks (a .s) (set (shifting i j zs xs) i (getD (shifting i j zs xs) m noTask))) n
-          ∙ ap (withTasks (a .s)) (shift-step noTask m j zs xs (omega arith))
-          ∙ ap (λ (i : ℕ). withTasks (a .s) (shifting m i zs xs)) k,
-    )
+    let start = c .before .before .before in
+    let a = start .args in
+    let l : length (a .s .tasks) ≡ 16 = search (needs, long) in
+    (omega arith, shifts-step (a .s) (a .k) l (start .pre) (here .i) (c .before .loop-test .taken) (here .inv .0) (here .inv .1))
 
 element-set-from-t : tie.Need-element-set-from-t Inv-loop μ-loop
 element-set-from-t c = search needs
@@ -71,15 +53,10 @@ element-set-from-t c = search needs
 returns : tie.Need-returns Inv-loop μ-loop
 returns c =
     let here = c .before .loop in
-    let a = c .before .before .args in
-    let xs = a .s .tasks in
-    let zs = drop (suc (a .k)) xs in
-    let l : length xs ≡ 16 = search (needs, long) in
-    let n : here .i ≡ 0 = omega arith in
-    let j : a .k - here .i ≡ a .k = omega arith in
-    ap (λ (o : Session). withTasks o (set (o .tasks) 0 (a .t))) (here .inv .1)
-    ∙ ap₂ (λ (i j : ℕ). withTasks (a .s) (set (shifting i j zs xs) 0 (a .t))) n j
-    ∙ ap (withTasks (a .s)) (shift-end (a .t) (a .k) xs (omega arith))
+    let start = c .before .before in
+    let a = start .args in
+    let l : length (a .s .tasks) ≡ 16 = search (needs, long) in
+    shifts-end (a .s) (a .k) l (start .pre) (here .i) (c .loop-test .left) (a .t) (here .inv .1)
 
 pub put-front-spec : {M : Type 1} → statement M
 put-front-spec =

@@ -9,11 +9,12 @@ use lib.Dec.{eqb}
 use borrow.Author.Needs.{needs}
 use borrow.Author.Tests.{eqb-true, eqb-false}
 use Rattle.model.specs.Answers.{lookAt}
+use Rattle.model.specs.Calls.{backed}
 use Rattle.session.specs.Stored.{view}
 use Rattle.session.proofs.Known.{sized}
 use Rattle.session.proofs.StoredLaws.{sound-view}
 use Rattle.difference.specs.Apart.{screensIn}
-use Rattle.difference.proofs.Reached.{Both, reached-look, reached-ready, reached-seen, reached-fewer, both-count, both-back}
+use Rattle.difference.proofs.Reached.{Both, reached-look, reached-closable, reached-seen, reached-fewer, both-count, both-back}
 use Rattle.difference.proofs.Told.{backs-most, told}
 use Rattle.difference.proofs.first_difference.Statement.{statement}
 use Rattle.difference.proofs.first_difference.Tie as tie
@@ -68,17 +69,19 @@ goes c =
       some = g .1;
     }
 
-back-requires : tie.Need-back-requires Inv-loop μ-loop
-back-requires c κs =
+-- Back finds a screen in both
+close-requires : tie.Need-close-requires Inv-loop μ-loop
+close-requires c κs =
     let start = c .before .before .before .before .before .before .before in
-    (reached-ready (start .args .table .now) (start .pre .0 .good) (c .before .before .before .before .before .loop .inv .one), goes c .some)
+    let l = c .before .before .before .before .before .loop in
+    reached-closable (start .args .table .now) (start .pre .0 .good) (l .inv .one) (goes c .some)
 
-back-requires-2 : tie.Need-back-requires-2 Inv-loop μ-loop
-back-requires-2 c κs =
+close-requires-2 : tie.Need-close-requires-2 Inv-loop μ-loop
+close-requires-2 c κs =
     let start = c .before .before .before .before .before .before .before .before in
     let l = c .before .before .before .before .before .before .loop in
     let g = goes (c .before) in
-    (reached-ready (start .args .table .now) (start .pre .0 .good) (l .inv .other), omega (arith, both-count (l .inv) (g .looks), g .some))
+    reached-closable (start .args .table .now) (start .pre .0 .good) (l .inv .other) (omega (arith, both-count (l .inv) (g .looks), g .some))
 
 add-backs : tie.Need-add-backs Inv-loop μ-loop
 add-backs c =
@@ -88,17 +91,19 @@ add-backs c =
     search needs
 
 loop-less : tie.Need-loop-less Inv-loop μ-loop
+unfolding backed
 loop-less c =
     let l = c .before .before .before .before .before .before .before .loop in
-    let fewer = reached-fewer (l .inv .one) (goes (c .before .before) .some) (c .before .back .result) (c .before .back .ensures) in
+    let fewer = reached-fewer (l .inv .one) (goes (c .before .before) .some) (c .before .close .result) (c .before .close .ensures) in
     omega arith
 
 loop-again : tie.Need-loop-again Inv-loop μ-loop
+unfolding backed
 loop-again c =
     let start = c .before .before .before .before .before .before .before .before .before in
     let l = c .before .before .before .before .before .before .before .loop in
     let g = goes (c .before .before) in
-    both-back (l .inv) (g .looks) (start .pre .0 .good) (g .some) (c .before .back .result) (c .back2 .result) (c .before .back .ensures) (c .back2 .ensures)
+    both-back (l .inv) (g .looks) (start .pre .0 .good) (g .some) (c .before .close .result) (c .close2 .result) (c .before .close .ensures) (c .close2 .ensures)
 
 returns : tie.Need-returns Inv-loop μ-loop
 returns c =
@@ -119,8 +124,8 @@ first-difference-spec =
     look-at-requires
     look-at-requires-2
     agree-requires
-    back-requires
-    back-requires-2
+    close-requires
+    close-requires-2
     add-backs
     loop-less
     loop-again

@@ -1,7 +1,8 @@
 -- The refusal that was found, else the other one where it applies.
 use mathlib.Core.Path.{sym, _∙_}
 use Rattle.model.proofs.RefusalLaws.{refusal-applies, refusal-passes}
-use Rattle.play.proofs.Entry.{refusal-none, first-found, first-next}
+use Rattle.rules.proofs.Entries.{refusal-none}
+use Rattle.play.proofs.Entry.{first-found, first-next}
 use Rattle.play.proofs.first_refusal.Statement.{statement}
 use Rattle.play.proofs.first_refusal.Tie as tie
 

@@ -11,9 +11,10 @@ use Rattle.session.proofs.Known.{sized}
 use Rattle.session.proofs.StoredLaws.{blank-few}
 use Rattle.choice.proofs.Tasks.{own-row, index-inside, task-filled, top-row}
 use Rattle.deeds.proofs.Fronts.{placed, main-low, shift-low}
+use Rattle.rules.proofs.Picks.{picked-changeable, picked-markable}
 use Rattle.play.proofs.Replies.{after-refused}
 use Rattle.play.proofs.OtherCalls.{accepted, back-filled, stays-left, launch-or-back-ready, launch-or-back-left}
-use Rattle.play.proofs.Starting.{picked-changeable, picked-markable, room-left}
+use Rattle.play.proofs.Starting.{room-left}
 use Rattle.play.proofs.Records.{wholes-length, firsts}
 use Rattle.play.proofs.Playing.{reached-none, reached-refused, reached-plays}
 use Rattle.play.proofs.play_whole.Proof.Turn.{Inv-loop, μ-loop, table, session, fields, played, flags-read, sizes, playable, less, room-for-line, fits, again, passes, Made, seen, again-made}

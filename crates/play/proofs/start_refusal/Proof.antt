@@ -7,7 +7,8 @@ use borrow.Author.Needs.{needs}
 use Rattle.model.specs.Table.{sizeOf}
 use Rattle.model.specs.Flags.{hasOtherBit}
 use Rattle.model.proofs.Tables.{good-shaped}
-use Rattle.play.proofs.Entry.{first-found, first-next, start-3, start-4, start-21, start-0}
+use Rattle.rules.proofs.Entries.{start-3, start-4, start-21, start-0}
+use Rattle.play.proofs.Entry.{first-found, first-next}
 use Rattle.play.proofs.start_refusal.Statement.{statement}
 use Rattle.play.proofs.start_refusal.Tie as tie
 

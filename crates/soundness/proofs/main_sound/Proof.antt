@@ -1,32 +1,30 @@
--- Each return is what the statement of a sound main place comes to.
+-- The tests are the definition's, in its order.
 use Prim.Native.Nat.{_-_}
-use mathlib.Core.Path.{_≡_, sym, _∙_}
+use mathlib.Core.Path.{_≡_}
 use native.Mathlib.Numerals.{sub-one}
 use native.Mathlib.Omega.{arith}
-use lib.ListN.{getD}
-use borrow.Author.Tests.{eq-eqb, eqb-true}
+use lib.ListN.{length}
+use lib.Seq.{length-take-le, getD-take}
+use borrow.Author.Tests.{le-leb, lt-leb, eq-eqb, ne-eqb}
 use borrow.Author.Needs.{needs}
-use Rattle.model.specs.Session.{taskAt}
-use Rattle.model.proofs.Logic.{refuted, same-test}
-use Rattle.model.proofs.Sound.{main-decides}
 use Rattle.model.proofs.Tables.{good-shaped}
-use Rattle.session.specs.Stored.{noTask, view}
-use Rattle.session.proofs.Known.{sized}
-use Rattle.session.proofs.StoredLaws.{view-count, view-root}
+use Rattle.soundness.specs.Tests.{mainRootSound}
 use Rattle.soundness.proofs.main_sound.Statement.{statement}
 use Rattle.soundness.proofs.main_sound.Tie as tie
 
 returns : tie.Need-returns
+unfolding mainRootSound
 returns c =
     let a = c .before .before .args in
-    let v = view-count (a .t2) (sized (a .t2) _ (c .before .before .good .1 .0)) (c .before .before .pre .1) in
-    sym (refuted _ (main-decides (a .table .now) (view (a .t2) .tasks) (a .t2 .main)) (λ f. omega arith))
+    let l : length (a .t2) ≡ 16 = search needs in
+    rw (length-take-le (a .n) (a .t2) (omega arith), lt-leb (a .m) (a .n) (omega arith))
 
 returns-2 : tie.Need-returns-2
+unfolding mainRootSound
 returns-2 c =
     let a = c .before .before .before .args in
-    let v = view-count (a .t2) (sized (a .t2) _ (c .before .before .before .good .1 .0)) (c .before .before .before .pre .1) in
-    sym (main-decides (a .table .now) (view (a .t2) .tasks) (a .t2 .main) .shows (record { most = omega arith; root = λ l. absurd (omega arith) }))
+    let l : length (a .t2) ≡ 16 = search needs in
+    rw (length-take-le (a .n) (a .t2) (omega arith), le-leb (a .m) (a .n) (omega arith), eq-eqb (a .m) 0 (omega arith))
 
 sub-i : tie.Need-sub-i
 sub-i c = search needs
@@ -34,28 +32,25 @@ sub-i c = search needs
 cast-i : tie.Need-cast-i
 cast-i c = search needs
 
-mul-t : tie.Need-mul-t
-mul-t c = search needs
-
-element-copy-out-t : tie.Need-element-copy-out-t
-element-copy-out-t c = search needs
+array-read-result : tie.Need-array-read-result
+array-read-result c = search needs
 
 main-screen-requires : tie.Need-main-screen-requires
-main-screen-requires c κs = let g = good-shaped (c .before .before .before .before .args .table .now) (c .before .before .before .before .pre .0) in omega arith
+main-screen-requires c κs = let g = good-shaped (c .before .before .before .args .table .now) (c .before .before .before .pre .0) in omega arith
 
 returns-3 : tie.Need-returns-3
+unfolding mainRootSound
 returns-3 c =
-    let a = c .before .before .before .before .before .before .args in
-    let s = a .t2 in
-    let v = view-count s (sized s _ (c .before .before .before .before .before .before .good .1 .0)) (c .before .before .before .before .before .before .pre .1) in
-    let r : taskAt (view s .tasks) (s .main) .root ≡ getD (s .tasks) (s .main - 1) noTask .root =
-    rw (← sub-one (s .main)) (view-root s (s .main - 1) (omega arith)) in
-    same-test
-    (record {
-      holds = λ e. record { most = omega arith; root = λ l. r ∙ eqb-true _ _ e ∙ c .before .main-screen .ensures };
-      shows = λ f. eq-eqb _ _ (sym r ∙ f .root (omega arith) ∙ sym (c .before .main-screen .ensures));
-    })
-    (main-decides (a .table .now) (view s .tasks) (s .main))
+    let a = c .before .before .before .before .args in
+    let l : length (a .t2) ≡ 16 = search needs in
+    rw (
+      length-take-le (a .n) (a .t2) (omega arith),
+      le-leb (a .m) (a .n) (omega arith),
+      ne-eqb (a .m) 0 (c .before .if2 .left),
+      ← sub-one (a .m),
+      getD-take (a .n) (a .t2) (a .m - 1) 0 (omega arith),
+      c .main-screen .ensures,
+    )
 
 pub main-sound-spec : {M : Type 1} → statement M
 main-sound-spec =
@@ -65,7 +60,6 @@ main-sound-spec =
     returns-2
     sub-i
     cast-i
-    mul-t
-    element-copy-out-t
+    array-read-result
     main-screen-requires
     returns-3)

@@ -1,4 +1,4 @@
--- A loop over the tasks. Invariant: those from i on decide.
+-- A loop over the roots. Invariant: those from i on decide.
 use Prim.Native.Nat.{_-_, _≤_}
 use mathlib.Core.Path.{_≡_, refl, sym, _∙_, ap}
 use mathlib.Core.Bool.{not}
@@ -8,35 +8,30 @@ use borrow.Author.Tests.{eq-eqb, ne-eqb}
 use borrow.Author.Needs.{needs}
 use Rattle.model.specs.Lists.{all}
 use Rattle.model.proofs.Walks.{all-take-fail, all-take-next, all-take-end}
-use Rattle.session.specs.Stored.{noTask}
-use Rattle.session.proofs.Known.{long}
 use Rattle.soundness.specs.Tests.{otherRoot}
 use Rattle.soundness.proofs.no_root.Statement.{statement}
 use Rattle.soundness.proofs.no_root.Tie as tie
 
 abbrev Inv-loop : tie.InvT-loop
-Inv-loop from n b s i₀ i = (i ≤ n) × (all (otherRoot b) (drop from (take n (s .tasks))) ≡ all (otherRoot b) (drop i (take n (s .tasks))))
+Inv-loop from n b roots i₀ i = (i ≤ n) × (all (otherRoot b) (drop from (take n roots)) ≡ all (otherRoot b) (drop i (take n roots)))
 
 abbrev μ-loop : tie.MeasureT-loop
-μ-loop from n b s i₀ i = n - i
+μ-loop from n b roots i₀ i = n - i
 
 loop-holds : tie.Need-loop-holds Inv-loop μ-loop
 loop-holds c = (search needs, refl)
 
-mul-t : tie.Need-mul-t Inv-loop μ-loop
-mul-t c = search needs
-
-element-copy-out-t : tie.Need-element-copy-out-t Inv-loop μ-loop
-element-copy-out-t c = search needs
+array-read-if1 : tie.Need-array-read-if1 Inv-loop μ-loop
+array-read-if1 c = search needs
 
 returns : tie.Need-returns Inv-loop μ-loop
 unfolding otherRoot
 returns c =
-    let a = c .before .before .before .before .before .args in
-    let l : length (a .t1 .tasks) ≡ 16 = search (needs, long) in
-    let o = c .before .before .before .before .loop in
+    let a = c .before .before .before .args in
+    let l : length (a .t1) ≡ 16 = search needs in
+    let o = c .before .before .loop in
     let e = ap not (eq-eqb (a .b) _ (c .if1 .taken)) in
-    sym (o .inv .1 ∙ all-take-fail (otherRoot (a .b)) (a .t1 .tasks) (a .n) (omega arith) (o .i) noTask (omega arith) e)
+    sym (o .inv .1 ∙ all-take-fail (otherRoot (a .b)) (a .t1) (a .n) (omega arith) (o .i) 0 (omega arith) e)
 
 add-i : tie.Need-add-i Inv-loop μ-loop
 add-i c = search needs
@@ -47,18 +42,18 @@ loop-less c = search needs
 loop-again : tie.Need-loop-again Inv-loop μ-loop
 unfolding otherRoot
 loop-again c =
-    let a = c .before .before .before .before .before .args in
-    let l : length (a .t1 .tasks) ≡ 16 = search (needs, long) in
-    let o = c .before .before .before .before .loop in
+    let a = c .before .before .before .args in
+    let l : length (a .t1) ≡ 16 = search needs in
+    let o = c .before .before .loop in
     let e = ap not (ne-eqb (a .b) _ (c .if1 .left)) in
-    (omega arith, o .inv .1 ∙ all-take-next (otherRoot (a .b)) (a .t1 .tasks) (a .n) (omega arith) (o .i) noTask (omega arith) e)
+    (omega arith, o .inv .1 ∙ all-take-next (otherRoot (a .b)) (a .t1) (a .n) (omega arith) (o .i) 0 (omega arith) e)
 
 returns-2 : tie.Need-returns-2 Inv-loop μ-loop
 returns-2 c =
     let a = c .before .before .args in
-    let l : length (a .t1 .tasks) ≡ 16 = search (needs, long) in
+    let l : length (a .t1) ≡ 16 = search needs in
     let o = c .before .loop in
-    sym (o .inv .1 ∙ all-take-end (otherRoot (a .b)) (a .t1 .tasks) (a .n) (omega arith) (o .i) (omega arith))
+    sym (o .inv .1 ∙ all-take-end (otherRoot (a .b)) (a .t1) (a .n) (omega arith) (o .i) (omega arith))
 
 pub no-root-spec : {M : Type 1} → statement M
 no-root-spec =
@@ -67,8 +62,7 @@ no-root-spec =
     Inv-loop
     μ-loop
     loop-holds
-    mul-t
-    element-copy-out-t
+    array-read-if1
     returns
     add-i
     loop-less

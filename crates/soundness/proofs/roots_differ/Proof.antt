@@ -1,48 +1,46 @@
--- A loop over the tasks. Invariant: the pairs of those from i on decide. A root that may be that of several tasks is passed over.
-use Prim.Native.Nat.{_+_, _-_, _≤_}
+-- A loop over the roots. Invariant: the pairs of those from i on decide. A root that may be that of several tasks is passed over.
+use Prim.Native.Nat.{_+_, _-_, _≤_, _<_}
 use mathlib.Core.Path.{_≡_, refl, sym, _∙_}
 use native.Mathlib.Omega.{arith}
+use lib.Dec.{ltb}
 use lib.ListN.{length, getD, take, drop}
+use borrow.Author.Tests.{ltb-true}
 use borrow.Author.Needs.{needs}
 use Rattle.model.specs.Lists.{pairwise}
-use Rattle.model.specs.Table.{isSingleTask, isSingleInstance, rootsOnce}
+use Rattle.model.specs.Table.{sizeOf, isSingleTask, isSingleInstance, rootsOnce}
 use Rattle.model.proofs.Tables.{good-shaped}
 use Rattle.model.proofs.Walks.{said-yes, said-no, all-take-at, pairwise-take-step, pairwise-take-end}
-use Rattle.session.specs.Stored.{noTask}
-use Rattle.session.proofs.Known.{long}
-use Rattle.soundness.specs.Tests.{storedTaskSound, storedRootsDiffer}
-use Rattle.soundness.proofs.Fits.{root-known, differ-once, differ-often}
+use Rattle.soundness.specs.Tests.{rootsKnown, mayBeRoots}
+use Rattle.soundness.proofs.Fits.{differ-once, differ-often}
 use Rattle.soundness.proofs.roots_differ.Statement.{statement}
 use Rattle.soundness.proofs.roots_differ.Tie as tie
 
 abbrev Inv-loop : tie.InvT-loop
-Inv-loop table n s i₀ i =
-    (i ≤ n) × (pairwise (storedRootsDiffer table) (take n (s .tasks)) ≡ pairwise (storedRootsDiffer table) (drop i (take n (s .tasks))))
+Inv-loop table n roots i₀ i =
+    (i ≤ n) × (pairwise (mayBeRoots table) (take n roots) ≡ pairwise (mayBeRoots table) (drop i (take n roots)))
 
 abbrev μ-loop : tie.MeasureT-loop
-μ-loop table n s i₀ i = n - i
+μ-loop table n roots i₀ i = n - i
 
 loop-holds : tie.Need-loop-holds Inv-loop μ-loop
 loop-holds c = (search needs, refl)
 
-mul-t : tie.Need-mul-t Inv-loop μ-loop
-mul-t c = search needs
-
-element-copy-out-t : tie.Need-element-copy-out-t Inv-loop μ-loop
-element-copy-out-t c = search needs
+array-read-b : tie.Need-array-read-b Inv-loop μ-loop
+array-read-b c = search needs
 
 add-i : tie.Need-add-i Inv-loop μ-loop
 add-i c = search needs
 
 mode-requires : tie.Need-mode-requires Inv-loop μ-loop
+unfolding rootsKnown
 mode-requires c κs =
-    let a = c .before .before .before .before .args in
-    let l : length (a .t2 .tasks) ≡ 16 = search (needs, long) in
+    let a = c .before .before .before .args in
+    let l : length (a .t2) ≡ 16 = search needs in
     let tb = a .table .now in
-    let i = c .before .before .loop .i in
-    let g = good-shaped tb (c .before .before .before .before .pre .0) in
-    let k = root-known tb (getD (a .t2 .tasks) i noTask)
-    (all-take-at (storedTaskSound tb) (a .t2 .tasks) (a .n) (omega arith) i noTask (omega arith) (c .before .before .before .before .pre .1 .1)) in
+    let i = c .before .loop .i in
+    let g = good-shaped tb (c .before .before .before .pre .0) in
+    let k : getD (a .t2) i 0 < sizeOf tb = ltb-true _ _
+    (all-take-at (λ x. ltb x (sizeOf tb)) (a .t2) (a .n) (omega arith) i 0 (omega arith) (c .before .before .before .pre .1 .1)) in
     omega arith
 
 no-root-requires : tie.Need-no-root-requires Inv-loop μ-loop
@@ -51,14 +49,14 @@ no-root-requires c κs = search needs
 returns : tie.Need-returns Inv-loop μ-loop
 unfolding rootsOnce isSingleTask isSingleInstance
 returns c =
-    let a = c .before .before .before .before .before .before .before .before .args in
-    let l : length (a .t2 .tasks) ≡ 16 = search (needs, long) in
+    let a = c .before .before .before .before .before .before .before .args in
+    let l : length (a .t2) ≡ 16 = search needs in
     let tb = a .table .now in
-    let o = c .before .before .before .before .before .before .loop in
+    let o = c .before .before .before .before .before .loop in
     let once = rw (c .before .before .before .mode .ensures) at (c .before .before .if1 .taken) in
-    let e = differ-once tb (getD (a .t2 .tasks) (o .i) noTask) (drop (o .i + 1) (take (a .n) (a .t2 .tasks))) once
+    let e = differ-once tb (getD (a .t2) (o .i) 0) (drop (o .i + 1) (take (a .n) (a .t2))) once
     ∙ said-no (c .before .no-root .ensures) (c .if2 .taken) in
-    sym (o .inv .1 ∙ pairwise-take-step (storedRootsDiffer tb) (a .t2 .tasks) (a .n) (omega arith) (o .i) noTask (omega arith) ∙ rw e)
+    sym (o .inv .1 ∙ pairwise-take-step (mayBeRoots tb) (a .t2) (a .n) (omega arith) (o .i) 0 (omega arith) ∙ rw e)
 
 loop-less : tie.Need-loop-less Inv-loop μ-loop
 loop-less c = search needs
@@ -66,14 +64,14 @@ loop-less c = search needs
 loop-again : tie.Need-loop-again Inv-loop μ-loop
 unfolding rootsOnce isSingleTask isSingleInstance
 loop-again c =
-    let a = c .before .before .before .before .before .before .before .before .args in
-    let l : length (a .t2 .tasks) ≡ 16 = search (needs, long) in
+    let a = c .before .before .before .before .before .before .before .args in
+    let l : length (a .t2) ≡ 16 = search needs in
     let tb = a .table .now in
-    let o = c .before .before .before .before .before .before .loop in
+    let o = c .before .before .before .before .before .loop in
     let once = rw (c .before .before .before .mode .ensures) at (c .before .before .if1 .taken) in
-    let e = differ-once tb (getD (a .t2 .tasks) (o .i) noTask) (drop (o .i + 1) (take (a .n) (a .t2 .tasks))) once
+    let e = differ-once tb (getD (a .t2) (o .i) 0) (drop (o .i + 1) (take (a .n) (a .t2))) once
     ∙ said-yes (c .before .no-root .ensures) (c .if2 .left) in
-    (omega arith, o .inv .1 ∙ pairwise-take-step (storedRootsDiffer tb) (a .t2 .tasks) (a .n) (omega arith) (o .i) noTask (omega arith) ∙ rw e)
+    (omega arith, o .inv .1 ∙ pairwise-take-step (mayBeRoots tb) (a .t2) (a .n) (omega arith) (o .i) 0 (omega arith) ∙ rw e)
 
 loop-less-2 : tie.Need-loop-less-2 Inv-loop μ-loop
 loop-less-2 c = search needs
@@ -81,20 +79,20 @@ loop-less-2 c = search needs
 loop-again-2 : tie.Need-loop-again-2 Inv-loop μ-loop
 unfolding rootsOnce isSingleTask isSingleInstance
 loop-again-2 c =
-    let a = c .before .before .before .before .before .before .args in
-    let l : length (a .t2 .tasks) ≡ 16 = search (needs, long) in
+    let a = c .before .before .before .before .before .args in
+    let l : length (a .t2) ≡ 16 = search needs in
     let tb = a .table .now in
-    let o = c .before .before .before .before .loop in
+    let o = c .before .before .before .loop in
     let often = rw (c .before .mode .ensures) at (c .if1 .left) in
-    let e = differ-often tb (getD (a .t2 .tasks) (o .i) noTask) (drop (o .i + 1) (take (a .n) (a .t2 .tasks))) often in
-    (omega arith, o .inv .1 ∙ pairwise-take-step (storedRootsDiffer tb) (a .t2 .tasks) (a .n) (omega arith) (o .i) noTask (omega arith) ∙ rw e)
+    let e = differ-often tb (getD (a .t2) (o .i) 0) (drop (o .i + 1) (take (a .n) (a .t2))) often in
+    (omega arith, o .inv .1 ∙ pairwise-take-step (mayBeRoots tb) (a .t2) (a .n) (omega arith) (o .i) 0 (omega arith) ∙ rw e)
 
 returns-2 : tie.Need-returns-2 Inv-loop μ-loop
 returns-2 c =
     let a = c .before .before .before .args in
-    let l : length (a .t2 .tasks) ≡ 16 = search (needs, long) in
+    let l : length (a .t2) ≡ 16 = search needs in
     let o = c .before .loop in
-    sym (o .inv .1 ∙ pairwise-take-end (storedRootsDiffer (a .table .now)) (a .t2 .tasks) (a .n) (omega arith) (o .i) (omega arith))
+    sym (o .inv .1 ∙ pairwise-take-end (mayBeRoots (a .table .now)) (a .t2) (a .n) (omega arith) (o .i) (omega arith))
 
 pub roots-differ-spec : {M : Type 1} → statement M
 roots-differ-spec =
@@ -103,8 +101,7 @@ roots-differ-spec =
     Inv-loop
     μ-loop
     loop-holds
-    mul-t
-    element-copy-out-t
+    array-read-b
     add-i
     mode-requires
     no-root-requires

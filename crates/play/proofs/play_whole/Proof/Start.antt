@@ -20,8 +20,9 @@ use Rattle.deeds.specs.Carriable.{Carriable}
 use Rattle.deeds.proofs.Rows.{shift-near}
 use Rattle.rules.specs.Starts.{roomRefusal}
 use Rattle.rules.proofs.StartLaws.{start-accepted}
+use Rattle.rules.proofs.Picks.{Picked, picked, picked-carriable, picked-put, picked-finished}
 use Rattle.play.proofs.OtherCalls.{accepted}
-use Rattle.play.proofs.Starting.{Picked, picked, picked-carriable, picked-put, picked-finished, startable-either, start-left, finish-left}
+use Rattle.play.proofs.Starting.{startable-either, start-left, finish-left}
 use Rattle.play.proofs.play_whole.Proof.Turn.{Inv-loop, μ-loop, table, session, fields, flags-read, sizes, playable, passes, Made}
 use Rattle.play.proofs.play_whole.Tie as tie
 

@@ -12,7 +12,7 @@ use Rattle.session.specs.declared.Session.{Session}
 use Rattle.session.specs.Stored.{view}
 use Rattle.session.proofs.Known.{Sized}
 use Rattle.answer.specs.Seen.{Seen}
-use Rattle.rules.specs.declared.Started.{Started}
+use Rattle.rules.specs.Starts.{Started}
 use Rattle.play.specs.declared.Fields.{Fields}
 use Rattle.play.specs.Steps.{Playable, entryRefusal}
 use Rattle.play.proofs.Replies.{stepOf, answerAfter}

@@ -1,0 +1,70 @@
+-- A loop that adds up. Invariant: the sum so far and that of the screens from i on make the sum of all.
+use Prim.Native.Nat.{_+_, _*_, _-_, _≤_}
+use mathlib.Core.Path.{_≡_}
+use native.Mathlib.Omega.{arith}
+use lib.ListN.{length, getD, drop}
+use mir.Syntax.{w8}
+use mir.Val.{Fits}
+use borrow.Author.Needs.{needs}
+use Rattle.soundness.specs.Tests.{total}
+use Rattle.soundness.proofs.Sums.{total-step, total-end}
+use Rattle.soundness.proofs.sum_of.Statement.{statement}
+use Rattle.soundness.proofs.sum_of.Tie as tie
+
+abbrev Inv-loop : tie.InvT-loop
+Inv-loop t sum₀ i₀ sum i = (i ≤ 32) × ((sum ≤ 255 * i) × (total (t .screens) ≡ sum + total (drop i (t .screens))))
+
+abbrev μ-loop : tie.MeasureT-loop
+μ-loop t sum₀ i₀ sum i = 32 - i
+
+loop-holds : tie.Need-loop-holds Inv-loop μ-loop
+loop-holds c = (search needs, (search needs, omega arith))
+
+element-copy-out-sum : tie.Need-element-copy-out-sum Inv-loop μ-loop
+element-copy-out-sum c = search needs
+
+cast-sum : tie.Need-cast-sum Inv-loop μ-loop
+cast-sum c = search needs
+
+add-sum : tie.Need-add-sum Inv-loop μ-loop
+add-sum c =
+    let x : Fits w8 (getD (c .before .before .before .args .t1 .screens) (c .before .before .loop .i) 0) = search needs in
+    omega arith
+
+add-i : tie.Need-add-i Inv-loop μ-loop
+add-i c = search needs
+
+loop-less : tie.Need-loop-less Inv-loop μ-loop
+loop-less c = search needs
+
+loop-again : tie.Need-loop-again Inv-loop μ-loop
+loop-again c =
+    let a = c .before .before .before .args in
+    let l : length (a .t1 .screens) ≡ 32 = search needs in
+    let o = c .before .before .loop in
+    let b : Fits w8 (getD (a .t1 .screens) (o .i) 0) = search needs in
+    let e = total-step (a .t1 .screens) (o .i) (omega arith) in
+    (omega arith, (omega arith, omega arith))
+
+returns : tie.Need-returns Inv-loop μ-loop
+returns c =
+    let a = c .before .before .args in
+    let l : length (a .t1 .screens) ≡ 32 = search needs in
+    let o = c .before .loop in
+    let e = total-end (a .t1 .screens) (o .i) (omega arith) in
+    omega arith
+
+pub sum-of-spec : {M : Type 1} → statement M
+sum-of-spec =
+    tie.close
+    (tie.spec
+    Inv-loop
+    μ-loop
+    loop-holds
+    element-copy-out-sum
+    cast-sum
+    add-sum
+    add-i
+    loop-less
+    loop-again
+    returns)
