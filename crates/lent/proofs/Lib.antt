@@ -1,3 +1,3 @@
 pub mod Lending
 pub mod LendingAlone
-pub mod LendingOn
+pub mod LendingStarts

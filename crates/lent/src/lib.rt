@@ -3,7 +3,7 @@
 
 ghost use mathlib.Core.Path.{_≡_};
 ghost use Rattle.model.specs.Calls.{Call};
-ghost use Rattle.calls.specs.StoredCalls.{startCall, callStored};
+ghost use Rattle.calls.specs.StoredCalls.{callStored};
 ghost use Rattle.calls.specs.StoredSaves.{saved, saveStored};
 use calls::SaveReply;
 use model::Answer;
@@ -31,23 +31,15 @@ pub extern "C" fn milchkompass_launch(table: &[u8], s: &mut Session) -> Answer
     reply.answer
 }
 
-// A start, or a finishing start, over the session that is lent.
-fn start_lent(table: &[u8], s: &mut Session, b: u8, word: u32, finishing: bool) -> Answer
-    ensures answers { λ r. ⌜ r ≡ callStored (now (table .entry)) (now (s .entry)) (startCall finishing b word) .answer ⌝ }
-    ensures stores { λ _. ⌜ now (s .exit) ≡ callStored (now (table .entry)) (now (s .entry)) (startCall finishing b word) .session ⌝ }
-{
-    let reply = navigator::make_start(table, *s, b, word, finishing);
-    *s = reply.session;
-    reply.answer
-}
-
 // Start of b with a flag word.
 #[no_mangle]
 pub extern "C" fn milchkompass_start(table: &[u8], s: &mut Session, b: u8, word: u32) -> Answer
     ensures answers { λ r. ⌜ r ≡ callStored (now (table .entry)) (now (s .entry)) (Call.start b word) .answer ⌝ }
     ensures stores { λ _. ⌜ now (s .exit) ≡ callStored (now (table .entry)) (now (s .entry)) (Call.start b word) .session ⌝ }
 {
-    start_lent(table, s, b, word, false)
+    let reply = navigator::start(table, *s, b, word);
+    *s = reply.session;
+    reply.answer
 }
 
 // Finishing start of b with a flag word: the caller closes itself.
@@ -61,7 +53,9 @@ pub extern "C" fn milchkompass_finish_start(
     ensures answers { λ r. ⌜ r ≡ callStored (now (table .entry)) (now (s .entry)) (Call.finishingStart b word) .answer ⌝ }
     ensures stores { λ _. ⌜ now (s .exit) ≡ callStored (now (table .entry)) (now (s .entry)) (Call.finishingStart b word) .session ⌝ }
 {
-    start_lent(table, s, b, word, true)
+    let reply = navigator::finish_start(table, *s, b, word);
+    *s = reply.session;
+    reply.answer
 }
 
 // Back.

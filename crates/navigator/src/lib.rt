@@ -4,7 +4,7 @@
 ghost use mathlib.Core.Path.{_≡_};
 ghost use lib.ListN.{take};
 ghost use Rattle.model.specs.Calls.{Call};
-ghost use Rattle.calls.specs.StoredCalls.{startCall, sharedRefusal, callStored, KeepsSound};
+ghost use Rattle.calls.specs.StoredCalls.{sharedRefusal, callStored, KeepsSound};
 ghost use Rattle.calls.specs.Restores.{AcceptsImages, BringsBack, SavesAgain};
 ghost use Rattle.calls.specs.StoredSaves.{saved, saveStored, BroughtBack, NoOtherHas};
 use calls::Reply;
@@ -49,24 +49,16 @@ pub fn launch(table: &[u8], s: Session) -> Reply
     calls::launch(table, s)
 }
 
-// A start of b with a flag word, or a finishing start.
-pub fn make_start(table: &[u8], s: Session, b: u8, word: u32, finishing: bool) -> Reply
-    ensures gives { λ r. ⌜ r ≡ callStored (now (table .entry)) s (startCall finishing b word) ⌝ }
+// Start of b with a flag word.
+pub fn start(table: &[u8], s: Session, b: u8, word: u32) -> Reply
+    ensures gives { λ r. ⌜ r ≡ callStored (now (table .entry)) s (Call.start b word) ⌝ }
     ensures keeps { λ r. ⌜ KeepsSound (now (table .entry)) s (r .session) ⌝ }
 {
     let number = shared_refusal(table, s);
     if number != 0 {
         return calls::refuse(s, number);
     }
-    calls::make_start(table, s, b, word, finishing)
-}
-
-// Start of b with a flag word.
-pub fn start(table: &[u8], s: Session, b: u8, word: u32) -> Reply
-    ensures gives { λ r. ⌜ r ≡ callStored (now (table .entry)) s (Call.start b word) ⌝ }
-    ensures keeps { λ r. ⌜ KeepsSound (now (table .entry)) s (r .session) ⌝ }
-{
-    make_start(table, s, b, word, false)
+    calls::make_start(table, s, b, word, false)
 }
 
 // Finishing start of b with a flag word: the caller closes itself.
@@ -74,7 +66,11 @@ pub fn finish_start(table: &[u8], s: Session, b: u8, word: u32) -> Reply
     ensures gives { λ r. ⌜ r ≡ callStored (now (table .entry)) s (Call.finishingStart b word) ⌝ }
     ensures keeps { λ r. ⌜ KeepsSound (now (table .entry)) s (r .session) ⌝ }
 {
-    make_start(table, s, b, word, true)
+    let number = shared_refusal(table, s);
+    if number != 0 {
+        return calls::refuse(s, number);
+    }
+    calls::make_start(table, s, b, word, true)
 }
 
 // Back, on a session that is not empty.

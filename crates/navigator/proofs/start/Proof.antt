@@ -1,10 +1,10 @@
--- `navigator::make_start` meets its contract: refused by the shared checks, or what `calls::make_start` gives on a sound session.
+-- `navigator::start` meets its contract: refused by the shared checks, or what `calls::make_start` gives on a sound session.
 use mathlib.Core.Path.{sym, _∙_}
 use borrow.Author.Needs.{needs}
-use Rattle.calls.specs.StoredCalls.{startCall}
+use Rattle.model.specs.Calls.{start}
 use Rattle.calls.proofs.Settling.{shared-ready, call-refused, call-gives}
-use Rattle.navigator.proofs.make_start.Statement.{statement}
-use Rattle.navigator.proofs.make_start.Tie as tie
+use Rattle.navigator.proofs.start.Statement.{statement}
+use Rattle.navigator.proofs.start.Tie as tie
 
 shared-refusal-requires : tie.Need-shared-refusal-requires
 shared-refusal-requires c κs = search needs
@@ -16,7 +16,7 @@ returns : tie.Need-returns
 returns c =
     let a = c .before .before .before .before .args in
     let k = c .before .before .shared-refusal in
-    let does = startCall (a .finishing) (a .b) (a .word) in
+    let does = start (a .b) (a .word) in
     call-gives (a .table .now) (a .s) does (c .refuse .result)
     (c .refuse .ensures ∙ sym (call-refused (a .table .now) (a .s) does (k .result) (sym (k .ensures)) (c .before .if1 .taken)))
 
@@ -28,7 +28,7 @@ make-start-requires c κs =
 returns-2 : tie.Need-returns-2
 returns-2 c =
     let a = c .before .before .before .before .args in
-    call-gives (a .table .now) (a .s) (startCall (a .finishing) (a .b) (a .word)) (c .make-start .result) (c .make-start .ensures)
+    call-gives (a .table .now) (a .s) (start (a .b) (a .word)) (c .make-start .result) (c .make-start .ensures)
 
-pub make-start-spec : {M : Type 1} → statement M
-make-start-spec = tie.close (tie.spec shared-refusal-requires refuse-requires returns make-start-requires returns-2)
+pub start-spec : {M : Type 1} → statement M
+start-spec = tie.close (tie.spec shared-refusal-requires refuse-requires returns make-start-requires returns-2)

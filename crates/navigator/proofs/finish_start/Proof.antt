@@ -1,0 +1,34 @@
+-- `navigator::finish_start` meets its contract: refused by the shared checks, or what `calls::make_start` gives on a sound session.
+use mathlib.Core.Path.{sym, _∙_}
+use borrow.Author.Needs.{needs}
+use Rattle.model.specs.Calls.{finishingStart}
+use Rattle.calls.proofs.Settling.{shared-ready, call-refused, call-gives}
+use Rattle.navigator.proofs.finish_start.Statement.{statement}
+use Rattle.navigator.proofs.finish_start.Tie as tie
+
+shared-refusal-requires : tie.Need-shared-refusal-requires
+shared-refusal-requires c κs = search needs
+
+refuse-requires : tie.Need-refuse-requires
+refuse-requires c κs = search needs
+
+returns : tie.Need-returns
+returns c =
+    let a = c .before .before .before .before .args in
+    let k = c .before .before .shared-refusal in
+    let does = finishingStart (a .b) (a .word) in
+    call-gives (a .table .now) (a .s) does (c .refuse .result)
+    (c .refuse .ensures ∙ sym (call-refused (a .table .now) (a .s) does (k .result) (sym (k .ensures)) (c .before .if1 .taken)))
+
+make-start-requires : tie.Need-make-start-requires
+make-start-requires c κs =
+    let a = c .before .before .before .args in
+    shared-ready (a .table .now) (a .s) (sym (c .before .shared-refusal .ensures) ∙ c .if1 .left)
+
+returns-2 : tie.Need-returns-2
+returns-2 c =
+    let a = c .before .before .before .before .args in
+    call-gives (a .table .now) (a .s) (finishingStart (a .b) (a .word)) (c .make-start .result) (c .make-start .ensures)
+
+pub finish-start-spec : {M : Type 1} → statement M
+finish-start-spec = tie.close (tie.spec shared-refusal-requires refuse-requires returns make-start-requires returns-2)
