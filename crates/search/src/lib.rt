@@ -3,47 +3,62 @@
 ghost use Prim.Native.Nat.{_≤_};
 ghost use mathlib.Core.Path.{_≡_};
 ghost use lib.Dec.{eqb};
+ghost use lib.ListN.{take};
 ghost use Rattle.model.specs.Lists.{find};
-ghost use Rattle.model.specs.Search.{hasRoot, hasAffinity, seekRoot, seek as seekTask};
+ghost use Rattle.model.specs.Search.{seekRoot, seek as seekTask};
 ghost use Rattle.session.specs.Stored.{view, viewTask};
 ghost use Rattle.search.specs.Ready.{ReadyFor};
+ghost use Rattle.search.specs.Roots.{rootsOf, akin, RootsFor};
 use model::Found;
 use session::Session;
 use session::Task;
 
-// By root: the place of the first task whose root is b, or 0.
-pub fn by_root(s: Session, b: u8) -> u8
-    requires { ⌜ s .n ≤ 16 ⌝ }
-    ensures { λ r. ⌜ r ≡ find (hasRoot b) (view s .tasks) ⌝ }
+// The root that is stored at each of the 16 places.
+pub fn roots_of(s: Session) -> [u8; Session::TASKS]
+    ensures { λ r. ⌜ r ≡ rootsOf (s .tasks) ⌝ }
+{
+    let mut roots = [0; Session::TASKS];
+    let mut i: usize = 0;
+    while i < Session::TASKS {
+        let t = s.tasks[i];
+        roots[i] = t.root;
+        i += 1;
+    }
+    roots
+}
+
+// By root: the place of the first of n roots that is b, or 0.
+pub fn by_root(roots: [u8; Session::TASKS], n: u8, b: u8) -> u8
+    requires { ⌜ n ≤ 16 ⌝ }
+    ensures { λ r. ⌜ r ≡ find (λ x. eqb x b) (take n roots) ⌝ }
 {
     let mut i: u8 = 0;
     loop {
-        if i == s.n {
+        if i == n {
             break 0;
         }
         let k = i as usize;
-        let t = s.tasks[k];
-        if t.root == b {
+        if roots[k] == b {
             break i + 1;
         }
         i += 1;
     }
 }
 
-// By affinity: the place of the first task whose root is not single-instance and has b's affinity, or 0.
-pub fn by_affinity(table: &[u8], s: Session, b: u8) -> u8
-    requires { ⌜ ReadyFor (now table) s b ⌝ }
-    ensures { λ r. ⌜ r ≡ find (hasAffinity (now (table .entry)) b) (view s .tasks) ⌝ }
+// By affinity: the place of the first of n roots that is not single-instance and has b's affinity, or 0.
+pub fn by_affinity(table: &[u8], roots: [u8; Session::TASKS], n: u8, b: u8) -> u8
+    requires { ⌜ RootsFor (now table) roots n b ⌝ }
+    ensures { λ r. ⌜ r ≡ find (akin (now (table .entry)) b) (take n roots) ⌝ }
 {
     let affinity = table::affinity(table, b);
     let mut i: u8 = 0;
     loop {
-        if i == s.n {
+        if i == n {
             break 0;
         }
         let k = i as usize;
-        let t = s.tasks[k];
-        if (table::mode(table, t.root) != 3) & (table::affinity(table, t.root) == affinity) {
+        let root = roots[k];
+        if (table::mode(table, root) != 3) & (table::affinity(table, root) == affinity) {
             break i + 1;
         }
         i += 1;
@@ -55,7 +70,7 @@ pub fn seek_root(s: Session, b: u8) -> Found
     requires { ⌜ s .n ≤ 16 ⌝ }
     ensures { λ r. ⌜ r ≡ seekRoot b (view s .tasks) ⌝ }
 {
-    let place = by_root(s, b);
+    let place = by_root(roots_of(s), s.n, b);
     if place == 0 {
         return Found::Nowhere;
     }
@@ -67,11 +82,12 @@ pub fn seek(table: &[u8], s: Session, b: u8) -> Found
     requires { ⌜ ReadyFor (now table) s b ⌝ }
     ensures { λ r. ⌜ r ≡ seekTask (now (table .entry)) b (view s .tasks) ⌝ }
 {
-    let root = by_root(s, b);
+    let roots = roots_of(s);
+    let root = by_root(roots, s.n, b);
     if root != 0 {
         return Found::ByRoot(root);
     }
-    let kin = by_affinity(table, s, b);
+    let kin = by_affinity(table, roots, s.n, b);
     if kin == 0 {
         return Found::Nowhere;
     }

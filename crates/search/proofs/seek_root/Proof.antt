@@ -2,22 +2,28 @@
 use mathlib.Core.Path.{sym}
 use borrow.Author.Needs.{needs}
 use Rattle.session.specs.Stored.{view}
+use Rattle.search.proofs.Roots.{found-root}
 use Rattle.search.proofs.Seeking.{root-none, root-found}
 use Rattle.search.proofs.seek_root.Statement.{statement}
 use Rattle.search.proofs.seek_root.Tie as tie
+
+roots-of-requires : tie.Need-roots-of-requires
+roots-of-requires c κs = search needs
 
 by-root-requires : tie.Need-by-root-requires
 by-root-requires c κs = search needs
 
 returns : tie.Need-returns
 returns c =
-    let a = c .before .before .args in
-    sym (root-none (a .b) (view (a .s) .tasks) (c .before .by-root .ensures) (c .if1 .taken))
+    let a = c .before .before .before .args in
+    let f = found-root (a .s) (a .b) (c .before .before .roots-of .ensures) (c .before .by-root .ensures) in
+    sym (root-none (a .b) (view (a .s) .tasks) f (c .if1 .taken))
 
 returns-2 : tie.Need-returns-2
 returns-2 c =
-    let a = c .before .before .args in
-    sym (root-found (a .b) (view (a .s) .tasks) (c .before .by-root .result) (c .before .by-root .ensures) (c .if1 .left))
+    let a = c .before .before .before .args in
+    let f = found-root (a .s) (a .b) (c .before .before .roots-of .ensures) (c .before .by-root .ensures) in
+    sym (root-found (a .b) (view (a .s) .tasks) (c .before .by-root .result) f (c .if1 .left))
 
 pub seek-root-spec : {M : Type 1} → statement M
-seek-root-spec = tie.close (tie.spec by-root-requires returns returns-2)
+seek-root-spec = tie.close (tie.spec roots-of-requires by-root-requires returns returns-2)
