@@ -25,6 +25,14 @@ Placed Deed.New p = Unit {0}
 Placed (Deed.InFront c) p = Unit {0}
 Placed (Deed.MoveAnd c) p = 1 ≤ p
 
+-- a task that is renewed may hold anything; any other change relies on 0 above the height, and a push on room
+abbrev pub Alterable : Change → Task → Type 0
+Alterable Change.Keep t = blankAbove t ≡ true
+Alterable Change.Renew t = Unit {0}
+Alterable Change.Clear t = blankAbove t ≡ true
+Alterable Change.Lift t = blankAbove t ≡ true
+Alterable Change.Push t = (blankAbove t ≡ true) × (height (viewTask t) < mostHeight)
+
 -- the task that the deed changes holds 0 above its height, and has room
 abbrev pub Changeable : Deed → Task → Type 0
 Changeable Deed.New t = Unit {0}

@@ -17,11 +17,30 @@ use Rattle.deeds.specs.Rows.{shifted}
 abbrev pub changedTask : ℕ → Change → Task → Task
 changedTask b c t = holdTask (stack (t .root) (changed (eqb b) b c (viewTask t .screens)))
 
+-- the task that a renewal or a push puts b onto
+abbrev pub baseOf : Change → Task → Task
+baseOf Change.Keep t = t
+baseOf Change.Renew t = holdTask (stack (t .root) [])
+baseOf Change.Clear t = t
+baseOf Change.Lift t = t
+baseOf Change.Push t = t
+
 -- how many of n tasks go one place back; the deed changes the task behind them. p is the place of the task found
 abbrev pub shiftOf : Deed → ℕ → ℕ → ℕ
 shiftOf Deed.New p n = n
 shiftOf (Deed.InFront c) p n = 0
 shiftOf (Deed.MoveAnd c) p n = pred p
+
+-- what the deed does to the screens of the task in front after it, a new task being one renewed; and the root of that task
+abbrev pub changeOf : Deed → Change
+changeOf Deed.New = Change.Renew
+changeOf (Deed.InFront c) = c
+changeOf (Deed.MoveAnd c) = c
+
+abbrev pub rootAfter : ℕ → ℕ → Deed → ℕ
+rootAfter r b Deed.New = b
+rootAfter r b (Deed.InFront c) = r
+rootAfter r b (Deed.MoveAnd c) = r
 
 -- the task in front; t is the one that the deed changes
 abbrev pub frontAfter : ℕ → Deed → Task → Task

@@ -3,16 +3,16 @@
 ghost use Prim.Native.Nat.{_+_, _≤_, _<_};
 ghost use mathlib.Core.Path.{_≡_};
 ghost use mathlib.Core.Bool.{true};
-ghost use mathlib.Core.List.{[], _∷_};
+ghost use mathlib.Core.List.{[]};
 ghost use lib.Dec.{eqb};
 ghost use Rattle.model.specs.Lists.{further};
 ghost use Rattle.model.specs.Session.{stack};
 ghost use Rattle.model.specs.declared.Change.{Change};
 ghost use Rattle.model.specs.declared.Deed.{Deed};
 ghost use Rattle.model.specs.Deeds.{mainMoved, carryOut};
-ghost use Rattle.session.specs.Stored.{view, viewTask, hold, holdTask, blankAbove};
-ghost use Rattle.deeds.specs.Carriable.{HasRoom, Placed, Changeable, Carriable};
-ghost use Rattle.deeds.specs.Fronted.{changedTask, shiftOf, frontAfter, countAfter, mainAfter};
+ghost use Rattle.session.specs.Stored.{view, hold, holdTask, blankAbove};
+ghost use Rattle.deeds.specs.Carriable.{Placed, Alterable, Changeable, Carriable};
+ghost use Rattle.deeds.specs.Fronted.{baseOf, changedTask, shiftOf, changeOf, rootAfter, frontAfter, countAfter, mainAfter};
 ghost use Rattle.deeds.specs.Rows.{shifted, closedUp, lowest, withScreens, withTasks};
 use model::Change;
 use model::Deed;
@@ -68,16 +68,14 @@ fn main_further(main: u8) -> u8
 
 // ---- the screens of a task
 
-// A task of one screen.
-fn renewed(root: u8, b: u8) -> Task
-    ensures { λ r. ⌜ r ≡ holdTask (stack root (b ∷ [])) ⌝ }
+// A task in which no screen stands.
+fn emptied(root: u8) -> Task
+    ensures { λ r. ⌜ r ≡ holdTask (stack root []) ⌝ }
 {
-    let mut screens = [0; Session::SCREENS];
-    screens[0] = b;
     Task {
         root: root,
-        height: 1,
-        screens: screens,
+        height: 0,
+        screens: [0; Session::SCREENS],
     }
 }
 
@@ -136,17 +134,27 @@ fn lifted(t: Task, b: u8) -> Task
     closed_up(t, (t.height - place) as usize, (place - 1) as usize, b)
 }
 
-// The task after a change of its screens.
-pub fn changed(t: Task, b: u8, change: Change) -> Task
-    requires { ⌜ (blankAbove t ≡ true) × HasRoom change (viewTask t) ⌝ }
-    ensures { λ r. ⌜ r ≡ changedTask b change t ⌝ }
+// What b is pushed onto: the task, emptied where it is renewed.
+fn base_of(t: Task, change: Change) -> Task
+    ensures { λ r. ⌜ r ≡ baseOf change t ⌝ }
 {
     match change {
+        Change::Renew => emptied(t.root),
+        Change::Keep | Change::Clear | Change::Lift | Change::Push => t,
+    }
+}
+
+// The task after a change of its screens.
+fn changed(t: Task, b: u8, change: Change) -> Task
+    requires { ⌜ Alterable change t ⌝ }
+    ensures { λ r. ⌜ r ≡ changedTask b change t ⌝ }
+{
+    let base = base_of(t, change);
+    match change {
         Change::Keep => t,
-        Change::Renew => renewed(t.root, b),
         Change::Clear => cleared(t, b),
         Change::Lift => lifted(t, b),
-        Change::Push => t.push(b),
+        Change::Renew | Change::Push => base.push(b),
     }
 }
 
@@ -164,16 +172,36 @@ pub fn shift_of(deed: Deed, place: u8, n: u8) -> u8
     }
 }
 
+// What a deed does to the screens of the task in front after it: a new task is one renewed.
+fn change_of(deed: Deed) -> Change
+    ensures { λ r. ⌜ r ≡ changeOf deed ⌝ }
+{
+    match deed {
+        Deed::New => Change::Renew,
+        Deed::InFront(change) => change,
+        Deed::MoveAnd(change) => change,
+    }
+}
+
+// The root of that task: b where it is new.
+fn root_after(root: u8, b: u8, deed: Deed) -> u8
+    ensures { λ r. ⌜ r ≡ rootAfter root b deed ⌝ }
+{
+    match deed {
+        Deed::New => b,
+        Deed::InFront(_) => root,
+        Deed::MoveAnd(_) => root,
+    }
+}
+
 // The task in front after a deed; t is the one that it changes.
 pub fn front_after(t: Task, b: u8, deed: Deed) -> Task
     requires { ⌜ Changeable deed t ⌝ }
     ensures { λ r. ⌜ r ≡ frontAfter b deed t ⌝ }
 {
-    match deed {
-        Deed::New => renewed(b, b),
-        Deed::InFront(change) => changed(t, b, change),
-        Deed::MoveAnd(change) => changed(t, b, change),
-    }
+    let mut out = changed(t, b, change_of(deed));
+    out.root = root_after(t.root, b, deed);
+    out
 }
 
 // The number of tasks after a deed.

@@ -1,23 +1,29 @@
 -- `deeds::changed` meets its contract, change by change.
-use Prim.Native.Nat.{ℕ}
-use mathlib.Core.Path.{_≡_, refl, sym, _∙_, ap}
-use native.Mathlib.Omega.{arith}
+use Prim.Native.Nat.{ℕ, _<_}
+use mathlib.Core.Path.{_≡_, refl, sym, _∙_, ap, subst}
 use borrow.Author.Needs.{needs}
-use lib.Dec.{eqb}
 use lib.ListN.{length}
 use Rattle.model.specs.declared.Change.{Change}
-use Rattle.model.specs.Session.{stack}
 use Rattle.model.specs.Deeds.{changed}
 use Rattle.session.specs.declared.Task.{Task}
-use Rattle.session.specs.Stored.{viewTask, holdTask}
-use Rattle.deeds.proofs.Changes.{blank-height, kept, push-is}
+use Rattle.session.specs.Stored.{viewTask, pushed}
+use Rattle.deeds.specs.Carriable.{Alterable}
+use Rattle.deeds.specs.Fronted.{changedTask}
+use Rattle.deeds.proofs.Changes.{kept}
+use Rattle.deeds.proofs.Bases.{base-low, base-pushed}
 use Rattle.deeds.proofs.changed.Statement.{statement}
 use Rattle.deeds.proofs.changed.Tie as tie
 
--- what the contract says, of the change that the match found
-told : (t : Task) (b : ℕ) {change d : Change} → change ≡ d
-    → holdTask (stack (t .root) (changed (eqb b) b d (viewTask t .screens))) ≡ holdTask (stack (t .root) (changed (eqb b) b change (viewTask t .screens)))
-told t b e = ap (λ (d : Change). holdTask (stack (t .root) (changed (eqb b) b d (viewTask t .screens)))) (sym e)
+-- what is required, and what the contract says, of the change that the match found
+module _ (t : Task) {change d : Change} (e : change ≡ d) where
+  found : Alterable change t → Alterable d t
+  found h = subst (λ (x : Change). Alterable x t) e h
+
+  told : (b : ℕ) → changedTask b d t ≡ changedTask b change t
+  told b = ap (λ (x : Change). changedTask b x t) (sym e)
+
+base-of-requires : tie.Need-base-of-requires
+base-of-requires c κs = search needs
 
 enum-told : tie.Need-enum-told
 enum-told c = search needs
@@ -25,80 +31,63 @@ enum-told c = search needs
 enum-told-2 : tie.Need-enum-told-2
 enum-told-2 c = search needs
 
-renewed-requires : tie.Need-renewed-requires
-renewed-requires c κs = search needs
+cleared-requires : tie.Need-cleared-requires
+cleared-requires c κs = let start = c .before .before .before in found (start .args .t) (c .enum-told2 .given .1) (start .pre)
 
 enum-told-3 : tie.Need-enum-told-3
 enum-told-3 c = search needs
 
-cleared-requires : tie.Need-cleared-requires
-cleared-requires c κs = search needs
-
-enum-told-4 : tie.Need-enum-told-4
-enum-told-4 c = search needs
-
 lifted-requires : tie.Need-lifted-requires
-lifted-requires c κs = search needs
-
-enum-told-5 : tie.Need-enum-told-5
-enum-told-5 c = search needs
+lifted-requires c κs = let start = c .before .before .before in found (start .args .t) (c .enum-told3 .given .1) (start .pre)
 
 push-requires : tie.Need-push-requires
 push-requires c κs =
     let start = c .before .before in
     let t = start .args .t in
     let l : length (t .screens) ≡ 32 = search needs in
-    let h = blank-height t l (start .pre .0) in
-    let r = start .pre .1 (c .enum-told5 .given .1) in
-    omega arith
+    subst (λ (u : Task). u .height < 32) (sym (c .before .base-of .ensures)) (base-low t l (start .args .change) (c .match .keys4) (start .pre))
 
 returns : tie.Need-returns
 unfolding changed
 returns c =
-    let start = c .before .before in
-    let t = start .args .t in
-    let l : length (t .screens) ≡ 32 = search needs in
-    sym (kept t l (start .pre .0) (viewTask t .screens) refl) ∙ told t (start .args .b) (c .enum-told .given .1)
-
-returns-2 : tie.Need-returns-2
-unfolding changed
-returns-2 c =
-    let a = c .before .before .before .args in
-    c .renewed .ensures ∙ told (a .t) (a .b) (c .before .enum-told2 .given .1)
-
-returns-3 : tie.Need-returns-3
-returns-3 c =
-    let a = c .before .before .before .args in
-    c .cleared .ensures ∙ told (a .t) (a .b) (c .before .enum-told3 .given .1)
-
-returns-4 : tie.Need-returns-4
-returns-4 c =
-    let a = c .before .before .before .args in
-    c .lifted .ensures ∙ told (a .t) (a .b) (c .before .enum-told4 .given .1)
-
-returns-5 : tie.Need-returns-5
-returns-5 c =
     let start = c .before .before .before in
     let t = start .args .t in
     let l : length (t .screens) ≡ 32 = search needs in
-    let e = c .before .enum-told5 .given .1 in
-    c .push .ensures ∙ sym (push-is t l (start .pre .0) (start .args .b) (start .pre .1 e)) ∙ told t (start .args .b) e
+    let e = c .enum-told .given .1 in
+    sym (kept t l (found t e (start .pre)) (viewTask t .screens) refl) ∙ told t e (start .args .b)
+
+returns-2 : tie.Need-returns-2
+returns-2 c =
+    let a = c .before .before .before .before .args in
+    c .cleared .ensures ∙ told (a .t) (c .before .enum-told2 .given .1) (a .b)
+
+returns-3 : tie.Need-returns-3
+returns-3 c =
+    let a = c .before .before .before .before .args in
+    c .lifted .ensures ∙ told (a .t) (c .before .enum-told3 .given .1) (a .b)
+
+returns-4 : tie.Need-returns-4
+returns-4 c =
+    let start = c .before .before .before in
+    let t = start .args .t in
+    let b = start .args .b in
+    let l : length (t .screens) ≡ 32 = search needs in
+    c .push .ensures
+    ∙ ap (λ (u : Task). pushed u b) (c .before .before .base-of .ensures)
+    ∙ base-pushed t l (start .args .change) (c .before .match .keys4) b (start .pre)
 
 pub changed-spec : {M : Type 1} → statement M
 changed-spec =
     tie.close
     (tie.spec
+    base-of-requires
     enum-told
     enum-told-2
-    renewed-requires
-    enum-told-3
     cleared-requires
-    enum-told-4
+    enum-told-3
     lifted-requires
-    enum-told-5
     push-requires
     returns
     returns-2
     returns-3
-    returns-4
-    returns-5)
+    returns-4)
