@@ -16,6 +16,7 @@ ghost use Rattle.calls.specs.StoredSaves.{saved, saveStored};
 use model::Answer;
 use model::Mark;
 use session::Session;
+use session::Task;
 
 // What a call gives: the session after it, and the answer.
 #[repr(C)]
@@ -97,7 +98,21 @@ pub fn back(table: &[u8], s: Session) -> Reply
         if front.height > 1 {
             out.tasks[0] = front.pop();
         } else {
-            out = closing::without_task(out, 0);
+            let last = (out.n - 1) as usize;
+            let mut j: usize = 0;
+            while j < last {
+                let x = out.tasks[j + 1];
+                out.tasks[j] = x;
+                j += 1;
+            }
+            let blank = Task {
+                root: 0,
+                height: 0,
+                screens: [0; Session::SCREENS],
+            };
+            out.tasks[last] = blank;
+            out.n = out.n - 1;
+            out.main = closing::main_without(1, out.main);
         }
     }
     Reply {

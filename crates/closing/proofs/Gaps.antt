@@ -1,23 +1,26 @@
--- One gone from a padded row, as a loop leaves it; so of a stored task's screens, and of a stored session's tasks.
+-- One gone from a padded row, as a loop leaves it; so of a stored task's screens, and of a stored session's tasks, with the
+-- loop's invariant.
 use Prim.Native.Nat.{ℕ, suc, _+_, _-_, _≤_, _<_}
 use mathlib.Core.Path.{_≡_, sym, _∙_, ap, ap₂}
 use mathlib.Core.Bool.{true}
 use mathlib.Core.List.{List, _++_, map, reverse, reverse-append}
 use native.Mathlib.Omega.{arith}
-use lib.ListN.{length, take, drop, replicate, length-map, length-drop, length-reverse}
+use lib.ListN.{length, getD, set, take, drop, replicate, length-map, length-drop, length-reverse}
 use lib.Seq.{take-at, take-append-le, drop-append-le}
 use Rattle.model.specs.Lists.{omit}
 use Rattle.model.specs.Session.{State, stack, state, count, height, mostTasks, mostHeight}
+use Rattle.model.specs.Deeds.{mainWithout}
 use Rattle.model.proofs.ListLaws.{omit-length, omit-split, map-omit}
 use Rattle.session.specs.declared.Session.{Session}
 use Rattle.session.specs.declared.Task.{Task}
-use Rattle.session.specs.Stored.{view, viewTask, hold, holdTask, pad, blankTask, blankAbove, storageBlank}
+use Rattle.session.specs.Stored.{view, viewTask, hold, holdTask, pad, noTask, blankTask, blankAbove, storageBlank}
 use Rattle.session.proofs.Known.{Sized, Screens32}
 use Rattle.session.proofs.Padding.{drop-pad}
 use Rattle.session.proofs.StoredLaws.{held, hold-viewTask, blank-few}
 use Rattle.session.proofs.SessionLaws.{stored}
 use Rattle.session.proofs.TaskLaws.{reverse-drop, reverse-take}
-use Rattle.deeds.specs.Rows.{closedUp}
+use Rattle.deeds.specs.Rows.{closedUp, withTasks}
+use Rattle.deeds.proofs.Rows.{closingUp, close-begin, close-step, close-end}
 use Rattle.deeds.proofs.Changes.{blank-low, blank-height}
 use Rattle.deeds.proofs.Fronts.{counted}
 
@@ -75,7 +78,7 @@ hold-gone v n m k e h =
     ∙ pad-closed mostTasks blankTask m k (map holdTask (v .tasks)) (omega arith) (omega arith) in
     λ i. stored (s i) (l i) n
 
-pub task-gone : (s : Session) → Sized s → storageBlank s ≡ true → (k n : ℕ) → k < s .n
+task-gone : (s : Session) → Sized s → storageBlank s ≡ true → (k n : ℕ) → k < s .n
     → hold (state (omit k (view s .tasks)) n) ≡ stored (closedUp k (s .n - 1 - k) blankTask (s .tasks)) (s .n - 1) n
 task-gone s z e k n h =
     let c = counted s z e in
@@ -83,3 +86,34 @@ task-gone s z e k n h =
     let j = s .n - 1 - k in
     hold-gone (view s) n k j (omega arith) (omega arith)
     ∙ ap₂ (λ (o : Session) (i : ℕ). stored (closedUp k j blankTask (o .tasks)) (i - 1) n) (held s z e) c
+
+-- so of o, whose tasks have come nearer, with one less of them and the main place
+pub task-taken : (s : Session) → Sized s → storageBlank s ≡ true → (k : ℕ) → k < s .n
+    → {o : Session} → o ≡ withTasks s (closedUp k (s .n - 1 - k) blankTask (s .tasks)) → {m : ℕ} → m ≡ mainWithout (suc k) (o .main)
+    → stored (o .tasks) (o .n - 1) m ≡ hold (state (omit k (view s .tasks)) (mainWithout (suc k) (s .main)))
+task-taken s z e k h f g =
+    ap (stored _ _) g ∙ ap (λ (o : Session). stored (o .tasks) (o .n - 1) (mainWithout (suc k) (o .main))) f
+    ∙ sym (task-gone s z e k (mainWithout (suc k) (s .main)) h)
+
+-- ---- the loop that takes a task of a session away: its invariant at the beginning, after a turn and at the end
+
+-- behind the first m tasks, j of those after the next one have come one place nearer
+abbrev pub closingIn : Session → ℕ → ℕ → Session
+closingIn s m j = withTasks s (closingUp m j (s .tasks))
+
+module _ (s : Session) (m : ℕ) where
+  pub closes-begin : s ≡ closingIn s m 0
+  closes-begin = ap (withTasks s) (close-begin m (s .tasks))
+
+  module _ (z : length (s .tasks) ≡ mostTasks) where
+    pub closes-step : (j p : ℕ) → p ≡ m + j → p + 1 < mostTasks → {o : Session} → o ≡ closingIn s m j
+        → withTasks o (set (o .tasks) p (getD (o .tasks) (p + 1) noTask)) ≡ closingIn s m (j + 1)
+    closes-step j p f h e =
+        ap₂ (λ (o : Session) (p : ℕ). withTasks o (set (o .tasks) p (getD (o .tasks) (p + 1) noTask))) e f
+        ∙ ap (withTasks s) (close-step noTask m j (s .tasks) (omega arith))
+
+    pub closes-end : (k j p : ℕ) → j ≡ k → p ≡ m + k → p < mostTasks → {o : Session} → o ≡ closingIn s m j
+        → withTasks o (set (o .tasks) p blankTask) ≡ withTasks s (closedUp m k blankTask (s .tasks))
+    closes-end k j p n f h e =
+        ap₂ (λ (o : Session) (p : ℕ). withTasks o (set (o .tasks) p blankTask)) (e ∙ ap (closingIn s m) n) f
+        ∙ ap (withTasks s) (close-end m k blankTask (s .tasks) (omega arith))

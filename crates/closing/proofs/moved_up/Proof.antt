@@ -1,25 +1,21 @@
 -- `closing::moved_up` meets its contract. The loop's invariant: j tasks have come one place nearer.
-use Prim.Native.Nat.{ℕ, _+_, _-_, _≤_}
-use mathlib.Core.Path.{_≡_, _∙_, ap}
+use Prim.Native.Nat.{_-_, _≤_}
+use mathlib.Core.Path.{_≡_, refl}
 use native.Mathlib.Omega.{arith}
 use borrow.Author.Needs.{needs}
-use lib.ListN.{length, getD, set}
-use Rattle.session.specs.declared.Session.{Session}
-use Rattle.session.specs.Stored.{noTask, blankTask}
-use Rattle.session.proofs.Known.{long}
-use Rattle.deeds.specs.Rows.{withTasks}
-use Rattle.deeds.proofs.Rows.{closingUp, close-begin, close-step, close-end}
+use Rattle.session.proofs.Known.{sized}
+use Rattle.closing.proofs.Gaps.{closingIn, closes-begin, closes-step, closes-end}
 use Rattle.closing.proofs.moved_up.Statement.{statement}
 use Rattle.closing.proofs.moved_up.Tie as tie
 
 abbrev Inv-loop : tie.InvT-loop
-Inv-loop m k out₀ j₀ out j = (j ≤ k) × (out ≡ withTasks out₀ (closingUp m j (out₀ .tasks)))
+Inv-loop m k out₀ j₀ out j = (j ≤ k) × (out ≡ closingIn out₀ m j)
 
 abbrev μ-loop : tie.MeasureT-loop
 μ-loop m k out₀ j₀ out j = k - j
 
 loop-holds : tie.Need-loop-holds Inv-loop μ-loop
-loop-holds c = (search needs, ap (withTasks (c .args .s)) (close-begin (c .args .m) (c .args .s .tasks)))
+loop-holds c = (search needs, closes-begin (c .args .s) (c .args .m))
 
 add-t : tie.Need-add-t Inv-loop μ-loop
 add-t c = search needs
@@ -51,12 +47,9 @@ loop-less c = search needs
 loop-again : tie.Need-loop-again Inv-loop μ-loop
 loop-again c =
     let here = c .before .before .loop in
-    let a = c .before .before .before .args in
-    let l : length (a .s .tasks) ≡ 16 = search (needs, long) in (
-      omega arith,
-      ap (λ (o : Session). withTasks o (set (o .tasks) (a .m + here .j) (getD (o .tasks) (a .m + here .j + 1) noTask))) (here .inv .1)
-          ∙ ap (withTasks (a .s)) (close-step noTask (a .m) (here .j) (a .s .tasks) (omega arith)),
-    )
+    let start = c .before .before .before in
+    let s = start .args .s in
+    (omega arith, closes-step s (start .args .m) (sized s _ (start .good .0) .tasks) (here .j) _ refl (omega arith) (here .inv .1))
 
 add-blank : tie.Need-add-blank Inv-loop μ-loop
 add-blank c = search needs
@@ -70,12 +63,9 @@ element-set-from-blank c = search needs
 returns : tie.Need-returns Inv-loop μ-loop
 returns c =
     let here = c .before .loop in
-    let a = c .before .before .args in
-    let l : length (a .s .tasks) ≡ 16 = search (needs, long) in
-    let k : here .j ≡ a .k = omega arith in
-    ap (λ (o : Session). withTasks o (set (o .tasks) (a .m + a .k) blankTask)) (here .inv .1)
-    ∙ ap (λ (j : ℕ). withTasks (a .s) (set (closingUp (a .m) j (a .s .tasks)) (a .m + a .k) blankTask)) k
-    ∙ ap (withTasks (a .s)) (close-end (a .m) (a .k) blankTask (a .s .tasks) (omega arith))
+    let start = c .before .before in
+    let s = start .args .s in
+    closes-end s (start .args .m) (sized s _ (start .good .0) .tasks) (start .args .k) (here .j) _ (omega arith) refl (start .pre) (here .inv .1)
 
 pub moved-up-spec : {M : Type 1} → statement M
 moved-up-spec =
