@@ -8,10 +8,11 @@ use native.Mathlib.Omega.{arith}
 use lib.Dec.{leb, ltb, eqb}
 use lib.ListN.{length, getD, take, drop, length-take, length-map, List·getD-map}
 use lib.Seq.{getD-take, length-take-le, take-suc}
-use Rattle.model.specs.Lists.{all, pairwise, All}
+use borrow.Author.Tests.{eqb-true, ne-eqb}
+use Rattle.model.specs.Lists.{all, pairwise, All, if_then_else_}
 use Rattle.model.specs.Table.{sizeOf, isSingleInstance, rootsOnce}
 use Rattle.model.specs.Session.{mostTasks, mostHeight, taskSound, rootsDiffer, mainSound, sound}
-use Rattle.model.proofs.Logic.{Decides, and-decides, leb-decides, ltb-decides, self-decides, false-decides, all-decides, same-test, and-right, All-map}
+use Rattle.model.proofs.Logic.{Decides, and-decides, leb-decides, ltb-decides, self-decides, false-decides, all-decides, same-test, and-left, and-right, All-map}
 use Rattle.model.proofs.Sound.{TaskSound, Plain, task-decides}
 use Rattle.model.proofs.Walks.{all-reverse, all-map, all-both, all-cong, all-true, pairwise-map}
 use Rattle.session.specs.declared.Task.{Task}
@@ -20,7 +21,7 @@ use Rattle.session.specs.Stored.{noTask, viewTask, view, blankAbove, isBlank, s
 use Rattle.session.proofs.Known.{Screens32}
 use Rattle.session.proofs.TaskLaws.{view-height}
 use Rattle.soundness.specs.Tests.{total, noSum, otherRoot, plainScreen, usedSound, usedSum, storedTaskSound, rootsKnown, mayBeRoots, mainRootSound}
-use Rattle.soundness.proofs.Sums.{used-sum-decides}
+use Rattle.soundness.proofs.Sums.{total-zero, used-sum-decides}
 
 -- the roots of stored tasks
 abbrev pub root : Task → ℕ
@@ -124,7 +125,7 @@ module _ (tb : List ℕ) where
   unfolding mayBeRoots
   differ-often x ys e = all-true (mayBeRoots tb x) (λ y. rw e) ys
 
-  root-known : (t : Task) → storedTaskSound tb t ≡ true → t .root < sizeOf tb
+  pub root-known : (t : Task) → storedTaskSound tb t ≡ true → t .root < sizeOf tb
   unfolding storedTaskSound viewTask
   root-known t e = task-decides tb (viewTask t) .holds (and-right (blankAbove t) (taskSound tb (viewTask t)) e) .known
 
@@ -134,6 +135,23 @@ module _ (tb : List ℕ) where
       all-map root (λ x. ltb x (sizeOf tb)) ts
       ∙ all-decides (λ t. ltb-decides (t .root) (sizeOf tb)) ts .shows
       (All-map root-known ts (all-decides (λ t. self-decides (storedTaskSound tb t)) ts .holds e))
+
+-- ---- a place in which no task stands
+
+-- its screens add up to 0 under the root and the height 0 exactly where it is blank
+pub blank-stored : (t : Task) → total (t .screens) < noSum
+    → eqb (if eqb (t .root) 0 && eqb (t .height) 0 then 0 else noSum) (total (t .screens)) ≡ isBlank t
+unfolding isBlank
+blank-stored t few = go (eqb (t .root) 0) (eqb (t .height) 0)
+  where
+    go : (r h : Bool) → eqb (if r && h then 0 else noSum) (total (t .screens)) ≡ (r && (h && all (eqb 0) (t .screens)))
+    go true true = total-zero (t .screens)
+    go true false = ne-eqb noSum (total (t .screens)) (λ e. omega arith)
+    go false h = ne-eqb noSum (total (t .screens)) (λ e. omega arith)
+
+pub blank-root-0 : (t : Task) → isBlank t ≡ true → t .root ≡ 0
+unfolding isBlank
+blank-root-0 t e = eqb-true (t .root) 0 (and-left (eqb (t .root) 0) (eqb (t .height) 0 && all (eqb 0) (t .screens)) e)
 
 -- ---- a session
 

@@ -1,4 +1,5 @@
 pub mod Sums
+pub mod Fours
 pub mod Bytes
 pub mod Fits
 pub mod Places

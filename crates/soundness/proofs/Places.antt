@@ -1,118 +1,237 @@
--- The loop over all 16 places, one turn at a time: the tasks before i are sound, what is beyond n before i is blank, and
--- the roots read are those of the tasks before i.
-use Prim.Native.Nat.{ℕ, suc, min, max, _+_, _≤_, _<_}
-use mathlib.Core.Path.{_≡_, refl, sym, _∙_, ap}
-use mathlib.Core.Bool.{true, false}
-use mathlib.Core.List.{List, _∷_, [], _++_, map-append}
+-- The 16 places, four at a time. Each root read is that of its place, or the number that no screen has where the place is
+-- not sound; where four places hold no task, they are blank and their roots stay 0.
+use Prim.Native.Nat.{ℕ, zero, suc, _+_, _-_, _≤_, _<_, zero-le, suc-le-suc}
+use mathlib.Core.Path.{_≡_, refl, sym, _∙_, ap, subst}
+use mathlib.Core.Bool.{Bool, true, false, not, _&&_}
+use mathlib.Core.List.{List, [], _∷_}
 use native.Mathlib.Omega.{arith}
-use lib.Dec.{eqb}
-use lib.ListN.{length, getD, set, take, drop, length-set}
-use lib.Seq.{take-suc, take-suc-set}
-use borrow.Author.Tests.{eq-eqb, ne-eqb}
-use Rattle.model.specs.Lists.{all, All}
+use lib.Dec.{ltb, eqb}
+use lib.ListN.{length, getD, set, take, drop, replicate, length-set, length-drop, length-map, length-replicate, List·getD-map}
+use lib.Seq.{getD-set-same, getD-set-other, getD-take, getD-drop, length-take-le, ext-getD}
+use borrow.Author.Tests.{ltb-true, ltb-false, lt-ltb, le-ltb, eqb-true, eqb-false, ne-eqb}
+use Rattle.model.specs.Lists.{all, All, if_then_else_}
+use Rattle.model.specs.Table.{tableRefusal}
 use Rattle.model.specs.Session.{mostTasks}
-use Rattle.model.proofs.Logic.{refuted, contradiction, All-at}
-use Rattle.model.proofs.Walks.{all-fail, all-next, all-end, all-take-fail, all-take-next, all-take-end}
+use Rattle.model.proofs.Logic.{refuted, contradiction, and-left, and-right, All-at}
+use Rattle.model.proofs.Tables.{good-shaped}
+use Rattle.model.proofs.Walks.{all-at, all-take-at}
 use Rattle.session.specs.declared.Task.{Task}
 use Rattle.session.specs.declared.Session.{Session}
 use Rattle.session.specs.Stored.{noTask, isBlank, soundStored}
-use Rattle.soundness.specs.Tests.{total, usedSum, storedTaskSound, rootsKnown}
+use Rattle.soundness.specs.Tests.{total, noRoot, isRoot, expectedSum, placeRoot, storedTaskSound, rootsKnown}
 use Rattle.soundness.proofs.Bytes.{SumFits}
-use Rattle.soundness.proofs.Fits.{root, rootsOf, used-stored, roots-known, session-fits}
+use Rattle.soundness.proofs.Fits.{root, rootsOf, SessionFits, used-stored, blank-stored, blank-root-0, root-known, roots-known, session-fits}
 
--- what is known before the place i: the rest decides
+-- ---- one place
+
+-- what a place holds where it is sound
+abbrev placeSound : List ℕ → Bool → Task → Bool
+placeSound tb used t = if used then storedTaskSound tb t else isBlank t
+
+module _ (tb : List ℕ) (good : tableRefusal tb ≡ 0) (t : Task) (fits : SumFits t) where
+  low-root : t .root < noRoot → isRoot (t .root) ≡ true
+  unfolding isRoot
+  low-root h = rw (ne-eqb (t .root) noRoot (λ e. omega arith))
+
+  -- the root read is a root exactly where the place is sound
+  pub read-root : (used : Bool) → isRoot (placeRoot tb used t) ≡ placeSound tb used t
+  unfolding placeRoot expectedSum isRoot
+  read-root true = rw (used-stored tb t fits) (go (storedTaskSound tb t) refl)
+    where
+      go : (b : Bool) → storedTaskSound tb t ≡ b → isRoot (if b then t .root else noRoot) ≡ b
+      go true e = let k = root-known tb t e in let g = good-shaped tb good in low-root (omega (arith, g .most))
+      go false e = refl
+  read-root false = rw (blank-stored t fits) (go (isBlank t) refl)
+    where
+      go : (b : Bool) → isBlank t ≡ b → isRoot (if b then t .root else noRoot) ≡ b
+      go true e = low-root (omega (arith, blank-root-0 t e))
+      go false e = refl
+
+  pub sound-root : (used : Bool) → placeSound tb used t ≡ true → placeRoot tb used t ≡ t .root
+  unfolding placeRoot expectedSum
+  sound-root true e = rw (used-stored tb t fits, e)
+  sound-root false e = rw (blank-stored t fits, e)
+
+-- ---- what is known before the place i
+
 pub record Before (tb : List ℕ) (s : Session) (roots : List ℕ) (i : ℕ) : Type 0 where
+  pub good : tableRefusal tb ≡ 0
   pub few : s .n ≤ mostTasks
   pub sized : length (s .tasks) ≡ mostTasks
   pub sums : All SumFits (s .tasks)
   pub long : length roots ≡ mostTasks
-  pub inside : i ≤ mostTasks
-  pub each : all (storedTaskSound tb) (take (s .n) (s .tasks)) ≡ all (storedTaskSound tb) (drop i (take (s .n) (s .tasks)))
-  pub rest : all isBlank (drop (s .n) (s .tasks)) ≡ all isBlank (drop (max (s .n) i) (s .tasks))
-  pub read : take (min i (s .n)) roots ≡ rootsOf (take (min i (s .n)) (s .tasks))
+  pub read : (j : ℕ) → j < i → getD roots j 0 ≡ placeRoot tb (ltb j (s .n)) (getD (s .tasks) j noTask)
+  pub blank : (j : ℕ) → i ≤ j → getD roots j 0 ≡ 0
 
-pub before-first : (tb : List ℕ) (s : Session) (roots : List ℕ) → s .n ≤ mostTasks → length (s .tasks) ≡ mostTasks → All SumFits (s .tasks)
-    → length roots ≡ mostTasks → Before tb s roots 0
-before-first tb s roots few sized sums long =
-    let m : max (s .n) 0 ≡ s .n = omega arith in
-    let k : min 0 (s .n) ≡ 0 = omega arith in
-    record { few = few; sized = sized; sums = sums; long = long; inside = omega arith; each = refl; rest = rw m; read = rw k }
+zeros : (n j : ℕ) → getD {A = ℕ} (replicate n 0) j 0 ≡ 0
+zeros zero j = refl
+zeros (suc n) zero = refl
+zeros (suc n) (suc j) = zeros n j
 
-module _ {tb : List ℕ} {s : Session} {roots : List ℕ} {i : ℕ} (b : Before tb s roots i) where
-  abbrev t : Task
-  t = getD (s .tasks) i noTask
+pub before-first : (tb : List ℕ) (s : Session) → tableRefusal tb ≡ 0 → s .n ≤ mostTasks → length (s .tasks) ≡ mostTasks
+    → All SumFits (s .tasks) → Before tb s (replicate mostTasks 0) 0
+before-first tb s good few sized sums =
+    record {
+      good = good;
+      few = few;
+      sized = sized;
+      sums = sums;
+      long = length-replicate {A = ℕ} mostTasks 0;
+      read = λ j h. absurd (omega arith);
+      blank = λ j h. zeros mostTasks j;
+    }
 
-  -- ---- the place of a task
+-- a test holds of a list where it holds at each place
+all-from : {A : Type 0} (p : A → Bool) (d : A) (l : List A) → ((j : ℕ) → j < length l → p (getD l j d) ≡ true) → all p l ≡ true
+all-from p d [] h = refl
+all-from p d (x ∷ xs) h = rw (h 0 (suc-le-suc zero-le)) (all-from p d xs (λ j l. h (suc j) (suc-le-suc l)))
 
-  module _ (h : i < s .n) where
-    test-is : eqb (usedSum tb t) (total (t .screens)) ≡ storedTaskSound tb t
-    test-is = used-stored tb t (All-at SumFits (s .tasks) i noTask (omega (arith, b .few, b .sized)) (b .sums))
+-- the task at a place, and the root read there
+abbrev task : Session → ℕ → Task
+task s i = getD (s .tasks) i noTask
 
-    pub task-fails : (usedSum tb t ≡ total (t .screens) → ⊥) → soundStored tb s ≡ false
-    task-fails n =
-        let e : storedTaskSound tb t ≡ false = sym test-is ∙ ne-eqb (usedSum tb t) (total (t .screens)) n in
-        let f = b .each ∙ all-take-fail (storedTaskSound tb) (s .tasks) (s .n) (omega arith) i noTask h e in
-        refuted _ (session-fits tb s) (λ k. contradiction (k .each) f)
+abbrev rootAt : List ℕ → Session → ℕ → ℕ
+rootAt tb s i = placeRoot tb (ltb i (s .n)) (task s i)
 
-    pub after-task : usedSum tb t ≡ total (t .screens) → Before tb s (set roots i (t .root)) (i + 1)
-    after-task y =
-        let e : storedTaskSound tb t ≡ true = sym test-is ∙ eq-eqb (usedSum tb t) (total (t .screens)) y in
-        let m : max (s .n) i ≡ max (s .n) (i + 1) = omega arith in
-        let p : min i (s .n) ≡ i = omega arith in
-        let q : min (i + 1) (s .n) ≡ suc i = omega arith in
-        let r : take i roots ≡ rootsOf (take i (s .tasks)) = rw p at (b .read) in
+-- the four places from i on are blank
+abbrev pub blanks : Session → ℕ → Bool
+blanks s i = all isBlank (task s i ∷ task s (i + 1) ∷ task s (i + 2) ∷ task s (i + 3) ∷ [])
+
+module _ {tb : List ℕ} {s : Session} where
+  module _ {roots : List ℕ} {i : ℕ} (b : Before tb s roots i) where
+    fits-at : (j : ℕ) → j < mostTasks → SumFits (task s j)
+    fits-at j h = All-at SumFits (s .tasks) j noTask (omega (arith, b .sized)) (b .sums)
+
+    -- ---- one place more
+
+    after-one : i < mostTasks → Before tb s (set roots i (rootAt tb s i)) (i + 1)
+    after-one h =
         record {
+          good = b .good;
           few = b .few;
           sized = b .sized;
           sums = b .sums;
-          long = length-set roots i (t .root) ∙ b .long;
-          inside = omega arith;
-          each = b .each ∙ all-take-next (storedTaskSound tb) (s .tasks) (s .n) (omega arith) i noTask h e;
-          rest = b .rest ∙ ap (λ (j : ℕ). all isBlank (drop j (s .tasks))) m;
-          read = rw q
-              (take-suc-set roots i (t .root) (omega arith)
-              ∙ ap (λ (xs : List ℕ). xs ++ (t .root ∷ [])) r
-              ∙ sym (ap rootsOf (take-suc (s .tasks) i noTask (omega arith)) ∙ map-append root (take i (s .tasks)) (t ∷ [])));
+          long = length-set roots i (rootAt tb s i) ∙ b .long;
+          read = λ j l. go j l (ltb j i) refl;
+          blank = λ j l. getD-set-other roots i j (rootAt tb s i) 0 (λ e. omega arith) ∙ b .blank j (omega arith);
         }
+      where
+        go : (j : ℕ) → j < i + 1 → (e : Bool) → ltb j i ≡ e → getD (set roots i (rootAt tb s i)) j 0 ≡ rootAt tb s j
+        go j l true e =
+            let k = ltb-true j i e in
+            getD-set-other roots i j (rootAt tb s i) 0 (λ q. omega arith) ∙ b .read j k
+        go j l false e =
+            let k = ltb-false j i e in
+            let q : j ≡ i = omega arith in
+            rw q (getD-set-same roots i (rootAt tb s i) 0 (omega (arith, b .long)))
 
-  -- ---- a place beyond the tasks
-
-  module _ (h : s .n ≤ i) (l : i < mostTasks) where
-    rest-at : all isBlank (drop (s .n) (s .tasks)) ≡ all isBlank (drop i (s .tasks))
-    rest-at = let m : max (s .n) i ≡ i = omega arith in rw m at (b .rest)
-
-    pub blank-fails : isBlank t ≡ false → soundStored tb s ≡ false
-    blank-fails e =
-        let f = rest-at ∙ all-fail isBlank (s .tasks) i noTask (omega arith) e in
-        refuted _ (session-fits tb s) (λ k. contradiction (k .rest) f)
-
-    pub after-blank : isBlank t ≡ true → Before tb s roots (i + 1)
-    after-blank e =
-        let m : max (s .n) (i + 1) ≡ i + 1 = omega arith in
-        let q : min i (s .n) ≡ min (i + 1) (s .n) = omega arith in
+    after-blank : s .n ≤ i → i < mostTasks → isBlank (task s i) ≡ true → Before tb s roots (i + 1)
+    after-blank h l e =
         record {
+          good = b .good;
           few = b .few;
           sized = b .sized;
           sums = b .sums;
           long = b .long;
-          inside = omega arith;
-          each = b .each ∙ all-take-end (storedTaskSound tb) (s .tasks) (s .n) (omega arith) i h
-              ∙ sym (all-take-end (storedTaskSound tb) (s .tasks) (s .n) (omega arith) (i + 1) (omega arith));
-          rest = rw m (rest-at ∙ all-next isBlank (s .tasks) i noTask (omega arith) e);
-          read = rw q at (b .read);
+          read = λ j k. go j k (ltb j i) refl;
+          blank = λ j k. b .blank j (omega arith);
         }
+      where
+        here : rootAt tb s i ≡ 0
+        here =
+            rw (le-ltb i (s .n) h) (sound-root tb (b .good) (task s i) (fits-at i l) false e ∙ blank-root-0 (task s i) e)
+
+        go : (j : ℕ) → j < i + 1 → (e : Bool) → ltb j i ≡ e → getD roots j 0 ≡ rootAt tb s j
+        go j l true e = b .read j (ltb-true j i e)
+        go j l false e =
+            let k = ltb-false j i e in
+            let q : j ≡ i = omega arith in
+            rw q (b .blank i (omega arith) ∙ sym here)
+
+  -- ---- four places more
+
+  at-place : {roots : List ℕ} {i : ℕ} (k : ℕ) → i ≡ k → Before tb s roots i → Before tb s roots k
+  at-place {roots} k e b = subst (Before tb s roots) e b
+
+  pub after-four : {roots : List ℕ} {i : ℕ} → Before tb s roots i → i + 4 ≤ mostTasks → {r : List ℕ}
+      → r ≡ set (set (set (set roots i (rootAt tb s i)) (i + 1) (rootAt tb s (i + 1))) (i + 2) (rootAt tb s (i + 2))) (i + 3) (rootAt tb s (i + 3))
+      → Before tb s r (i + 4)
+  after-four {i = i} b h e =
+      let b₂ = at-place (i + 2) (omega arith) (after-one (after-one b (omega arith)) (omega arith)) in
+      let b₃ = at-place (i + 3) (omega arith) (after-one b₂ (omega arith)) in
+      rw e (at-place (i + 4) (omega arith) (after-one b₃ (omega arith)))
+
+  pub after-blanks : {roots : List ℕ} {i : ℕ} → Before tb s roots i → s .n ≤ i → i + 4 ≤ mostTasks → blanks s i ≡ true → Before tb s roots (i + 4)
+  after-blanks {i = i} b h l e =
+      let e₁ = and-right (isBlank (task s i)) _ e in
+      let e₂ = and-right (isBlank (task s (i + 1))) _ e₁ in
+      let e₃ = and-right (isBlank (task s (i + 2))) _ e₂ in
+      let b₁ = after-blank b h (omega arith) (and-left (isBlank (task s i)) _ e) in
+      let b₂ = at-place (i + 2) (omega arith) (after-blank b₁ (omega arith) (omega arith) (and-left (isBlank (task s (i + 1))) _ e₁)) in
+      let b₃ = at-place (i + 3) (omega arith) (after-blank b₂ (omega arith) (omega arith) (and-left (isBlank (task s (i + 2))) _ e₂)) in
+      at-place (i + 4) (omega arith) (after-blank b₃ (omega arith) (omega arith) (and-left (isBlank (task s (i + 3))) _ e₃))
+
+  -- ---- a place beyond the tasks of a sound session
+
+  blank-at : length (s .tasks) ≡ mostTasks → SessionFits tb s → (j : ℕ) → s .n ≤ j → j < mostTasks → isBlank (task s j) ≡ true
+  blank-at z k j h l =
+      let q : s .n + (j - s .n) ≡ j = omega arith in
+      let e = all-at isBlank (drop (s .n) (s .tasks)) (j - s .n) noTask (omega (arith, length-drop (s .n) (s .tasks))) (k .rest) in
+      rw q at (sym (ap isBlank (getD-drop (s .n) (s .tasks) (j - s .n) noTask)) ∙ e)
+
+  pub blanks-fail : {roots : List ℕ} {i : ℕ} (b : Before tb s roots i) → s .n ≤ i → i + 4 ≤ mostTasks → blanks s i ≡ false → soundStored tb s ≡ false
+  blanks-fail {roots} {i} b h l e =
+      refuted _ (session-fits tb s) (λ k.
+      let at = blank-at (b .sized) k in
+      contradiction
+      (rw (at i h (omega arith), at (i + 1) (omega arith) (omega arith), at (i + 2) (omega arith) (omega arith), at (i + 3) (omega arith) (omega arith)))
+      e)
 
   -- ---- after the last place
 
-  module _ (h : mostTasks ≤ i) where
-    pub each-sound : all (storedTaskSound tb) (take (s .n) (s .tasks)) ≡ true
-    each-sound = b .each ∙ all-take-end (storedTaskSound tb) (s .tasks) (s .n) (omega arith) i (omega arith)
+  module _ {roots : List ℕ} (b : Before tb s roots 16) where
+    root-read : (j : ℕ) → j < mostTasks → isRoot (getD roots j 0) ≡ placeSound tb (ltb j (s .n)) (task s j)
+    root-read j h = ap isRoot (b .read j h) ∙ read-root tb (b .good) (task s j) (fits-at b j h) (ltb j (s .n))
 
-    pub rest-blank : all isBlank (drop (s .n) (s .tasks)) ≡ true
-    rest-blank = b .rest ∙ all-end isBlank (s .tasks) (max (s .n) i) (omega arith)
+    pub roots-fail : all isRoot roots ≡ false → soundStored tb s ≡ false
+    roots-fail e =
+        refuted _ (session-fits tb s) (λ k. contradiction (all-from isRoot 0 roots (λ j h. go k j (omega (arith, b .long)) (ltb j (s .n)) refl)) e)
+      where
+        go : SessionFits tb s → (j : ℕ) → j < mostTasks → (u : Bool) → ltb j (s .n) ≡ u → isRoot (getD roots j 0) ≡ true
+        go k j h true u =
+            root-read j h ∙ rw u
+            (all-take-at (storedTaskSound tb) (s .tasks) (s .n) (omega (arith, b .few, b .sized)) j noTask (ltb-true j (s .n) u) (k .each))
+        go k j h false u = root-read j h ∙ rw u (blank-at (b .sized) k j (ltb-false j (s .n) u) h)
 
-    pub roots-read : take (s .n) roots ≡ rootsOf (take (s .n) (s .tasks))
-    roots-read = let m : min i (s .n) ≡ s .n = omega arith in rw m at (b .read)
+    module _ (e : all isRoot roots ≡ true) where
+      place-sound : (j : ℕ) → j < mostTasks → placeSound tb (ltb j (s .n)) (task s j) ≡ true
+      place-sound j h = sym (root-read j h) ∙ all-at isRoot roots j 0 (omega (arith, b .long)) e
 
-    pub read-known : rootsKnown tb (take (s .n) roots) ≡ true
-    read-known = rw roots-read (roots-known tb (take (s .n) (s .tasks)) each-sound)
+      taken : length (take (s .n) (s .tasks)) ≡ s .n
+      taken = length-take-le (s .n) (s .tasks) (omega (arith, b .few, b .sized))
+
+      pub each-sound : all (storedTaskSound tb) (take (s .n) (s .tasks)) ≡ true
+      each-sound =
+          all-from (storedTaskSound tb) noTask (take (s .n) (s .tasks)) (λ j h.
+          let l : j < s .n = omega (arith, taken) in
+          let p = place-sound j (omega (arith, b .few)) in
+          ap (storedTaskSound tb) (getD-take (s .n) (s .tasks) j noTask l) ∙ (rw (lt-ltb j (s .n) l) at p))
+
+      pub rest-blank : all isBlank (drop (s .n) (s .tasks)) ≡ true
+      rest-blank =
+          all-from isBlank noTask (drop (s .n) (s .tasks)) (λ j h.
+          let p = place-sound (s .n + j) (omega (arith, length-drop (s .n) (s .tasks), b .sized)) in
+          ap isBlank (getD-drop (s .n) (s .tasks) j noTask) ∙ (rw (le-ltb (s .n + j) (s .n) (omega arith)) at p))
+
+      pub roots-read : take (s .n) roots ≡ rootsOf (take (s .n) (s .tasks))
+      roots-read =
+          let n = length-take-le (s .n) roots (omega (arith, b .few, b .long)) in
+          ext-getD 0 (take (s .n) roots) (rootsOf (take (s .n) (s .tasks))) (n ∙ sym (length-map (take (s .n) (s .tasks)) root ∙ taken)) (λ j h.
+          let l : j < s .n = omega arith in
+          let m : j < mostTasks = omega (arith, b .few) in
+          getD-take (s .n) roots j 0 l ∙ b .read j m
+          ∙ sound-root tb (b .good) (task s j) (fits-at b j m) (ltb j (s .n)) (place-sound j m)
+          ∙ sym (List·getD-map root (take (s .n) (s .tasks)) j noTask ∙ ap root (getD-take (s .n) (s .tasks) j noTask l)))
+
+      pub read-known : rootsKnown tb (take (s .n) roots) ≡ true
+      read-known = rw roots-read (roots-known tb (take (s .n) (s .tasks)) each-sound)

@@ -40,7 +40,7 @@ total-split (suc h) [] = refl
 total-split (suc h) (x ∷ xs) = let e = total-split h xs in omega arith
 
 -- a sum is 0 where each number is
-total-zero : (l : List ℕ) → eqb 0 (total l) ≡ all (eqb 0) l
+pub total-zero : (l : List ℕ) → eqb 0 (total l) ≡ all (eqb 0) l
 total-zero [] = refl
 total-zero (x ∷ xs) = sum-zero x (total xs) ∙ ap (λ (b : Bool). eqb 0 x && b) (total-zero xs)
 

@@ -19,6 +19,18 @@ total (x ∷ xs) = x + total xs
 abbrev pub noSum : ℕ
 noSum = 0x10000
 
+-- above the number of every screen
+abbrev pub noRoot : ℕ
+noRoot = 255
+
+-- no place that is not sound
+unfoldable pub isRoot : ℕ → Bool
+isRoot x = not (eqb x noRoot)
+
+-- the root, where the two sums are one
+abbrev pub rootOr : ℕ → ℕ → ℕ → ℕ
+rootOr sum all root = if eqb sum all then root else noRoot
+
 -- another root than b
 unfoldable pub otherRoot : ℕ → ℕ → Bool
 otherRoot b x = not (eqb b x)
@@ -43,6 +55,14 @@ module _ (tb : List ℕ) where
   -- the task is sound, and 0 stands beyond its height
   unfoldable pub storedTaskSound : Task → Bool
   storedTaskSound t = blankAbove t && taskSound tb (viewTask t)
+
+  -- what the screens of a place add up to where it is sound, or a number that no sum is: a task stands there, or none
+  unfoldable pub expectedSum : Bool → Task → ℕ
+  expectedSum used t = if used then usedSum t else (if eqb (t .root) 0 && eqb (t .height) 0 then 0 else noSum)
+
+  -- the root at a place, where that is sound
+  unfoldable pub placeRoot : Bool → Task → ℕ
+  placeRoot used t = rootOr (expectedSum used t) (total (t .screens)) (t .root)
 
   -- each root is below N
   unfoldable pub rootsKnown : List ℕ → Bool

@@ -1,163 +1,262 @@
--- A loop over all places, then the tests of the roots. Each test is a part of what the definition comes to: a failed one
--- refutes it, and the last one decides.
-use Prim.Native.Nat.{ℕ, _-_}
+-- The places are tested four by four, then the roots read there. Each test is a part of what the definition comes to: a
+-- failed one refutes it, and the last one decides.
 use mathlib.Core.Path.{_≡_, sym, _∙_}
 use mathlib.Core.Logic.{⊎-elim}
 use native.Mathlib.Omega.{arith}
-use lib.ListN.{length, length-replicate}
+use lib.ListN.{length}
 use borrow.Author.Needs.{needs}
 use Rattle.model.proofs.Logic.{refuted, same-test, contradiction}
 use Rattle.model.proofs.Walks.{said-yes, said-no}
 use Rattle.session.proofs.Known.{long}
 use Rattle.soundness.proofs.Bytes.{sums-fit}
 use Rattle.soundness.proofs.Fits.{session-fits}
-use Rattle.soundness.proofs.Places.{Before, before-first, task-fails, after-task, blank-fails, after-blank, each-sound, rest-blank, roots-read, read-known}
+use Rattle.soundness.proofs.Places.{Before, before-first, after-four, after-blanks, blanks-fail, roots-fail, each-sound, rest-blank, roots-read, read-known}
 use Rattle.soundness.proofs.sound.Statement.{statement}
 use Rattle.soundness.proofs.sound.Tie as tie
 
-abbrev Inv-loop : tie.InvT-loop
-Inv-loop table s n roots₀ i₀ roots i = Before table s roots i
+-- what is known after the first four places, and after each four more
 
-abbrev μ-loop : tie.MeasureT-loop
-μ-loop table s n roots₀ i₀ roots i = 16 - i
-
-cast-n : tie.Need-cast-n Inv-loop μ-loop
-cast-n c = search needs
-
-returns : tie.Need-returns Inv-loop μ-loop
-returns c = let a = c .before .before .args in sym (refuted _ (session-fits (a .table .now) (a .t2)) (λ f. omega arith))
-
-loop-holds : tie.Need-loop-holds Inv-loop μ-loop
-loop-holds c =
-    let start = c .before .before in
+first : (c : tie.After-four-roots)
+    → let a = c .before .before .before .before .before .before .before .before .before .args in Before (a .table .now) (a .s) (c .four-roots .result) 4
+first c =
+    let start = c .before .before .before .before .before .before .before .before .before in
     let a = start .args in
-    let l : length (a .t2 .tasks) ≡ 16 = search (needs, long) in
-    before-first (a .table .now) (a .t2) _ (omega arith) l (sums-fit (a .t2) _ (start .good .1 .0)) (length-replicate {A = ℕ} 16 0)
+    let l : length (a .s .tasks) ≡ 16 = search (needs, long) in
+    after-four (before-first (a .table .now) (a .s) (start .pre) (omega arith) l (sums-fit (a .s) _ (start .good .1 .0))) (omega arith)
+    (c .four-roots .ensures)
 
-mul-used-sum : tie.Need-mul-used-sum Inv-loop μ-loop
-mul-used-sum c = search needs
-
-element-copy-out-used-sum : tie.Need-element-copy-out-used-sum Inv-loop μ-loop
-element-copy-out-used-sum c = search needs
-
-used-sum-requires : tie.Need-used-sum-requires Inv-loop μ-loop
-used-sum-requires c κs = search needs
-
-mul-sum-of : tie.Need-mul-sum-of Inv-loop μ-loop
-mul-sum-of c = search needs
-
-element-copy-out-sum-of : tie.Need-element-copy-out-sum-of Inv-loop μ-loop
-element-copy-out-sum-of c = search needs
-
-sum-of-requires : tie.Need-sum-of-requires Inv-loop μ-loop
-sum-of-requires c κs = search needs
-
-returns-2 : tie.Need-returns-2 Inv-loop μ-loop
-returns-2 c =
-    let o = c .before .before .before .before .before .before .before .loop in
-    let d = c .before in
-    sym (task-fails (o .inv) (omega arith) (λ e. c .if3 .taken (d .before .before .used-sum .ensures ∙ e ∙ sym (d .sum-of .ensures))))
-
-mul-t : tie.Need-mul-t Inv-loop μ-loop
-mul-t c = search needs
-
-element-copy-out-t : tie.Need-element-copy-out-t Inv-loop μ-loop
-element-copy-out-t c = search needs
-
-array-write-roots : tie.Need-array-write-roots Inv-loop μ-loop
-array-write-roots c = search needs
-
-mul-is-blank : tie.Need-mul-is-blank Inv-loop μ-loop
-mul-is-blank c = search needs
-
-element-copy-out-is-blank : tie.Need-element-copy-out-is-blank Inv-loop μ-loop
-element-copy-out-is-blank c = search needs
-
-is-blank-requires : tie.Need-is-blank-requires Inv-loop μ-loop
-is-blank-requires c κs = search needs
-
-returns-3 : tie.Need-returns-3 Inv-loop μ-loop
-returns-3 c =
-    let o = c .before .before .before .before .before .loop in
-    sym (blank-fails (o .inv) (omega arith) (omega arith) (said-no (c .before .is-blank .ensures) (c .if4 .taken)))
-
-add-i : tie.Need-add-i Inv-loop μ-loop
-add-i c = search needs
-
-loop-less : tie.Need-loop-less Inv-loop μ-loop
-loop-less c = search needs
-
-loop-again : tie.Need-loop-again Inv-loop μ-loop
-loop-again c =
-    let o = c .before .before .loop in
+second : (c : tie.Joined2)
+    → let a = c .before .before .before .before .before .before .before .before .before .before .args in Before (a .table .now) (a .s) (c .if2 .roots) 8
+second c =
     ⊎-elim
-    (λ w. rw (w .7) (after-task (o .inv) (omega arith) (sym (w .2 .ensures) ∙ w .5 .left ∙ w .4 .ensures)))
-    (λ w. rw (w .4) (after-blank (o .inv) (omega arith) (omega arith) (said-yes (w .2 .ensures) (w .3 .left))))
+    (λ w. rw (w .6) (after-four (first (c .before)) (omega arith) (w .5 .ensures)))
+    (λ w. rw (w .7) (after-blanks (first (c .before)) (omega arith) (omega arith) (said-yes (w .5 .ensures) (w .6 .left))))
     (c .if2 .came)
 
-roots-differ-requires : tie.Need-roots-differ-requires Inv-loop μ-loop
-roots-differ-requires c κs =
-    let o = c .before .loop in
-    (c .before .before .before .before .pre, (omega arith, read-known (o .inv) (omega arith)))
+third : (c : tie.Joined4)
+    → let a = c .before .before .before .before .before .before .before .before .before .before .before .args in Before (a .table .now) (a .s) (c .if4 .roots) 12
+third c =
+    ⊎-elim
+    (λ w. rw (w .6) (after-four (second (c .before)) (omega arith) (w .5 .ensures)))
+    (λ w. rw (w .7) (after-blanks (second (c .before)) (omega arith) (omega arith) (said-yes (w .5 .ensures) (w .6 .left))))
+    (c .if4 .came)
 
-returns-4 : tie.Need-returns-4 Inv-loop μ-loop
+fourth : (c : tie.Joined6)
+    → let a = c .before .before .before .before .before .before .before .before .before .before .before .before .args in Before (a .table .now) (a .s) (c .if6 .roots) 16
+fourth c =
+    ⊎-elim
+    (λ w. rw (w .6) (after-four (third (c .before)) (omega arith) (w .5 .ensures)))
+    (λ w. rw (w .7) (after-blanks (third (c .before)) (omega arith) (omega arith) (said-yes (w .5 .ensures) (w .6 .left))))
+    (c .if6 .came)
+
+cast-n : tie.Need-cast-n
+cast-n c = search needs
+
+returns : tie.Need-returns
+returns c = let a = c .before .before .before .args in sym (refuted _ (session-fits (a .table .now) (a .s)) (λ f. omega arith))
+
+array-copy-out-four-roots : tie.Need-array-copy-out-four-roots
+array-copy-out-four-roots c = search needs
+
+array-copy-out-four-roots-2 : tie.Need-array-copy-out-four-roots-2
+array-copy-out-four-roots-2 c = search needs
+
+array-copy-out-four-roots-3 : tie.Need-array-copy-out-four-roots-3
+array-copy-out-four-roots-3 c = search needs
+
+array-copy-out-four-roots-4 : tie.Need-array-copy-out-four-roots-4
+array-copy-out-four-roots-4 c = search needs
+
+four-roots-requires : tie.Need-four-roots-requires
+four-roots-requires c κs = search needs
+
+array-copy-out-four-roots-5 : tie.Need-array-copy-out-four-roots-5
+array-copy-out-four-roots-5 c = search needs
+
+array-copy-out-four-roots-6 : tie.Need-array-copy-out-four-roots-6
+array-copy-out-four-roots-6 c = search needs
+
+array-copy-out-four-roots-7 : tie.Need-array-copy-out-four-roots-7
+array-copy-out-four-roots-7 c = search needs
+
+array-copy-out-four-roots-8 : tie.Need-array-copy-out-four-roots-8
+array-copy-out-four-roots-8 c = search needs
+
+four-roots-requires-2 : tie.Need-four-roots-requires-2
+four-roots-requires-2 c κs = search needs
+
+array-copy-out-blank-four : tie.Need-array-copy-out-blank-four
+array-copy-out-blank-four c = search needs
+
+array-copy-out-blank-four-2 : tie.Need-array-copy-out-blank-four-2
+array-copy-out-blank-four-2 c = search needs
+
+array-copy-out-blank-four-3 : tie.Need-array-copy-out-blank-four-3
+array-copy-out-blank-four-3 c = search needs
+
+array-copy-out-blank-four-4 : tie.Need-array-copy-out-blank-four-4
+array-copy-out-blank-four-4 c = search needs
+
+blank-four-requires : tie.Need-blank-four-requires
+blank-four-requires c κs = search needs
+
+returns-2 : tie.Need-returns-2
+returns-2 c =
+    let test = c .before .before .before .before .before .before .before in
+    sym (blanks-fail (first test) (omega arith) (omega arith) (said-no (c .before .blank-four .ensures) (c .if3 .taken)))
+
+array-copy-out-four-roots-9 : tie.Need-array-copy-out-four-roots-9
+array-copy-out-four-roots-9 c = search needs
+
+array-copy-out-four-roots-10 : tie.Need-array-copy-out-four-roots-10
+array-copy-out-four-roots-10 c = search needs
+
+array-copy-out-four-roots-11 : tie.Need-array-copy-out-four-roots-11
+array-copy-out-four-roots-11 c = search needs
+
+array-copy-out-four-roots-12 : tie.Need-array-copy-out-four-roots-12
+array-copy-out-four-roots-12 c = search needs
+
+four-roots-requires-3 : tie.Need-four-roots-requires-3
+four-roots-requires-3 c κs = search needs
+
+array-copy-out-blank-four-5 : tie.Need-array-copy-out-blank-four-5
+array-copy-out-blank-four-5 c = search needs
+
+array-copy-out-blank-four-6 : tie.Need-array-copy-out-blank-four-6
+array-copy-out-blank-four-6 c = search needs
+
+array-copy-out-blank-four-7 : tie.Need-array-copy-out-blank-four-7
+array-copy-out-blank-four-7 c = search needs
+
+array-copy-out-blank-four-8 : tie.Need-array-copy-out-blank-four-8
+array-copy-out-blank-four-8 c = search needs
+
+blank-four-requires-2 : tie.Need-blank-four-requires-2
+blank-four-requires-2 c κs = search needs
+
+returns-3 : tie.Need-returns-3
+returns-3 c =
+    let test = c .before .before .before .before .before .before .before in
+    sym (blanks-fail (second test) (omega arith) (omega arith) (said-no (c .before .blank-four2 .ensures) (c .if5 .taken)))
+
+array-copy-out-four-roots-13 : tie.Need-array-copy-out-four-roots-13
+array-copy-out-four-roots-13 c = search needs
+
+array-copy-out-four-roots-14 : tie.Need-array-copy-out-four-roots-14
+array-copy-out-four-roots-14 c = search needs
+
+array-copy-out-four-roots-15 : tie.Need-array-copy-out-four-roots-15
+array-copy-out-four-roots-15 c = search needs
+
+array-copy-out-four-roots-16 : tie.Need-array-copy-out-four-roots-16
+array-copy-out-four-roots-16 c = search needs
+
+four-roots-requires-4 : tie.Need-four-roots-requires-4
+four-roots-requires-4 c κs = search needs
+
+array-copy-out-blank-four-9 : tie.Need-array-copy-out-blank-four-9
+array-copy-out-blank-four-9 c = search needs
+
+array-copy-out-blank-four-10 : tie.Need-array-copy-out-blank-four-10
+array-copy-out-blank-four-10 c = search needs
+
+array-copy-out-blank-four-11 : tie.Need-array-copy-out-blank-four-11
+array-copy-out-blank-four-11 c = search needs
+
+array-copy-out-blank-four-12 : tie.Need-array-copy-out-blank-four-12
+array-copy-out-blank-four-12 c = search needs
+
+blank-four-requires-3 : tie.Need-blank-four-requires-3
+blank-four-requires-3 c κs = search needs
+
+returns-4 : tie.Need-returns-4
 returns-4 c =
-    let a = c .before .before .before .before .before .before .args in
-    let o = c .before .before .before .loop in
-    let e = rw (roots-read (o .inv) (omega arith)) at (said-no (c .before .roots-differ .ensures) (c .if5 .taken)) in
-    sym (refuted _ (session-fits (a .table .now) (a .t2)) (λ f. contradiction (f .pairs) e))
+    let test = c .before .before .before .before .before .before .before in
+    sym (blanks-fail (third test) (omega arith) (omega arith) (said-no (c .before .blank-four3 .ensures) (c .if7 .taken)))
 
-main-sound-requires : tie.Need-main-sound-requires Inv-loop μ-loop
+all-roots-requires : tie.Need-all-roots-requires
+all-roots-requires c κs = search needs
+
+returns-5 : tie.Need-returns-5
+returns-5 c = sym (roots-fail (fourth (c .before .before)) (said-no (c .before .all-roots .ensures) (c .if8 .taken)))
+
+roots-differ-requires : tie.Need-roots-differ-requires
+roots-differ-requires c κs =
+    let b = fourth (c .before .before) in
+    (b .good, (b .few, read-known b (said-yes (c .before .all-roots .ensures) (c .if8 .left))))
+
+returns-6 : tie.Need-returns-6
+returns-6 c =
+    let b = fourth (c .before .before .before .before) in
+    let y = said-yes (c .before .before .before .all-roots .ensures) (c .before .before .if8 .left) in
+    let e = rw (roots-read b y) at (said-no (c .before .roots-differ .ensures) (c .if9 .taken)) in
+    sym (refuted _ (session-fits _ _) (λ f. contradiction (f .pairs) e))
+
+main-sound-requires : tie.Need-main-sound-requires
 main-sound-requires c κs = search needs
 
-returns-5 : tie.Need-returns-5 Inv-loop μ-loop
-returns-5 c =
-    let a = c .before .before .before .before .before .before .before .args in
-    let o = c .before .before .before .before .loop in
-    let r = roots-read (o .inv) (omega arith) in
-    let p = rw r at (said-yes (c .before .before .roots-differ .ensures) (c .before .if5 .left)) in
+returns-7 : tie.Need-returns-7
+returns-7 c =
+    let b = fourth (c .before .before .before .before .before) in
+    let y = said-yes (c .before .before .before .before .all-roots .ensures) (c .before .before .before .if8 .left) in
+    let r = roots-read b y in
+    let p = rw r at (said-yes (c .before .before .roots-differ .ensures) (c .before .if9 .left)) in
     let m = rw r at (c .main-sound .ensures) in
     same-test
     (record {
-      holds = λ e.
-          record {
-            few = omega arith;
-            each = each-sound (o .inv) (omega arith);
-            rest = rest-blank (o .inv) (omega arith);
-            pairs = p;
-            place = sym m ∙ e;
-          };
+      holds = λ e. record { few = b .few; each = each-sound b y; rest = rest-blank b y; pairs = p; place = sym m ∙ e };
       shows = λ f. m ∙ f .place;
     })
-    (session-fits (a .table .now) (a .t2))
+    (session-fits _ _)
 
 pub sound-spec : {M : Type 1} → statement M
 sound-spec =
     tie.close
     (tie.spec
-    Inv-loop
-    μ-loop
     cast-n
     returns
-    loop-holds
-    mul-used-sum
-    element-copy-out-used-sum
-    used-sum-requires
-    mul-sum-of
-    element-copy-out-sum-of
-    sum-of-requires
+    array-copy-out-four-roots
+    array-copy-out-four-roots-2
+    array-copy-out-four-roots-3
+    array-copy-out-four-roots-4
+    four-roots-requires
+    array-copy-out-four-roots-5
+    array-copy-out-four-roots-6
+    array-copy-out-four-roots-7
+    array-copy-out-four-roots-8
+    four-roots-requires-2
+    array-copy-out-blank-four
+    array-copy-out-blank-four-2
+    array-copy-out-blank-four-3
+    array-copy-out-blank-four-4
+    blank-four-requires
     returns-2
-    mul-t
-    element-copy-out-t
-    array-write-roots
-    mul-is-blank
-    element-copy-out-is-blank
-    is-blank-requires
+    array-copy-out-four-roots-9
+    array-copy-out-four-roots-10
+    array-copy-out-four-roots-11
+    array-copy-out-four-roots-12
+    four-roots-requires-3
+    array-copy-out-blank-four-5
+    array-copy-out-blank-four-6
+    array-copy-out-blank-four-7
+    array-copy-out-blank-four-8
+    blank-four-requires-2
     returns-3
-    add-i
-    loop-less
-    loop-again
-    roots-differ-requires
+    array-copy-out-four-roots-13
+    array-copy-out-four-roots-14
+    array-copy-out-four-roots-15
+    array-copy-out-four-roots-16
+    four-roots-requires-4
+    array-copy-out-blank-four-9
+    array-copy-out-blank-four-10
+    array-copy-out-blank-four-11
+    array-copy-out-blank-four-12
+    blank-four-requires-3
     returns-4
+    all-roots-requires
+    returns-5
+    roots-differ-requires
+    returns-6
     main-sound-requires
-    returns-5)
+    returns-7)
