@@ -4,14 +4,13 @@ ghost use Prim.Native.Nat.{_+_, _≤_, _<_};
 ghost use mathlib.Core.Path.{_≡_};
 ghost use mathlib.Core.Bool.{true};
 ghost use mathlib.Core.List.{[]};
-ghost use lib.Dec.{eqb};
 ghost use Rattle.model.specs.Lists.{further};
 ghost use Rattle.model.specs.Session.{stack};
 ghost use Rattle.model.specs.declared.Change.{Change};
 ghost use Rattle.model.specs.declared.Deed.{Deed};
-ghost use Rattle.model.specs.Deeds.{mainMoved, carryOut};
-ghost use Rattle.session.specs.Stored.{view, hold, holdTask, blankAbove};
-ghost use Rattle.deeds.specs.Carriable.{Placed, Alterable, Changeable, Carriable};
+ghost use Rattle.model.specs.Deeds.{mainMoved};
+ghost use Rattle.session.specs.Stored.{holdTask, blankAbove};
+ghost use Rattle.deeds.specs.Carriable.{Placed, Alterable, Changeable};
 ghost use Rattle.deeds.specs.Fronted.{baseOf, changedTask, shiftOf, changeOf, rootAfter, frontAfter, countAfter, mainAfter};
 ghost use Rattle.deeds.specs.Rows.{shifted, closedUp, lowest, withScreens, withTasks};
 use model::Change;
@@ -226,17 +225,4 @@ pub fn main_after(deed: Deed, place: u8, main: u8) -> u8
         Deed::InFront(_) => main,
         Deed::MoveAnd(_) => main_moved(place, main),
     }
-}
-
-// The session after a deed.
-pub fn carry_out(s: Session, b: u8, deed: Deed, place: u8) -> Session
-    requires { ⌜ Carriable s deed place ⌝ }
-    ensures { λ r. ⌜ r ≡ hold (carryOut (eqb b) b b deed place (view s)) ⌝ }
-{
-    let k = shift_of(deed, place, s.n) as usize;
-    let t = s.tasks[k];
-    let mut out = put_front(s, front_after(t, b, deed), k);
-    out.n = count_after(deed, out.n);
-    out.main = main_after(deed, place, out.main);
-    out
 }

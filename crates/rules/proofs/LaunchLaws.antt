@@ -1,39 +1,29 @@
 -- Launch and Back as the code makes them, and the front screen as the code reads it.
 use Prim.Native.Nat.{ℕ, _≤_, _<_}
 use mathlib.Core.Path.{_≡_, refl, sym, ap}
-use mathlib.Core.List.{List, []}
+use mathlib.Core.List.{List}
 use native.Mathlib.Omega.{arith}
-use lib.Dec.{eqb}
-use lib.ListN.{getD, set}
-use Rattle.model.specs.declared.Deed.{Deed}
+use lib.ListN.{getD, set, replicate}
 use Rattle.model.specs.Lists.{omit}
 use Rattle.model.specs.Table.{mainScreen}
 use Rattle.model.specs.Session.{state, fresh, mostHeight, top, frontScreen}
-use Rattle.model.specs.Deeds.{mainWithout, putNew, carryOut}
+use Rattle.model.specs.Deeds.{mainWithout}
 use Rattle.model.specs.Calls.{launched, backed}
-use Rattle.model.proofs.Keeps.{fresh-sound}
 use Rattle.session.specs.declared.Session.{Session}
 use Rattle.session.specs.declared.Task.{Task}
-use Rattle.session.specs.Stored.{view, viewTask, hold, freshSession, noTask, popped, Ready}
+use Rattle.session.specs.Stored.{view, viewTask, hold, holdTask, pad, freshSession, noTask, popped, Ready}
 use Rattle.session.proofs.Known.{Sized}
-use Rattle.session.proofs.StoredLaws.{view-fresh, fresh-held, view-at, sized-at, stored-height, sound-blank, sound-fits, hold-blank}
+use Rattle.session.proofs.StoredLaws.{view-at, sized-at, stored-height, sound-blank}
 use Rattle.session.proofs.TaskLaws.{view-height}
 use Rattle.deeds.specs.Rows.{withTasks}
-use Rattle.deeds.specs.Carriable.{Carriable}
 use Rattle.closing.proofs.Closed.{back-closable, task-closed, top-closed}
 
-pub fresh-carriable : Carriable freshSession Deed.New 0
-fresh-carriable =
-    record {
-      blank = rw fresh-held at (hold-blank fresh (sound-fits [] fresh (fresh-sound [])));
-      finds = rw view-fresh (omega arith, omega arith);
-    }
-
--- a new task in a fresh session, and m = 1
-pub launch-held : (tb : List ℕ) (b : ℕ) (s : Session) → b ≡ mainScreen tb → s ≡ hold (carryOut (eqb b) b b Deed.New 0 (view freshSession))
-    → record { tasks = s .tasks; n = s .n; main = 1 } ≡ hold (launched tb)
-unfolding hold launched putNew carryOut
-launch-held tb b s e f = rw (f, view-fresh, e)
+-- the main screen alone in the first place of a fresh session, and m = 1
+pub launch-held : (tb : List ℕ) (b : ℕ) (s : Session) → b ≡ mainScreen tb → s ≡ freshSession
+    → record { tasks = set (s .tasks) 0 (record { root = b; height = 1; screens = set (replicate mostHeight 0) 0 b }); n = 1; main = 1 }
+    ≡ hold (launched tb)
+unfolding hold holdTask pad launched
+launch-held tb b s e f = rw (f, e)
 
 -- ---- the front screen
 

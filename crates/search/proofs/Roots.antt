@@ -16,9 +16,9 @@ use Rattle.model.proofs.Logic.{All-at, All-map}
 use Rattle.model.proofs.ListLaws.{find-map, All-to-map, All-of-map}
 use Rattle.session.specs.declared.Task.{Task}
 use Rattle.session.specs.declared.Session.{Session}
-use Rattle.session.specs.Stored.{noTask, viewTask, view, soundStored}
+use Rattle.session.specs.Stored.{noTask, viewTask, view, soundStored, root, rootsOf}
 use Rattle.session.proofs.StoredLaws.{sound-view}
-use Rattle.search.specs.Roots.{root, rootsOf, akin}
+use Rattle.search.specs.Roots.{akin}
 
 take-map : {A B : Type 0} (f : A → B) (n : ℕ) (xs : List A) → take n (map f xs) ≡ map f (take n xs)
 take-map f zero xs = refl

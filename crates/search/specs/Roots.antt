@@ -2,20 +2,12 @@
 use Prim.Native.Nat.{ℕ, _≤_, _<_}
 use mathlib.Core.Path.{_≡_}
 use mathlib.Core.Bool.{Bool, not, _&&_}
-use mathlib.Core.List.{List, map}
+use mathlib.Core.List.{List}
 use lib.Dec.{eqb}
 use lib.ListN.{take}
 use Rattle.model.specs.Lists.{All}
 use Rattle.model.specs.Table.{sizeOf, affinityOf, isSingleInstance, tableRefusal}
 use Rattle.model.specs.Session.{mostTasks}
-use Rattle.session.specs.declared.Task.{Task}
-
-abbrev pub root : Task → ℕ
-root t = t .root
-
--- the root of each task
-abbrev pub rootsOf : List Task → List ℕ
-rootsOf ts = map root ts
 
 -- a task with the root x is found by b's affinity
 unfoldable pub akin : List ℕ → ℕ → ℕ → Bool

@@ -32,6 +32,13 @@ viewTask t = stack (t .root) (reverse (take (t .height) (t .screens)))
 unfoldable pub view : Session → State ℕ
 view c = state (map viewTask (take (c .n) (c .tasks))) (c .main)
 
+-- the root of each task
+abbrev pub root : Task → ℕ
+root t = t .root
+
+abbrev pub rootsOf : List Task → List ℕ
+rootsOf ts = map root ts
+
 -- ---- how it is stored
 
 -- filled up to n with z

@@ -17,18 +17,11 @@ use Rattle.model.proofs.Sound.{TaskSound, Plain, task-decides}
 use Rattle.model.proofs.Walks.{all-reverse, all-map, all-both, all-cong, all-true, pairwise-map}
 use Rattle.session.specs.declared.Task.{Task}
 use Rattle.session.specs.declared.Session.{Session}
-use Rattle.session.specs.Stored.{noTask, viewTask, view, blankAbove, isBlank, storageBlank, soundStored}
+use Rattle.session.specs.Stored.{noTask, viewTask, view, root, rootsOf, blankAbove, isBlank, storageBlank, soundStored}
 use Rattle.session.proofs.Known.{Screens32}
 use Rattle.session.proofs.TaskLaws.{view-height}
 use Rattle.soundness.specs.Tests.{total, noSum, otherRoot, plainScreen, usedSound, usedSum, storedTaskSound, rootsKnown, mayBeRoots, mainRootSound}
 use Rattle.soundness.proofs.Sums.{total-zero, used-sum-decides}
-
--- the roots of stored tasks
-abbrev pub root : Task → ℕ
-root t = t .root
-
-abbrev pub rootsOf : List Task → List ℕ
-rootsOf ts = map root ts
 
 -- ---- a task
 

@@ -2,13 +2,13 @@
 -- not sound; where four places hold no task, they are blank and their roots stay 0.
 use Prim.Native.Nat.{ℕ, zero, suc, _+_, _-_, _≤_, _<_, zero-le, suc-le-suc}
 use mathlib.Core.Path.{_≡_, refl, sym, _∙_, ap, subst}
-use mathlib.Core.Bool.{Bool, true, false, not, _&&_}
+use mathlib.Core.Bool.{Bool, true, false, not}
 use mathlib.Core.List.{List, [], _∷_}
 use native.Mathlib.Omega.{arith}
-use lib.Dec.{ltb, eqb}
+use lib.Dec.{ltb}
 use lib.ListN.{length, getD, set, take, drop, replicate, length-set, length-drop, length-map, length-replicate, List·getD-map}
 use lib.Seq.{getD-set-same, getD-set-other, getD-take, getD-drop, length-take-le, ext-getD}
-use borrow.Author.Tests.{ltb-true, ltb-false, lt-ltb, le-ltb, eqb-true, eqb-false, ne-eqb}
+use borrow.Author.Tests.{ltb-true, ltb-false, lt-ltb, le-ltb, ne-eqb}
 use Rattle.model.specs.Lists.{all, All, if_then_else_}
 use Rattle.model.specs.Table.{tableRefusal}
 use Rattle.model.specs.Session.{mostTasks}
@@ -17,10 +17,10 @@ use Rattle.model.proofs.Tables.{good-shaped}
 use Rattle.model.proofs.Walks.{all-at, all-take-at}
 use Rattle.session.specs.declared.Task.{Task}
 use Rattle.session.specs.declared.Session.{Session}
-use Rattle.session.specs.Stored.{noTask, isBlank, soundStored}
-use Rattle.soundness.specs.Tests.{total, noRoot, isRoot, expectedSum, placeRoot, storedTaskSound, rootsKnown}
+use Rattle.session.specs.Stored.{noTask, root, rootsOf, isBlank, soundStored}
+use Rattle.soundness.specs.Tests.{noRoot, isRoot, expectedSum, placeRoot, storedTaskSound, rootsKnown}
 use Rattle.soundness.proofs.Bytes.{SumFits}
-use Rattle.soundness.proofs.Fits.{root, rootsOf, SessionFits, used-stored, blank-stored, blank-root-0, root-known, roots-known, session-fits}
+use Rattle.soundness.proofs.Fits.{SessionFits, used-stored, blank-stored, blank-root-0, root-known, roots-known, session-fits}
 
 -- ---- one place
 

@@ -6,7 +6,7 @@ use borrow.Author.Needs.{needs}
 use lib.ListN.{length, take, length-map, length-replicate, length-set}
 use lib.Seq.{take-all}
 use Rattle.session.proofs.Known.{long}
-use Rattle.search.specs.Roots.{root, rootsOf}
+use Rattle.session.specs.Stored.{root, rootsOf}
 use Rattle.search.proofs.Roots.{next-root}
 use Rattle.search.proofs.roots_of.Statement.{statement}
 use Rattle.search.proofs.roots_of.Tie as tie

@@ -1,5 +1,4 @@
 -- `soundness::four_roots` meets its contract, place by place.
-use mathlib.Core.Path.{_≡_, refl, sym, _∙_}
 use borrow.Author.Needs.{needs}
 use Rattle.soundness.specs.Tests.{placeRoot}
 use Rattle.soundness.proofs.four_roots.Statement.{statement}

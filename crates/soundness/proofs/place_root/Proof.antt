@@ -1,5 +1,5 @@
 -- `soundness::place_root` meets its contract, by its one test.
-use mathlib.Core.Path.{_≡_, refl, sym, _∙_}
+use mathlib.Core.Path.{sym, _∙_}
 use borrow.Author.Tests.{eq-eqb, ne-eqb}
 use borrow.Author.Needs.{needs}
 use Rattle.soundness.proofs.place_root.Statement.{statement}
