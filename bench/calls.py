@@ -3,10 +3,13 @@
 
 Usage: bench/calls.py [COUNT]     (calls counted by callgrind for each line; 640 if left out)
 
-Both are built first (for release). Prints nanoseconds a call (second/lent's calls_bench), then instructions a call by
-valgrind's callgrind.
+Both are built first (for release). Prints nanoseconds a call (second/lent's calls_bench, run several times, since where a
+process has its stack moves a call by some nanoseconds: of each run the best turn, of the runs the middle one, with the
+least and the most), then instructions a call by valgrind's callgrind.
 """
 import os
+import re
+import statistics
 import subprocess
 import sys
 import tempfile
@@ -15,6 +18,9 @@ ROOT = os.path.dirname(os.path.dirname(os.path.abspath(__file__)))
 BENCH = "target/second/release/calls_bench"
 CALLS = ["start", "finishing start", "Back", "look", "save", "restore"]
 SIZES = ["small", "typical", "full"]
+RUNS = 9
+LINE = re.compile(r"(.{15}) (\S+) +(\d+) +\(\d+\) +(\d+) +\(\d+\)")
+COPY = re.compile(r"copying a session of 546 bytes: (\S+)")
 
 
 def build():
@@ -22,6 +28,21 @@ def build():
     env = dict(os.environ, CARGO_TARGET_DIR=os.path.join(ROOT, "target/second"), LENT=os.path.join(ROOT, "target/staticlib"))
     subprocess.run(["cargo", "build", "--release", "--offline", "--quiet", "--manifest-path", "second/lent/Cargo.toml"],
                    check=True, env=env)
+
+
+def nanoseconds():
+    """The best turns of all runs: of each call and size the library's and the second navigator's; of a session's copy."""
+    best, copies = {(call, size): ([], []) for call in CALLS for size in SIZES}, []
+    for _ in range(RUNS):
+        told = subprocess.run([BENCH], check=True, stdout=subprocess.PIPE, text=True).stdout
+        for line in told.splitlines():
+            row = LINE.match(line)
+            if row:
+                lent, second = best[row[1].strip(), row[2]]
+                lent.append(int(row[3]))
+                second.append(int(row[4]))
+        copies.append(float(COPY.search(told)[1]))
+    return best, copies
 
 
 def instructions(who, call, size, count):
@@ -38,7 +59,14 @@ def main():
     os.chdir(ROOT)
     count = int(sys.argv[1]) if len(sys.argv) > 1 else 640
     build()
-    subprocess.run([BENCH], check=True)
+    print(f"nanoseconds a call, the middle of {RUNS} runs (least to most)")
+    print("call            size                 lent           second  ratio")
+    best, copies = nanoseconds()
+    for (call, size), times in best.items():
+        lent, second = (f"{statistics.median(t):.0f} ({min(t)} to {max(t)})" for t in times)
+        ratio = statistics.median(times[0]) / statistics.median(times[1])
+        print(f"{call:<15} {size:<8} {lent:>16} {second:>16} {ratio:>6.2f}", flush=True)
+    print(f"copying a session of 546 bytes: {statistics.median(copies):.1f}")
     print(f"instructions a call, of {count} calls")
     print("call            size         lent   second  ratio")
     for call in CALLS:
