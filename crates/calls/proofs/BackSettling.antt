@@ -10,7 +10,7 @@ use Rattle.model.specs.Calls.{back, backed, done}
 use Rattle.session.specs.declared.Session.{Session}
 use Rattle.session.specs.Stored.{view, hold, Ready}
 use Rattle.session.proofs.Known.{Sized}
-use Rattle.calls.proofs.Settling.{settle-refused, settle-accepted, Left, own-refused, own-accepted, own-seen, empty-view, filled-view, back-own, back-21}
+use Rattle.calls.proofs.Settling.{Left, own-refused, left-refused, left-made, empty-view, filled-view, back-own, back-21}
 
 -- ---- Back's own check where n tasks stand
 
@@ -32,21 +32,14 @@ module _ (n k : ℕ) (e : k ≡ (if eqb n 0 then 21 else 0)) where
 -- ---- Back with the number k
 
 module _ (tb : List ℕ) (c : Session) (z : Sized c) (h : Ready tb c) (k : ℕ) (e : k ≡ (if eqb (c .n) 0 then 21 else 0)) where
-  pub left-refused : (k ≡ 0 → ⊥) → Left tb c back k c
-  left-refused refused =
+  pub back-left : (k ≡ 0 → ⊥) → Left tb c back k c
+  back-left refused =
       let n = back-none (c .n) k e refused in
       let f : k ≡ 21 = e ∙ rw n in
-      record {
-        settles = settle-refused c k refused ∙ sym (own-refused tb c back h k (back-21 tb c (empty-view tb c n) ∙ sym f) refused);
-        seen = λ accepted. absurd (refused accepted);
-      }
+      left-refused tb c back k (own-refused tb c back h k (back-21 tb c (empty-view tb c n) ∙ sym f) refused) refused
 
-  pub left-made : k ≡ 0 → {d : Session} → d ≡ hold (backed (view c)) → Left tb c back k d
+  pub back-made : k ≡ 0 → {d : Session} → d ≡ hold (backed (view c)) → Left tb c back k d
   unfolding done
-  left-made accepted {d} m =
+  back-made accepted m =
       let some = back-some (c .n) k e accepted in
-      let own = back-own tb c (filled-view tb c z h (λ none. omega arith)) in
-      record {
-        settles = settle-accepted d k accepted ∙ rw m (sym (own-accepted tb c back h own));
-        seen = λ q. rw m (own-seen tb c back h own);
-      }
+      left-made tb c back h (back-own tb c (filled-view tb c z h (λ none. omega arith))) accepted m

@@ -126,6 +126,20 @@ module _ (tb : List ℕ) (c : Session) where
     pub own-seen : Ready tb c → refusal (ownChecks tb (view c) k) ≡ 0 → Seen (hold (done tb (view c) k))
     own-seen h e = sound-seen tb (done tb (view c) k) (done-sound tb (h .good) (view c) (sound-view tb c (h .sound)) k e)
 
+    -- ---- what a call left
+
+    -- refused, the session as it was
+    pub left-refused : (n : ℕ) → callStored tb c k ≡ reply c (refused n) → (n ≡ 0 → ⊥) → Left tb c k n c
+    left-refused n e z = record { settles = settle-refused c n z ∙ sym e; seen = λ q. absurd (z q) }
+
+    -- accepted, the session that it makes
+    pub left-made : Ready tb c → refusal (ownChecks tb (view c) k) ≡ 0 → {n : ℕ} {d : Session} → n ≡ 0 → d ≡ hold (done tb (view c) k) → Left tb c k n d
+    left-made h e {n} {d} z m =
+        record {
+          settles = settle-accepted d n z ∙ rw m (sym (own-accepted h e));
+          seen = λ q. rw m (own-seen h e);
+        }
+
   -- ---- look
 
   pub look-settled : Sized c → Ready tb c → callStored tb c look ≡ reply c (lookAt (view c))

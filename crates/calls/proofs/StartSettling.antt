@@ -19,7 +19,7 @@ use Rattle.choice.specs.Startable.{Startable}
 use Rattle.rules.specs.Starts.{Started, startEntry, settleRoom, roomRefusal, startStored, finishStored, madeStored}
 use Rattle.rules.proofs.Entries.{start-entered, start-numbers, start-split}
 use Rattle.calls.specs.StoredCalls.{reply, settleStored, settled, startCall}
-use Rattle.calls.proofs.Settling.{Left, call-settled, own-refused, own-seen}
+use Rattle.calls.proofs.Settling.{Left, call-settled, own-refused, own-seen, left-refused}
 
 module _ (tb : List ℕ) (c : Session) (z : Sized c) (h : Ready tb c) (b w : ℕ) (finishing : Bool) where
   abbrev roomOf : ℕ
@@ -53,10 +53,8 @@ module _ (tb : List ℕ) (c : Session) (z : Sized c) (h : Ready tb c) (b w : ℕ
   pub entry-left : (n : ℕ) → n ≡ refusal (startEntry tb (c .n) b w) → (n ≡ 0 → ⊥) → Left tb c (startCall finishing b w) n c
   entry-left zero e f = absurd (f refl)
   entry-left (suc n) e f =
-      record {
-        settles = sym (own-refused tb c (startCall finishing b w) h (suc n) (own-split ∙ refusal-append-refused n (startEntry tb (c .n) b w) (roomChecks (chosen tb (view c) b w) (view c)) (sym e)) f);
-        seen = λ q. absurd (f q);
-      }
+      left-refused tb c (startCall finishing b w) (suc n)
+      (own-refused tb c (startCall finishing b w) h (suc n) (own-split ∙ refusal-append-refused n (startEntry tb (c .n) b w) (roomChecks (chosen tb (view c) b w) (view c)) (sym e)) f) f
 
   module _ (e : refusal (startEntry tb (c .n) b w) ≡ 0) where
     pub entered-startable : Startable tb c b

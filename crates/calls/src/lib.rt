@@ -1,5 +1,5 @@
-// Each call on a sound session under a good table: its own checks in document 01's order, then the rules, or for a restore
-// what is read.
+// Each call on a sound session under a good table: its own checks in document 01's order, then the rules. A restore is on any
+// session under any table, with the refusal of the checks that all calls share, and leaves what is read.
 
 ghost use mathlib.Core.Path.{_≡_};
 ghost use lib.Dec.{eqb};
@@ -8,10 +8,10 @@ ghost use Rattle.model.specs.Answers.{lookAt, refused as refusedAnswer};
 ghost use Rattle.model.specs.Calls.{Call};
 ghost use Rattle.model.specs.Table.{tableRefusal};
 ghost use Rattle.model.specs.Refusals.{refusal as refusalOf};
-ghost use Rattle.session.specs.Stored.{view, Ready};
+ghost use Rattle.session.specs.Stored.{view, soundStored, Ready};
 ghost use Rattle.answer.specs.Seen.{Seen};
 ghost use Rattle.rules.specs.Starts.{startEntry};
-ghost use Rattle.calls.specs.StoredCalls.{reply, startCall, settled, callStored};
+ghost use Rattle.calls.specs.StoredCalls.{reply, sharedRefusal, startCall, settled, callStored};
 ghost use Rattle.calls.specs.StoredSaves.{saved, saveStored};
 use model::Answer;
 use model::Mark;
@@ -201,23 +201,42 @@ pub fn finish_start(table: &[u8], s: Session, b: u8, word: u32) -> Reply
     make_start(table, s, b, word, true)
 }
 
-// Restore: the session read from a whole image.
-pub fn restore(table: &[u8], s: Session, image: &[u8]) -> Reply
-    requires { ⌜ Ready (now table) s ⌝ }
+// The refusal of what was read from an image: 6 where it could not be read, 7 where it is not sound, or 0.
+fn image_refusal(table: &[u8], readable: bool, restored: Session) -> u8
+    requires { ⌜ tableRefusal (now table) ≡ 0 ⌝ }
+    ensures { λ r. ⌜ r ≡ (if readable then (if soundStored (now (table .entry)) restored then 0 else 7) else 6) ⌝ }
+{
+    if !readable {
+        return 6;
+    }
+    if !soundness::sound(table, restored) {
+        return 7;
+    }
+    0
+}
+
+// Restore: the session read from a whole image; shared is the refusal of the shared checks.
+pub fn restore(table: &[u8], s: Session, image: &[u8], shared: u8) -> Reply
+    requires { ⌜ shared ≡ sharedRefusal (now table) s ⌝ }
     ensures { λ r. ⌜ r ≡ callStored (now (table .entry)) s (Call.restore (now (image .entry))) ⌝ }
 {
-    if !image::shaped(image) {
-        return refuse(s, 5);
+    let mut out = s;
+    let mut number = shared;
+    if number == 0 {
+        number = 5;
+        if image::shaped(image) {
+            let read = image::read(image);
+            let restored = read.session;
+            number = image_refusal(table, read.readable, restored);
+            if number == 0 {
+                out = restored;
+            }
+        }
     }
-    let read = image::read(image);
-    if !read.readable {
-        return refuse(s, 6);
+    Reply {
+        session: out,
+        answer: told(number, out),
     }
-    let restored = read.session;
-    if !soundness::sound(table, restored) {
-        return refuse(s, 7);
-    }
-    accept(restored)
 }
 
 // What a save gives: its refusal, or 0 and the length of the image.

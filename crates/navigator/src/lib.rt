@@ -94,10 +94,7 @@ pub fn restore(table: &[u8], s: Session, image: &[u8]) -> Reply
     ensures saves { λ r. ⌜ SavesAgain (now (image .entry)) r ⌝ }
 {
     let number = shared_refusal(table, s);
-    if number != 0 {
-        return calls::refuse(s, number);
-    }
-    calls::restore(table, s, image)
+    calls::restore(table, s, image, number)
 }
 
 // Save writes the session's image at the start of the buffer and leaves the rest; a refused one writes nothing.

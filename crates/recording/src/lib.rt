@@ -38,7 +38,7 @@ fn after_record(table: &[u8], s: Session, kind: u8, b: u8, word: u32, image: &[u
         3 => calls::finish_start(table, s, b, word).session,
         4 => calls::back(table, s).session,
         5 => calls::look(table, s).session,
-        6 => calls::restore(table, s, image).session,
+        6 => calls::restore(table, s, image, 0).session,
         _ => s,
     }
 }

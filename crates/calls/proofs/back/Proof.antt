@@ -16,7 +16,7 @@ use Rattle.closing.proofs.Gaps.{task-taken, closingIn, closes-begin, closes-ste
 use Rattle.rules.proofs.LaunchLaws.{front-low, back-kept, back-gone}
 use Rattle.calls.specs.StoredCalls.{reply}
 use Rattle.calls.proofs.Settling.{settle-told, Left}
-use Rattle.calls.proofs.BackSettling.{back-some, left-refused, left-made}
+use Rattle.calls.proofs.BackSettling.{back-some, back-left, back-made}
 use Rattle.calls.proofs.back.Statement.{statement}
 use Rattle.calls.proofs.back.Tie as tie
 
@@ -134,11 +134,11 @@ left c =
     let z = sizes start in
     let e = c .before .back-refusal .ensures in
     ⊎-elim
-    (λ w. left-made (a .table .now) (a .s) z (start .pre) _ e (w .0 .taken)
+    (λ w. back-made (a .table .now) (a .s) z (start .pre) _ e (w .0 .taken)
     (w .5 ∙ back-kept (a .table .now) (a .s) z (start .pre) (some (record { before = c .before; if1 = w .0 })) (w .3 .taken) (w .4 .ensures)))
     (⊎-elim
-    (λ w. left-made (a .table .now) (a .s) z (start .pre) _ e (w .0 .taken) (w .7 ∙ gone (record { before = record { before = _; loop-test = w .5 }; main-without = w .6 })))
-    (λ w. rw (w .1) (left-refused (a .table .now) (a .s) z (start .pre) _ e (w .0 .left))))
+    (λ w. back-made (a .table .now) (a .s) z (start .pre) _ e (w .0 .taken) (w .7 ∙ gone (record { before = record { before = _; loop-test = w .5 }; main-without = w .6 })))
+    (λ w. rw (w .1) (back-left (a .table .now) (a .s) z (start .pre) _ e (w .0 .left))))
     (c .if1 .came)
 
 told-requires : tie.Need-told-requires Inv-loop μ-loop

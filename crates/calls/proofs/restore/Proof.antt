@@ -1,95 +1,63 @@
--- `calls::restore` meets its contract: refused by 5, 6 or 7, or the session that was read.
-use mathlib.Core.Path.{_≡_, sym, _∙_}
+-- `calls::restore` meets its contract: refused by a shared check or by 5, 6 or 7, or the session that was read.
+use mathlib.Core.Path.{_≡_, sym, _∙_, ap}
+use mathlib.Core.Logic.{⊎-elim}
 use mathlib.Core.Bool.{true}
 use borrow.Author.Needs.{needs}
-use borrow.Author.Tests.{not-true, not-false}
+use Rattle.model.specs.Calls.{restore}
 use Rattle.model.specs.Image.{imageShaped}
-use Rattle.model.proofs.Walks.{said-yes, said-no}
-use Rattle.calls.proofs.RestoreSettling.{restore-5, restore-6, restore-7, restore-seen, restore-accepted}
+use Rattle.session.specs.Stored.{Ready}
+use Rattle.calls.specs.StoredCalls.{reply}
+use Rattle.calls.proofs.Settling.{settle-told, Left, left-refused, shared-ready, call-refused}
+use Rattle.calls.proofs.RestoreSettling.{unshaped-left, read-left, restored-left}
 use Rattle.calls.proofs.restore.Statement.{statement}
 use Rattle.calls.proofs.restore.Tie as tie
 
 shaped-requires : tie.Need-shaped-requires
 shaped-requires c κs = search needs
 
-refuse-requires : tie.Need-refuse-requires
-refuse-requires c κs = search needs
+-- the shared checks passed
+ready : (c : tie.Then1) → let a = c .before .before .before .args in Ready (a .table .now) (a .s)
+ready c =
+    let start = c .before .before .before in
+    shared-ready (start .args .table .now) (start .args .s) (sym (start .pre) ∙ c .if1 .taken)
 
-returns : tie.Need-returns
-returns c =
-    let start = c .before .before .before .before .before in
-    let a = start .args in
-    c .refuse .ensures
-    ∙ sym (restore-5 (a .table .now) (a .s) (a .image .now) (start .pre) (said-no (c .before .before .shaped .ensures) (c .before .if1 .taken)))
-
-shaped : (c : tie.Else1) → imageShaped (c .before .before .before .before .args .image .now) ≡ true
-shaped c = said-yes (c .before .shaped .ensures) (c .if1 .left)
+shaped : (c : tie.Then2) → imageShaped (c .before .before .before .before .before .args .image .now) ≡ true
+shaped c = sym (c .before .shaped .ensures) ∙ c .if2 .taken
 
 read-requires : tie.Need-read-requires
 read-requires c κs = shaped c
 
-refuse-requires-2 : tie.Need-refuse-requires-2
-refuse-requires-2 c κs = search needs
+image-refusal-requires : tie.Need-image-refusal-requires
+image-refusal-requires c κs = ready (c .before .before .before .before) .good
 
-returns-2 : tie.Need-returns-2
-returns-2 c =
-    let start = c .before .before .before .before .before .before .before .before in
+left : (c : tie.Joined1) → let a = c .before .before .before .args in Left (a .table .now) (a .s) (restore (a .image .now)) (c .if1 .number) (c .if1 .out)
+left c =
+    let start = c .before .before .before in
     let a = start .args in
-    let o = c .before .before .before .read in
-    c .refuse2 .ensures
-    ∙ sym (restore-6 (a .table .now) (a .s) (a .image .now) (start .pre) (shaped (c .before .before .before .before)) (o .result) (o .ensures)
-    (not-true _ (c .before .if2 .taken)))
+    let tb = a .table .now in
+    let bytes = a .image .now in
+    ⊎-elim
+    (λ w. rw (w .7, w .8)
+    (restored-left tb (a .s) bytes (ready (record { before = c .before; if1 = w .0 }))
+    (shaped (record { before = record { before = _; shaped = w .1 }; if2 = w .2 })) (w .3 .result) (w .3 .ensures) _ (w .5 .ensures) (w .6 .taken)))
+    (λ v. ⊎-elim
+    (λ w. rw (w .7, w .8)
+    (read-left tb (a .s) bytes (ready (record { before = c .before; if1 = w .0 }))
+    (shaped (record { before = record { before = _; shaped = w .1 }; if2 = w .2 })) (w .3 .result) (w .3 .ensures) _ (w .5 .ensures) (w .6 .left)))
+    (λ v. ⊎-elim
+    (λ w. rw (w .3, w .4) (unshaped-left tb (a .s) bytes (ready (record { before = c .before; if1 = w .0 })) (sym (w .1 .ensures) ∙ w .2 .left)))
+    (λ w. rw (w .1, w .2)
+    (left-refused tb (a .s) (restore bytes) (a .shared) (call-refused tb (a .s) (restore bytes) (a .shared) (sym (start .pre)) (w .0 .left)) (w .0 .left)))
+    v) v)
+    (c .if1 .came)
 
-sound-requires : tie.Need-sound-requires
-sound-requires c κs = search needs
+told-requires : tie.Need-told-requires
+told-requires c κs = left c .seen
 
-refuse-requires-3 : tie.Need-refuse-requires-3
-refuse-requires-3 c κs = search needs
-
-returns-3 : tie.Need-returns-3
-returns-3 c =
-    let start = c .before .before .before .before .before .before .before .before .before .before .before in
-    let a = start .args in
-    let o = c .before .before .before .before .before .before .read in
-    let whole = shaped (c .before .before .before .before .before .before .before) in
-    let readable = not-false _ (c .before .before .before .before .if2 .left) in
-    c .refuse3 .ensures
-    ∙ sym (restore-7 (a .table .now) (a .s) (a .image .now) (start .pre) whole (o .result) (o .ensures) readable
-    (said-no (c .before .before .sound .ensures) (c .before .if3 .taken)))
-
-accept-requires : tie.Need-accept-requires
-accept-requires c κs =
-    let start = c .before .before .before .before .before .before .before .before .before .before in
-    let a = start .args in
-    let o = c .before .before .before .before .before .read in
-    let whole = shaped (c .before .before .before .before .before .before) in
-    let readable = not-false _ (c .before .before .before .if2 .left) in
-    restore-seen (a .table .now) (a .s) (a .image .now) (start .pre) whole (o .result) (o .ensures) readable
-    (said-yes (c .before .sound .ensures) (c .if3 .left))
-
-returns-4 : tie.Need-returns-4
-returns-4 c =
-    let start = c .before .before .before .before .before .before .before .before .before .before .before in
-    let a = start .args in
-    let o = c .before .before .before .before .before .before .read in
-    let whole = shaped (c .before .before .before .before .before .before .before) in
-    let readable = not-false _ (c .before .before .before .before .if2 .left) in
-    c .accept .ensures
-    ∙ sym (restore-accepted (a .table .now) (a .s) (a .image .now) (start .pre) whole (o .result) (o .ensures) readable
-    (said-yes (c .before .before .sound .ensures) (c .before .if3 .left)))
+returns : tie.Need-returns
+returns c =
+    let out = c .before .if1 .out in
+    ap (reply out) (c .told .ensures) ∙ settle-told out (c .before .if1 .number) ∙ left (c .before) .settles
 
 pub restore-spec : {M : Type 1} → statement M
-restore-spec =
-    tie.close
-    (tie.spec
-    shaped-requires
-    refuse-requires
-    returns
-    read-requires
-    refuse-requires-2
-    returns-2
-    sound-requires
-    refuse-requires-3
-    returns-3
-    accept-requires
-    returns-4)
+restore-spec = tie.close (tie.spec shaped-requires read-requires image-refusal-requires told-requires returns)

@@ -1,10 +1,11 @@
 -- The call of a record, by its kind.
 use borrow.Author.Needs.{needs}
-use mathlib.Core.Path.{ap}
+use mathlib.Core.Path.{sym, ap}
 use borrow.Author.Tests.{ne-eqb}
 use Rattle.model.specs.Player.{requestOf}
 use Rattle.calls.specs.declared.Reply.{Reply}
 use Rattle.calls.specs.StoredHistories.{afterStored}
+use Rattle.calls.proofs.Settling.{shared-passed}
 use Rattle.recording.specs.CallBytes.{callOf}
 use Rattle.recording.proofs.after_record.Statement.{statement}
 use Rattle.recording.proofs.after_record.Tie as tie
@@ -25,7 +26,10 @@ look-requires : tie.Need-look-requires
 look-requires c κs = search needs
 
 restore-requires : tie.Need-restore-requires
-restore-requires c κs = search needs
+restore-requires c κs =
+    let start = c .before .before .before in
+    let a = start .args in
+    sym (shared-passed (a .table .now) (a .s) (start .pre .good) (start .pre .sound))
 
 returns : tie.Need-returns
 unfolding afterStored callOf requestOf
