@@ -1,5 +1,6 @@
 #!/usr/bin/env python3
-"""Measures the calls of the proved static library and those of the second navigator, in one run.
+"""Measures the calls of the proved static library and those of the second navigator, in one run; beside them the same in
+plain Rust by value, with the library's storage.
 
 Usage: bench/calls.py [COUNT]     (calls counted by callgrind for each line; 640 if left out)
 
@@ -19,7 +20,7 @@ BENCH = "target/second/release/calls_bench"
 CALLS = ["start", "finishing start", "Back", "look", "save", "restore"]
 SIZES = ["small", "typical", "full"]
 RUNS = 9
-LINE = re.compile(r"(.{15}) (\S+) +(\d+) +\(\d+\) +(\d+) +\(\d+\)")
+LINE = re.compile(r"(.{15}) (\S+) +(\d+) +\(\d+\) +(\d+) +\(\d+\) +\S+(?: +(\d+))?")
 COPY = re.compile(r"copying a session of 546 bytes: (\S+)")
 
 
@@ -31,16 +32,17 @@ def build():
 
 
 def nanoseconds():
-    """The best turns of all runs: of each call and size the library's and the second navigator's; of a session's copy."""
-    best, copies = {(call, size): ([], []) for call in CALLS for size in SIZES}, []
+    """The best turns of all runs: of each call and size the library's, the second navigator's and, where it is there, plain
+    Rust's by value; of a session's copy."""
+    best, copies = {(call, size): ([], [], []) for call in CALLS for size in SIZES}, []
     for _ in range(RUNS):
         told = subprocess.run([BENCH], check=True, stdout=subprocess.PIPE, text=True).stdout
         for line in told.splitlines():
             row = LINE.match(line)
             if row:
-                lent, second = best[row[1].strip(), row[2]]
-                lent.append(int(row[3]))
-                second.append(int(row[4]))
+                for times, time in zip(best[row[1].strip(), row[2]], row.groups()[2:]):
+                    if time:
+                        times.append(int(time))
         copies.append(float(COPY.search(told)[1]))
     return best, copies
 
@@ -60,12 +62,12 @@ def main():
     count = int(sys.argv[1]) if len(sys.argv) > 1 else 640
     build()
     print(f"nanoseconds a call, the middle of {RUNS} runs (least to most)")
-    print("call            size                 lent           second  ratio")
+    print("call            size                 lent           second  ratio         by value")
     best, copies = nanoseconds()
     for (call, size), times in best.items():
-        lent, second = (f"{statistics.median(t):.0f} ({min(t)} to {max(t)})" for t in times)
+        told = [f"{statistics.median(t):.0f} ({min(t)} to {max(t)})" if t else "" for t in times]
         ratio = statistics.median(times[0]) / statistics.median(times[1])
-        print(f"{call:<15} {size:<8} {lent:>16} {second:>16} {ratio:>6.2f}", flush=True)
+        print(f"{call:<15} {size:<8} {told[0]:>16} {told[1]:>16} {ratio:>6.2f} {told[2]:>16}".rstrip(), flush=True)
     print(f"copying a session of 546 bytes: {statistics.median(copies):.1f}")
     print(f"instructions a call, of {count} calls")
     print("call            size         lent   second  ratio")

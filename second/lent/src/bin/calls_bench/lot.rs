@@ -10,6 +10,7 @@ use lent_calls::call::{by_library, on_session, Call, Kind};
 use lent_calls::sessions::{held, T};
 use lent_calls::stored::Stored;
 
+use crate::by_value;
 use crate::sizes::Size;
 
 /// The calls that are measured. Launch is left out: it has but one session.
@@ -64,6 +65,23 @@ impl Lot {
         }
     }
 
+    /// That plain Rust by value gives what the library gives, call by call.
+    pub fn check_by_value(&self) {
+        let mut buffer = [0; BUFFER];
+        for place in 0..CALLS {
+            let (mut ours, mut theirs) = (held(&self.session), held(&self.session));
+            let reply = by_library(self.call(place), &T, &mut ours, &mut buffer);
+            let answer = made_by_value(self.call(place), &mut theirs);
+            let same = reply.answer == answer && ours.bytes() == theirs.bytes();
+            assert!(same, "by value: {} differs", self.call(place));
+        }
+    }
+
+    /// Whether the call is there in plain Rust by value.
+    pub fn is_by_value(&self) -> bool {
+        !matches!(self.kind, Kind::Save | Kind::Restore)
+    }
+
     /// The sessions of the library's calls.
     pub fn for_library(&self) -> Vec<Stored> {
         vec![held(&self.session); CALLS]
@@ -107,6 +125,24 @@ pub fn measured_second(lot: &Lot, sessions: &mut [Session]) {
         black_box(on_session(lot.call(place), &T, session, &mut buffer));
     }
     black_box(buffer);
+}
+
+fn made_by_value(call: Call, session: &mut Stored) -> [u8; 6] {
+    match call {
+        Call::Start { screen, flags } => by_value::start(&T, session, screen, flags),
+        Call::FinishingStart { screen, flags } => {
+            by_value::finishing_start(&T, session, screen, flags)
+        }
+        Call::Back => by_value::back(&T, session),
+        _ => by_value::look(&T, session),
+    }
+}
+
+#[inline(never)]
+pub fn measured_by_value(lot: &Lot, sessions: &mut [Stored]) {
+    for (place, session) in sessions.iter_mut().enumerate() {
+        black_box(made_by_value(lot.call(place), session));
+    }
 }
 
 #[inline(never)]

@@ -5,12 +5,14 @@
 //!     calls_bench --once lent|second CALL SIZE COUNT
 //!
 //! Each call gets a good table's bytes and a sound session and checks both; what
-//! it is lent is made ready outside of the time. The two take turns. The table
+//! it is lent is made ready outside of the time. The two take turns, and beside
+//! them, but for save and restore, the same in plain Rust by value. The table
 //! printed gives nanoseconds a call, the best turn and the middle one, and the
-//! ratio of the best. With `--once` one of the two makes so many calls of one
+//! ratio of the best of the first two. With `--once` one of the two makes so many calls of one
 //! kind on sessions of one size, for a tool that counts the instructions of the
 //! functions `measured_lent` and `measured_second`.
 
+mod by_value;
 mod lot;
 mod sizes;
 mod turns;

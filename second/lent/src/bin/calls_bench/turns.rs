@@ -2,7 +2,9 @@
 
 use std::time::Instant;
 
-use crate::lot::{self, measured_copy, measured_lent, measured_second, Lot, CALLS};
+use crate::lot::{
+    self, measured_by_value, measured_copy, measured_lent, measured_second, Lot, CALLS,
+};
 use crate::sizes::Size;
 
 /// How many turns each of the two takes.
@@ -33,11 +35,11 @@ impl Times {
 
 pub fn print_table() {
     println!("nanoseconds a call, best (middle) of {TURNS} turns of {CALLS} calls");
-    println!("call            size             lent           second  ratio");
+    println!("call            size             lent           second  ratio         by value");
     for kind in lot::KINDS {
         for size in Size::ALL {
-            let [lent, second] = alternate(&Lot::new(kind, size));
-            println!(
+            let [lent, second, by_value] = alternate(&Lot::new(kind, size));
+            print!(
                 "{:<15} {:<8} {:>7.0} {:>8} {:>7.0} {:>8} {:>6.2}",
                 kind.name(),
                 size.name(),
@@ -47,6 +49,15 @@ pub fn print_table() {
                 format!("({:.0})", second.middle()),
                 lent.best() / second.best()
             );
+            if by_value.0.is_empty() {
+                println!();
+            } else {
+                println!(
+                    " {:>7.0} {:>8}",
+                    by_value.best(),
+                    format!("({:.0})", by_value.middle())
+                );
+            }
         }
     }
     let copy = copies();
@@ -57,15 +68,22 @@ pub fn print_table() {
     );
 }
 
-fn alternate(lot: &Lot) -> [Times; 2] {
-    let (mut lent, mut second) = (Times::default(), Times::default());
+fn alternate(lot: &Lot) -> [Times; 3] {
+    let [mut lent, mut second, mut by_value]: [Times; 3] = Default::default();
+    if lot.is_by_value() {
+        lot.check_by_value();
+    }
     for _ in 0..TURNS {
         let mut sessions = lot.for_library();
         lent.measure(|| measured_lent(lot, &mut sessions));
         let mut sessions = lot.for_second();
         second.measure(|| measured_second(lot, &mut sessions));
+        if lot.is_by_value() {
+            let mut sessions = lot.for_library();
+            by_value.measure(|| measured_by_value(lot, &mut sessions));
+        }
     }
-    [lent, second]
+    [lent, second, by_value]
 }
 
 fn copies() -> Times {

@@ -1,0 +1,336 @@
+//! The calls in plain Rust with sessions by value, stored as the static library
+//! stores them: what by value costs where nothing is proved. Each outer function
+//! takes the session by `&mut`, calls the core by value and stores its result,
+//! as the library's do. Only here to be measured; `lot` holds it against the
+//! library first.
+
+use lent_calls::stored::{Stored, StoredTask};
+use second::session::{MAX_HEIGHT, MAX_TASKS};
+use second::table::{
+    ALL_FLAGS, CLEAR_TASK, CLEAR_TOP, MAX_SCREENS, MULTIPLE_TASK, NEW_TASK, REORDER_TO_FRONT,
+    SINGLE_TOP,
+};
+
+type Answer = [u8; 6];
+
+struct Reply {
+    session: Stored,
+    answer: Answer,
+}
+
+#[inline(never)]
+pub fn look(table: &[u8], session: &mut Stored) -> Answer {
+    let reply = looked(table, *session);
+    *session = reply.session;
+    reply.answer
+}
+
+#[inline(never)]
+pub fn back(table: &[u8], session: &mut Stored) -> Answer {
+    let reply = backed(table, *session);
+    *session = reply.session;
+    reply.answer
+}
+
+#[inline(never)]
+pub fn start(table: &[u8], session: &mut Stored, b: u8, flags: u32) -> Answer {
+    let reply = started(table, *session, b, flags, false);
+    *session = reply.session;
+    reply.answer
+}
+
+#[inline(never)]
+pub fn finishing_start(table: &[u8], session: &mut Stored, b: u8, flags: u32) -> Answer {
+    let reply = started(table, *session, b, flags, true);
+    *session = reply.session;
+    reply.answer
+}
+
+fn looked(table: &[u8], session: Stored) -> Reply {
+    let number = shared_refusal(table, &session);
+    told(number, session)
+}
+
+fn backed(table: &[u8], mut session: Stored) -> Reply {
+    let mut number = shared_refusal(table, &session);
+    if number == 0 && session.n == 0 {
+        number = 21;
+    }
+    if number == 0 {
+        close(&mut session, 0, 0);
+    }
+    told(number, session)
+}
+
+fn started(table: &[u8], mut session: Stored, b: u8, flags: u32, finishing: bool) -> Reply {
+    let number = match plan(table, &session, b, flags) {
+        Err(number) => number,
+        Ok(plan) => {
+            let front = top(&session.tasks[0]);
+            carry_out(&mut session, b, plan);
+            if finishing {
+                close_mark(&mut session, plan, front == b);
+            }
+            0
+        }
+    };
+    told(number, session)
+}
+
+fn told(number: u8, session: Stored) -> Reply {
+    let front = &session.tasks[0];
+    let answer = match (number, session.n) {
+        (0, 0) => [0, 0, 0, 0, 0, session.main],
+        (0, n) => [0, top(front), front.root, front.height, n, session.main],
+        _ => [number, 0, 0, 0, 0, 0],
+    };
+    Reply { session, answer }
+}
+
+// ---- the shared checks
+
+fn mode(table: &[u8], screen: u8) -> u8 {
+    table[2 + 2 * usize::from(screen)]
+}
+
+fn affinity(table: &[u8], screen: u8) -> u8 {
+    table[3 + 2 * usize::from(screen)]
+}
+
+fn shared_refusal(table: &[u8], session: &Stored) -> u8 {
+    if table.len() < 2 || table.len() != 2 + 2 * usize::from(table[0]) {
+        return 1;
+    }
+    if table[0] < 1 || table[0] > MAX_SCREENS {
+        return 1;
+    }
+    if table[1] >= table[0] || (0..table[0]).any(|screen| mode(table, screen) > 3) {
+        return 2;
+    }
+    if is_sound(table, session) {
+        0
+    } else {
+        20
+    }
+}
+
+fn is_sound(table: &[u8], session: &Stored) -> bool {
+    let n = usize::from(session.n);
+    if n > MAX_TASKS {
+        return false;
+    }
+    let (tasks, rest) = session.tasks.split_at(n);
+    let again = |i: usize| tasks[i + 1..].iter().any(|task| task.root == tasks[i].root);
+    tasks.iter().all(|task| is_task_sound(table, task))
+        && rest.iter().all(is_blank)
+        && !(0..n).any(|i| mode(table, tasks[i].root) >= 2 && again(i))
+        && match usize::from(session.main) {
+            0 => true,
+            main => main <= n && tasks[main - 1].root == table[1],
+        }
+}
+
+fn is_task_sound(table: &[u8], task: &StoredTask) -> bool {
+    let height = usize::from(task.height);
+    if task.root >= table[0] || height < 1 || height > MAX_HEIGHT {
+        return false;
+    }
+    let (screens, rest) = task.screens.split_at(height);
+    let known = if mode(table, task.root) == 3 {
+        screens == [task.root]
+    } else {
+        screens.iter().all(|&x| x < table[0] && mode(table, x) != 3)
+    };
+    known && rest.iter().all(|&x| x == 0)
+}
+
+fn is_blank(task: &StoredTask) -> bool {
+    task.root == 0 && task.height == 0 && task.screens.iter().fold(0, |all, &x| all | x) == 0
+}
+
+// ---- a start
+
+#[derive(Clone, Copy, PartialEq)]
+enum Change {
+    Keep,
+    Renew,
+    Clear,
+    Lift,
+    Push,
+}
+
+#[derive(Clone, Copy)]
+enum Plan {
+    New,
+    /// The task at this index comes to the front and changes.
+    Move(usize, Change),
+}
+
+fn top(task: &StoredTask) -> u8 {
+    task.screens[usize::from(task.height) - 1]
+}
+
+fn topmost(task: &StoredTask, b: u8) -> Option<usize> {
+    let screens = &task.screens[..usize::from(task.height)];
+    screens.iter().rposition(|&x| x == b)
+}
+
+fn plan(table: &[u8], session: &Stored, b: u8, flags: u32) -> Result<Plan, u8> {
+    let number = shared_refusal(table, session);
+    if number != 0 {
+        return Err(number);
+    }
+    if b >= table[0] {
+        return Err(3);
+    }
+    if flags & !ALL_FLAGS != 0 {
+        return Err(4);
+    }
+    if session.n == 0 {
+        return Err(21);
+    }
+    let plan = rule(table, session, b, flags);
+    match plan {
+        Plan::New if usize::from(session.n) == MAX_TASKS => Err(23),
+        Plan::Move(i, Change::Push) if usize::from(session.tasks[i].height) == MAX_HEIGHT => {
+            Err(24)
+        }
+        _ => Ok(plan),
+    }
+}
+
+fn rule(table: &[u8], session: &Stored, b: u8, flags: u32) -> Plan {
+    let tasks = &session.tasks[..usize::from(session.n)];
+    let akin = |task: &StoredTask| {
+        mode(table, task.root) != 3 && affinity(table, task.root) == affinity(table, b)
+    };
+    let by_root = || tasks.iter().position(|task| task.root == b);
+    let by_affinity = || tasks.iter().position(akin);
+    let set = |flag: u32| flags & flag != 0;
+    let single = mode(table, b) == 1 || set(SINGLE_TOP);
+    let front = top(&tasks[0]);
+    match mode(table, b) {
+        3 => by_root().map_or(Plan::New, |i| Plan::Move(i, Change::Keep)),
+        2 => match by_root().or_else(by_affinity) {
+            None => Plan::New,
+            Some(i) if set(CLEAR_TASK) => Plan::Move(i, Change::Renew),
+            Some(i) if topmost(&tasks[i], b).is_some() => Plan::Move(i, Change::Clear),
+            Some(i) => Plan::Move(i, Change::Push),
+        },
+        _ if !set(NEW_TASK) && mode(table, front) != 3 => {
+            let stays = front == b && (single || set(REORDER_TO_FRONT) || set(CLEAR_TOP));
+            let held = || topmost(&tasks[0], b).is_some();
+            let change = match () {
+                _ if stays => Change::Keep,
+                _ if set(CLEAR_TOP) && held() => Change::Clear,
+                _ if set(REORDER_TO_FRONT) && held() => Change::Lift,
+                _ => Change::Push,
+            };
+            Plan::Move(0, change)
+        }
+        _ if set(MULTIPLE_TASK) => Plan::New,
+        _ => {
+            let root = by_root();
+            let Some(i) = root.or_else(by_affinity) else {
+                return Plan::New;
+            };
+            let not_main = root.is_some() && i + 1 != usize::from(session.main);
+            let change = match () {
+                _ if set(CLEAR_TASK) => Change::Renew,
+                _ if set(CLEAR_TOP) && topmost(&tasks[i], b).is_some() => Change::Clear,
+                _ if set(CLEAR_TOP) => Change::Push,
+                _ if not_main || (single && top(&tasks[i]) == b) => Change::Keep,
+                _ => Change::Push,
+            };
+            Plan::Move(i, change)
+        }
+    }
+}
+
+fn carry_out(session: &mut Stored, b: u8, plan: Plan) {
+    let n = usize::from(session.n);
+    match plan {
+        Plan::New => {
+            session.tasks.copy_within(..n, 1);
+            session.tasks[0] = renewed(b, b);
+            session.n += 1;
+            session.main += u8::from(session.main != 0);
+        }
+        Plan::Move(i, change) => {
+            let task = session.tasks[i];
+            session.tasks.copy_within(..i, 1);
+            session.tasks[0] = task;
+            session.main = match usize::from(session.main) {
+                main if main == i + 1 => 1,
+                main if main != 0 && main <= i => session.main + 1,
+                _ => session.main,
+            };
+            change_screens(&mut session.tasks[0], b, change);
+        }
+    }
+}
+
+fn renewed(root: u8, b: u8) -> StoredTask {
+    let mut screens = [0; MAX_HEIGHT];
+    screens[0] = b;
+    StoredTask {
+        root,
+        height: 1,
+        screens,
+    }
+}
+
+fn change_screens(task: &mut StoredTask, b: u8, change: Change) {
+    let height = usize::from(task.height);
+    match (change, topmost(task, b)) {
+        (Change::Renew, _) => *task = renewed(task.root, b),
+        (Change::Push, _) => {
+            task.screens[height] = b;
+            task.height += 1;
+        }
+        (Change::Clear, Some(at)) => {
+            task.screens[at + 1..height].fill(0);
+            task.height = at as u8 + 1;
+        }
+        (Change::Lift, Some(at)) => {
+            task.screens.copy_within(at + 1..height, at);
+            task.screens[height - 1] = b;
+        }
+        _ => {}
+    }
+}
+
+// ---- closing
+
+/// The screen that was in front closes where it stands after the plan.
+fn close_mark(session: &mut Stored, plan: Plan, same: bool) {
+    match plan {
+        Plan::Move(0, Change::Keep) => close(session, 0, 0),
+        Plan::Move(0, Change::Clear | Change::Lift) if same => close(session, 0, 0),
+        Plan::Move(0, Change::Lift | Change::Push) => close(session, 0, 1),
+        Plan::Move(0, _) => {}
+        _ => close(session, 1, 0),
+    }
+}
+
+/// The screen below so many others of the task at i goes, and a task left empty.
+fn close(session: &mut Stored, i: usize, below: usize) {
+    let task = &mut session.tasks[i];
+    let height = usize::from(task.height);
+    if height > 1 {
+        let at = height - 1 - below;
+        task.screens.copy_within(at + 1..height, at);
+        task.screens[height - 1] = 0;
+        task.height -= 1;
+        return;
+    }
+    let n = usize::from(session.n);
+    session.tasks.copy_within(i + 1..n, i);
+    session.tasks[n - 1] = Stored::FRESH.tasks[0];
+    session.n -= 1;
+    session.main = match usize::from(session.main) {
+        main if main == i + 1 => 0,
+        main if main > i + 1 => session.main - 1,
+        _ => session.main,
+    };
+}
