@@ -23,7 +23,7 @@ noSum = 0x10000
 abbrev pub noRoot : ℕ
 noRoot = 255
 
--- no place that is not sound
+-- a root, and not that number
 unfoldable pub isRoot : ℕ → Bool
 isRoot x = not (eqb x noRoot)
 
