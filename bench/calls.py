@@ -4,9 +4,8 @@ plain Rust by value, with the library's storage.
 
 Usage: bench/calls.py [COUNT]     (calls counted by callgrind for each line; 640 if left out)
 
-Both are built first (for release). Prints nanoseconds a call (second/lent's calls_bench, run several times, since where a
-process has its stack moves a call by some nanoseconds: of each run the best turn, of the runs the middle one, with the
-least and the most), then instructions a call by valgrind's callgrind.
+Both are built first (for release). Prints nanoseconds a call (second/lent's calls_bench, run several times, since runs
+differ: of each run the best turn, of the runs the middle one, with the least and the most), then instructions a call by valgrind's callgrind.
 """
 import os
 import re
