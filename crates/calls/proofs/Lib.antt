@@ -1,5 +1,6 @@
 pub mod Settling
 pub mod StartSettling
+pub mod StartSteps
 pub mod BackSettling
 pub mod RestoreSettling
 pub mod RestoreLaws

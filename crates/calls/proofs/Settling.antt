@@ -81,21 +81,32 @@ module _ (tb : List ℕ) (c : Session) where
   -- ---- calls
 
   module _ (k : Call) where
+    -- the number of a call that one of the shared checks refuses, and of one that they pass
+    pub number-shared : (n : ℕ) → sharedRefusal tb c ≡ n → (n ≡ 0 → ⊥) → refusalStored tb c k ≡ n
+    unfolding refusalStored sharedRefusal
+    number-shared zero e z = absurd (z refl)
+    number-shared (suc n) e z = refusal-append-refused n (checksIn tb (soundStored tb c) []) (ownChecks tb (view c) k) e
+
+    pub number-own : Ready tb c → refusalStored tb c k ≡ refusal (ownChecks tb (view c) k)
+    unfolding refusalStored
+    number-own h = rw (h .sound) (checks-own tb (ownChecks tb (view c) k) (h .good))
+
     -- refused by one of the shared checks
     pub call-refused : (n : ℕ) → sharedRefusal tb c ≡ n → (n ≡ 0 → ⊥) → callStored tb c k ≡ reply c (refused n)
-    unfolding callStored refusalStored sharedRefusal
+    unfolding callStored
     call-refused zero e z = absurd (z refl)
-    call-refused (suc n) e z =
-        ap (λ (r : ℕ). settleStored r c (done tb (view c) k))
-        (refusal-append-refused n (checksIn tb (soundStored tb c) []) (ownChecks tb (view c) k) e)
+    call-refused (suc n) e z = ap (λ (r : ℕ). settleStored r c (done tb (view c) k)) (number-shared (suc n) e z)
 
     -- only the call's own checks are left
     pub call-settled : Ready tb c → callStored tb c k ≡ settleStored (refusal (ownChecks tb (view c) k)) c (done tb (view c) k)
-    unfolding callStored refusalStored
-    call-settled h =
-        let e : refusal (checksIn tb (soundStored tb c) (ownChecks tb (view c) k)) ≡ refusal (ownChecks tb (view c) k) =
-        rw (h .sound) (checks-own tb (ownChecks tb (view c) k) (h .good)) in
-        ap (λ (r : ℕ). settleStored r c (done tb (view c) k)) e
+    unfolding callStored
+    call-settled h = ap (λ (r : ℕ). settleStored r c (done tb (view c) k)) (number-own h)
+
+    -- refused by any check, with its number
+    pub call-numbered : (n : ℕ) → n ≡ refusalStored tb c k → (n ≡ 0 → ⊥) → callStored tb c k ≡ reply c (refused n)
+    unfolding callStored
+    call-numbered zero e z = absurd (z refl)
+    call-numbered (suc n) e z = rw (sym e)
 
     -- a sound session stays sound
     pub call-keeps : KeepsSound tb c (callStored tb c k .session)

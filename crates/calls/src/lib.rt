@@ -1,22 +1,25 @@
 // Each call on a sound session under a good table: its own checks in document 01's order, then the rules. A restore is on any
 // session under any table, with the refusal of the checks that all calls share, and leaves what is read.
 
+ghost use Prim.Native.Nat.{_≤_, _<_};
 ghost use mathlib.Core.Path.{_≡_};
-ghost use lib.Dec.{eqb};
+ghost use mathlib.Core.Bool.{true, false};
+ghost use lib.Dec.{eqb, ltb};
+ghost use lib.ListN.{getD};
 ghost use Rattle.model.specs.Lists.{if_then_else_};
 ghost use Rattle.model.specs.Answers.{lookAt, refused as refusedAnswer};
 ghost use Rattle.model.specs.Calls.{Call};
 ghost use Rattle.model.specs.Table.{tableRefusal};
 ghost use Rattle.model.specs.Refusals.{refusal as refusalOf};
-ghost use Rattle.session.specs.Stored.{view, soundStored, Ready};
+ghost use Rattle.session.specs.Stored.{view, noTask, soundStored, Ready};
 ghost use Rattle.answer.specs.Seen.{Seen};
 ghost use Rattle.rules.specs.Starts.{startEntry};
+ghost use Rattle.starts.specs.Steps.{aloneOf, nearOf, farOf, Reaches};
 ghost use Rattle.calls.specs.StoredCalls.{reply, sharedRefusal, startCall, settled, callStored};
 ghost use Rattle.calls.specs.StoredSaves.{saved, saveStored};
 use model::Answer;
-use model::Mark;
 use session::Session;
-use session::Task;
+use starts::Plan;
 
 // What a call gives: the session after it, and the answer.
 #[repr(C)]
@@ -77,7 +80,7 @@ fn told(number: u8, s: Session) -> Answer
 }
 
 // Back's own check: 21 where no task stands, or 0.
-fn back_refusal(tasks: u8) -> u8
+pub fn back_refusal(tasks: u8) -> u8
     ensures { λ r. ⌜ r ≡ (if eqb tasks 0 then 21 else 0) ⌝ }
 {
     if tasks == 0 {
@@ -86,43 +89,50 @@ fn back_refusal(tasks: u8) -> u8
     0
 }
 
+// Whether the front task has more than one screen: then Back changes no other task.
+pub fn back_stays(s: Session) -> bool
+    ensures { λ r. ⌜ r ≡ ltb 1 (getD (s .tasks) 0 noTask .height) ⌝ }
+{
+    let front = s.tasks[0];
+    front.height > 1
+}
+
+// Back within the front task: its top screen goes.
+pub fn back_within(table: &[u8], s: Session) -> Reply
+    requires { ⌜ Ready (now table) s × (0 < s .n) × (ltb 1 (getD (s .tasks) 0 noTask .height) ≡ true) ⌝ }
+    ensures { λ r. ⌜ r ≡ callStored (now (table .entry)) s Call.back ⌝ }
+{
+    let mut out = s;
+    let front = out.tasks[0];
+    out.tasks[0] = front.pop();
+    accept(out)
+}
+
+// Back out of the front task, whose only screen goes: the task goes too.
+pub fn back_out(table: &[u8], s: Session) -> Reply
+    requires { ⌜ Ready (now table) s × (0 < s .n) × (ltb 1 (getD (s .tasks) 0 noTask .height) ≡ false) ⌝ }
+    ensures { λ r. ⌜ r ≡ callStored (now (table .entry)) s Call.back ⌝ }
+{
+    accept(closing::without_task(s, 0))
+}
+
 // Back, on a session that is not empty.
 pub fn back(table: &[u8], s: Session) -> Reply
     requires { ⌜ Ready (now table) s ⌝ }
     ensures { λ r. ⌜ r ≡ callStored (now (table .entry)) s Call.back ⌝ }
 {
-    let mut out = s;
-    let number = back_refusal(out.n);
-    if number == 0 {
-        let front = out.tasks[0];
-        if front.height > 1 {
-            out.tasks[0] = front.pop();
-        } else {
-            let last = (out.n - 1) as usize;
-            let mut j: usize = 0;
-            while j < last {
-                let x = out.tasks[j + 1];
-                out.tasks[j] = x;
-                j += 1;
-            }
-            let blank = Task {
-                root: 0,
-                height: 0,
-                screens: [0; Session::SCREENS],
-            };
-            out.tasks[last] = blank;
-            out.n = out.n - 1;
-            out.main = closing::main_without(1, out.main);
-        }
+    let number = back_refusal(s.n);
+    if number != 0 {
+        return refuse(s, number);
     }
-    Reply {
-        session: out,
-        answer: told(number, out),
+    if back_stays(s) {
+        return back_within(table, s);
     }
+    back_out(table, s)
 }
 
 // A start's own checks before it looks for room, where n tasks stand: 3, 4, 21, or 0.
-fn entry_refusal(table: &[u8], n: u8, b: u8, word: u32) -> u8
+pub fn entry_refusal(table: &[u8], n: u8, b: u8, word: u32) -> u8
     requires { ⌜ tableRefusal (now table) ≡ 0 ⌝ }
     ensures { λ r. ⌜ r ≡ refusalOf (startEntry (now (table .entry)) n b word) ⌝ }
 {
@@ -138,51 +148,54 @@ fn entry_refusal(table: &[u8], n: u8, b: u8, word: u32) -> u8
     0
 }
 
+// What a start's plan puts, and what is then shown: alone the front task,
+pub fn start_alone(s: Session, plan: Plan) -> Reply
+    requires { ⌜ Seen (aloneOf s plan) ⌝ }
+    ensures { λ r. ⌜ r ≡ settled 0 (aloneOf s plan) ⌝ }
+{
+    accept(starts::put_alone(s, plan))
+}
+
+// one to four tasks gone back,
+pub fn start_near(s: Session, plan: Plan) -> Reply
+    requires { ⌜ Seen (nearOf s plan) × ((1 ≤ plan .shift) × (plan .shift ≤ 4)) ⌝ }
+    ensures { λ r. ⌜ r ≡ settled 0 (nearOf s plan) ⌝ }
+{
+    accept(starts::put_near(s, plan))
+}
+
+// or any number, and the marked screen closed.
+pub fn start_far(s: Session, plan: Plan) -> Reply
+    requires { ⌜ Seen (farOf s plan) × Reaches s plan ⌝ }
+    ensures { λ r. ⌜ r ≡ settled 0 (farOf s plan) ⌝ }
+{
+    accept(starts::put_far(s, plan))
+}
+
 // A start of b with a flag word, or a finishing start, where the screen that was in front then closes, if it still stands.
-pub fn make_start(table: &[u8], s: Session, b: u8, word: u32, finishing: bool) -> Reply
+fn make_start(table: &[u8], s: Session, b: u8, word: u32, finishing: bool) -> Reply
     requires { ⌜ Ready (now table) s ⌝ }
     ensures { λ r. ⌜ r ≡ callStored (now (table .entry)) s (startCall finishing b word) ⌝ }
 {
-    let mut out = s;
-    let mut number = entry_refusal(table, out.n, b, word);
-    if number == 0 {
-        let f = flags::read(word);
-        let front = out.tasks[0];
-        let group = choice::group_of(table, front.top(), b, f);
-        let found = choice::sought_by(table, out, b, f, group);
-        let t = out.tasks[choice::index_of(found)];
-        let rule = choice::rule_in(table, group, t, out.main, b, f, found);
-        let deed = choice::deed_of(rule);
-        number = choice::room_refusal(out.n, t, deed);
-        if number == 0 {
-            let place = choice::place_of(found);
-            let mut i = deeds::shift_of(deed, place, out.n) as usize;
-            while i > 0 {
-                let x = out.tasks[i - 1];
-                out.tasks[i] = x;
-                i -= 1;
-            }
-            out.tasks[0] = deeds::front_after(t, b, deed);
-            out.n = deeds::count_after(deed, out.n);
-            out.main = deeds::main_after(deed, place, out.main);
-            if finishing {
-                let mark = closing::mark_of(deed, place, b == front.top());
-                if let Mark::Stands(behind, below) = mark {
-                    let k = behind as usize;
-                    let u = out.tasks[k];
-                    if u.height > 1 {
-                        out.tasks[k] = closing::without_screen(u, below);
-                    } else {
-                        out = closing::without_task(out, behind);
-                    }
-                }
-            }
-        }
+    let number = entry_refusal(table, s.n, b, word);
+    if number != 0 {
+        return refuse(s, number);
     }
-    Reply {
-        session: out,
-        answer: told(number, out),
+    let sought = starts::seek(table, s, b, word);
+    let i = sought.index;
+    let t = s.tasks[i];
+    let chosen = starts::choose(table, s, t, sought, b, word);
+    if chosen.number != 0 {
+        return refuse(s, chosen.number);
     }
+    let plan = starts::plan_start(table, s, t, chosen, b, word, finishing);
+    if plan.alone {
+        return start_alone(s, plan);
+    }
+    if plan.near {
+        return start_near(s, plan);
+    }
+    start_far(s, plan)
 }
 
 // Start of b with a flag word.

@@ -24,6 +24,7 @@ use denote.Steps.{only, opens, closes, owned, peeks, heard}
 use denote.Struct.Steps.{spelt}
 use denote.Struct.Laws as LL
 use Rattle.model.specs.Calls.{Call}
+use Rattle.model.specs.declared.Answer.{Answer}
 use Rattle.model.proofs.Answer as N
 use Rattle.model.proofs.Answer.Laws as N′
 use Rattle.session.specs.declared.Session.{Session}
@@ -36,28 +37,28 @@ use Rattle.calls.proofs.Reply.Laws as R′
 
 -- the two fields of a reply have their machine values
 module _ (r : Reply) (vs : List Val) (p : Is R.the-row r vs) where
-  session-is : Is S.the-row (r .session) (S′.lowered (r .session) ∷ [])
+  pub session-is : Is S.the-row (r .session) (S′.lowered (r .session) ∷ [])
   session-is =
       let f = LL.owed R.the-type R′.the-laws r vs p .0 in
       subst (Is S.the-row (r .session)) (S′.lowers .val-is (r .session) _ f) f
 
-  answer-is : Is N.the-row (r .answer) (N′.lowered (r .answer) ∷ [])
+  pub answer-is : Is N.the-row (r .answer) (N′.lowered (r .answer) ∷ [])
   answer-is =
       let f = LL.owed R.the-type R′.the-laws r vs p .1 .0 in
       subst (Is N.the-row (r .answer)) (N′.lowers .val-is (r .answer) _ f) f
 
 -- the statement before the call and those behind it: local 0 is the answer, local 2 the borrow
-abbrev copied : ℕ → MirBody → MirBody
+abbrev pub copied : ℕ → MirBody → MirBody
 copied i rest = seq (assign (place i []) (rvOpd (copy (place 2 (deref S′.mir ∷ []))))) rest
 
-abbrev stored : ℕ → MirBody
+abbrev pub stored : ℕ → MirBody
 stored i =
     seq (assign (place 2 (deref S′.mir ∷ [])) (rvOpd (copy (place i (field 0 ∷ [])))))
     (seq (assign (place 0 []) (rvOpd (copy (place i (field 1 ∷ []))))) return)
 
 -- The code of a function whose parameters behind the session have the types τs. Its other locals are the reply and the copy
 -- of the session; #core is the function of `navigator`.
-abbrev local-of : Ty → Local
+abbrev pub local-of : Ty → Local
 local-of τ = local τ valueLocal
 
 abbrev passed-on : ℕ → List Ty → List Opd
@@ -82,8 +83,10 @@ abbrev pub Gives : {M : Type 1} (𝓤 : URA M) (table : List ℕ) (s : Session) 
 Gives 𝓤 table s does r = sep 𝓤 (fact 𝓤 (r ≡ callStored table s does)) (fact 𝓤 (KeepsSound table s (r .session)))
 
 -- the two facts that a contract here asks for, of the parts of the right reply
-pub of-parts : {M : Type 1} (𝓤 : URA M) {r x : Reply} → r ≡ x
-    → ent 𝓤 (emp 𝓤) (sep 𝓤 (fact 𝓤 (r .answer ≡ x .answer)) (fact 𝓤 (r .session ≡ x .session)))
+abbrev pub Parts : {M : Type 1} (𝓤 : URA M) → Reply → Answer → Session → SProp 𝓤
+Parts 𝓤 x r s = sep 𝓤 (fact 𝓤 (r ≡ x .answer)) (fact 𝓤 (s ≡ x .session))
+
+pub of-parts : {M : Type 1} (𝓤 : URA M) {r x : Reply} → r ≡ x → ent 𝓤 (emp 𝓤) (Parts 𝓤 x (r .answer) (r .session))
 of-parts 𝓤 {r} {x} e =
     let φ : Type 0 = r .answer ≡ x .answer in
     let ψ : Type 0 = r .session ≡ x .session in
@@ -105,12 +108,12 @@ module _ {M : Type 1} {𝓤 : URA M} {H : Heap 𝓤} {A : Atoms 𝓤} {K : Type 
       owned t N.the-row (Is N.the-row) (LL.makes N.the-type N′.the-plain 𝓤 H A) (r .answer) _ (answer-is r vs is)
 
   -- a local whose number is not written out
-  found : K → {E : Env 𝓤 H} {i : ℕ} {st : List PStep} {sp sp′ : Spot 𝓤 H} → spotOf 𝓤 H E i ≡ sp → Walks K W Γ E sp st sp′
+  pub found : K → {E : Env 𝓤 H} {i : ℕ} {st : List PStep} {sp sp′ : Spot 𝓤 H} → spotOf 𝓤 H E i ≡ sp → Walks K W Γ E sp st sp′
       → Finds K W Γ E (place i st) sp′
   found t {E} {i} {st} {sp} {sp′} e w = from t (subst (λ (x : Spot 𝓤 H). Walks K W Γ E x st sp′) (sym e) w)
 
 -- the locals: at 0 the answer, at 2 the borrow
-abbrev Locals : ℕ → Ty × ℕ → Ty → ℕ → List (Ty × ℕ) → List (Ty × ℕ)
+abbrev pub Locals : ℕ → Ty × ℕ → Ty → ℕ → List (Ty × ℕ) → List (Ty × ℕ)
 Locals answer e τ borrow E = (N′.mir, answer) ∷ e ∷ (τ, borrow) ∷ E
 
 -- κ, q: the lifetime of the borrow, and the share of it. The session s lies at p, o.
@@ -118,7 +121,7 @@ module _ {M : Type 1} {𝓤 : URA M} (κ : Lft) (q : Share) (γ : GName) (p o : 
   abbrev pub Shut : List (Item 𝓤)
   Shut = ‵ (fobs γ (S.the-row .coded .code s)) ∷ ‵ (fbor κ (Body (mem S.the-row) p o γ)) ∷ ‵ (flft κ q) ∷ Γ
 
-  abbrev Open : List (Item 𝓤)
+  abbrev pub Open : List (Item 𝓤)
   Open =
       ‵ (cellAt fullShare (S.the-row .mir) (S′.lowered s ∷ []) p o) ∷ ‵ (fobor κ q (Body (mem S.the-row) p o γ))
       ∷ ‵ (fobs γ (S.the-row .coded .code s)) ∷ ‵ (fauth γ (S.the-row .coded .code s)) ∷ Γ

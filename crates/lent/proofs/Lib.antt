@@ -1,3 +1,7 @@
 pub mod Lending
 pub mod LendingAlone
-pub mod LendingStarts
+pub mod LendingCalls
+pub mod LendingOn
+pub mod LendingStart
+pub mod LendingTask
+pub mod LendingWays

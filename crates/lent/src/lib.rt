@@ -1,9 +1,10 @@
 // The calls for programs in C and Rust. A slice is a pointer and a length there; a session that a call may change is lent,
-// and the call writes the new one there. Nothing is decided here: each call is the one of `navigator`.
+// and the call writes the new one there. Nothing is decided here: each call is the one of `navigator`, and the ways of a
+// Back or a start are told by functions by value. Each way has a store of its own, so that no more is written than changes.
 
 ghost use mathlib.Core.Path.{_≡_};
 ghost use Rattle.model.specs.Calls.{Call};
-ghost use Rattle.calls.specs.StoredCalls.{callStored};
+ghost use Rattle.calls.specs.StoredCalls.{callStored, startCall};
 ghost use Rattle.calls.specs.StoredSaves.{saved, saveStored};
 use calls::SaveReply;
 use model::Answer;
@@ -31,15 +32,45 @@ pub extern "C" fn milchkompass_launch(table: &[u8], s: &mut Session) -> Answer
     reply.answer
 }
 
+// A start, or a finishing start, over the session that is lent.
+fn start_lent(table: &[u8], s: &mut Session, b: u8, word: u32, finishing: bool) -> Answer
+    ensures answers { λ r. ⌜ r ≡ callStored (now (table .entry)) (now (s .entry)) (startCall finishing b word) .answer ⌝ }
+    ensures stores { λ _. ⌜ now (s .exit) ≡ callStored (now (table .entry)) (now (s .entry)) (startCall finishing b word) .session ⌝ }
+{
+    let number = navigator::start_refusal(table, *s, b, word);
+    if number != 0 {
+        return answer::refused(number);
+    }
+    let sought = starts::seek(table, *s, b, word);
+    let i = sought.index;
+    let t = s.tasks[i];
+    let chosen = starts::choose(table, *s, t, sought, b, word);
+    if chosen.number != 0 {
+        return answer::refused(chosen.number);
+    }
+    let plan = starts::plan_start(table, *s, t, chosen, b, word, finishing);
+    if plan.alone {
+        let reply = calls::start_alone(*s, plan);
+        *s = reply.session;
+        return reply.answer;
+    }
+    if plan.near {
+        let reply = calls::start_near(*s, plan);
+        *s = reply.session;
+        return reply.answer;
+    }
+    let reply = calls::start_far(*s, plan);
+    *s = reply.session;
+    reply.answer
+}
+
 // Start of b with a flag word.
 #[no_mangle]
 pub extern "C" fn milchkompass_start(table: &[u8], s: &mut Session, b: u8, word: u32) -> Answer
     ensures answers { λ r. ⌜ r ≡ callStored (now (table .entry)) (now (s .entry)) (Call.start b word) .answer ⌝ }
     ensures stores { λ _. ⌜ now (s .exit) ≡ callStored (now (table .entry)) (now (s .entry)) (Call.start b word) .session ⌝ }
 {
-    let reply = navigator::start(table, *s, b, word);
-    *s = reply.session;
-    reply.answer
+    start_lent(table, s, b, word, false)
 }
 
 // Finishing start of b with a flag word: the caller closes itself.
@@ -53,9 +84,7 @@ pub extern "C" fn milchkompass_finish_start(
     ensures answers { λ r. ⌜ r ≡ callStored (now (table .entry)) (now (s .entry)) (Call.finishingStart b word) .answer ⌝ }
     ensures stores { λ _. ⌜ now (s .exit) ≡ callStored (now (table .entry)) (now (s .entry)) (Call.finishingStart b word) .session ⌝ }
 {
-    let reply = navigator::finish_start(table, *s, b, word);
-    *s = reply.session;
-    reply.answer
+    start_lent(table, s, b, word, true)
 }
 
 // Back.
@@ -64,7 +93,16 @@ pub extern "C" fn milchkompass_back(table: &[u8], s: &mut Session) -> Answer
     ensures answers { λ r. ⌜ r ≡ callStored (now (table .entry)) (now (s .entry)) Call.back .answer ⌝ }
     ensures stores { λ _. ⌜ now (s .exit) ≡ callStored (now (table .entry)) (now (s .entry)) Call.back .session ⌝ }
 {
-    let reply = navigator::back(table, *s);
+    let number = navigator::back_refusal(table, *s);
+    if number != 0 {
+        return answer::refused(number);
+    }
+    if calls::back_stays(*s) {
+        let reply = calls::back_within(table, *s);
+        *s = reply.session;
+        return reply.answer;
+    }
+    let reply = calls::back_out(table, *s);
     *s = reply.session;
     reply.answer
 }

@@ -4,7 +4,7 @@
 ghost use mathlib.Core.Path.{_≡_};
 ghost use lib.ListN.{take};
 ghost use Rattle.model.specs.Calls.{Call};
-ghost use Rattle.calls.specs.StoredCalls.{sharedRefusal, callStored, KeepsSound};
+ghost use Rattle.calls.specs.StoredCalls.{sharedRefusal, refusalStored, entryStored, callStored, KeepsSound};
 ghost use Rattle.calls.specs.Restores.{AcceptsImages, BringsBack, SavesAgain};
 ghost use Rattle.calls.specs.StoredSaves.{saved, saveStored, BroughtBack, NoOtherHas};
 use calls::Reply;
@@ -49,6 +49,17 @@ pub fn launch(table: &[u8], s: Session) -> Reply
     calls::launch(table, s)
 }
 
+// The refusal of a start by the checks before it looks for room: 1, 2, 20, 3, 4, 21, or 0.
+pub fn start_refusal(table: &[u8], s: Session, b: u8, word: u32) -> u8
+    ensures { λ r. ⌜ r ≡ entryStored (now (table .entry)) s b word ⌝ }
+{
+    let number = shared_refusal(table, s);
+    if number != 0 {
+        return number;
+    }
+    calls::entry_refusal(table, s.n, b, word)
+}
+
 // Start of b with a flag word.
 pub fn start(table: &[u8], s: Session, b: u8, word: u32) -> Reply
     ensures gives { λ r. ⌜ r ≡ callStored (now (table .entry)) s (Call.start b word) ⌝ }
@@ -58,7 +69,7 @@ pub fn start(table: &[u8], s: Session, b: u8, word: u32) -> Reply
     if number != 0 {
         return calls::refuse(s, number);
     }
-    calls::make_start(table, s, b, word, false)
+    calls::start(table, s, b, word)
 }
 
 // Finishing start of b with a flag word: the caller closes itself.
@@ -70,7 +81,18 @@ pub fn finish_start(table: &[u8], s: Session, b: u8, word: u32) -> Reply
     if number != 0 {
         return calls::refuse(s, number);
     }
-    calls::make_start(table, s, b, word, true)
+    calls::finish_start(table, s, b, word)
+}
+
+// The refusal of a Back: 1, 2, 20, 21, or 0.
+pub fn back_refusal(table: &[u8], s: Session) -> u8
+    ensures { λ r. ⌜ r ≡ refusalStored (now (table .entry)) s Call.back ⌝ }
+{
+    let number = shared_refusal(table, s);
+    if number != 0 {
+        return number;
+    }
+    calls::back_refusal(s.n)
 }
 
 // Back, on a session that is not empty.

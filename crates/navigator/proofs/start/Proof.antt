@@ -20,15 +20,15 @@ returns c =
     call-gives (a .table .now) (a .s) does (c .refuse .result)
     (c .refuse .ensures ∙ sym (call-refused (a .table .now) (a .s) does (k .result) (sym (k .ensures)) (c .before .if1 .taken)))
 
-make-start-requires : tie.Need-make-start-requires
-make-start-requires c κs =
+start-requires : tie.Need-start-requires
+start-requires c κs =
     let a = c .before .before .before .args in
     shared-ready (a .table .now) (a .s) (sym (c .before .shared-refusal .ensures) ∙ c .if1 .left)
 
 returns-2 : tie.Need-returns-2
 returns-2 c =
     let a = c .before .before .before .before .args in
-    call-gives (a .table .now) (a .s) (start (a .b) (a .word)) (c .make-start .result) (c .make-start .ensures)
+    call-gives (a .table .now) (a .s) (start (a .b) (a .word)) (c .start .result) (c .start .ensures)
 
 pub start-spec : {M : Type 1} → statement M
-start-spec = tie.close (tie.spec shared-refusal-requires refuse-requires returns make-start-requires returns-2)
+start-spec = tie.close (tie.spec shared-refusal-requires refuse-requires returns start-requires returns-2)

@@ -1,0 +1,84 @@
+-- `starts::choose` meets its contract: the rule and the task found are the definition's, and so are the deed and the number.
+use Prim.Native.Nat.{_<_}
+use mathlib.Core.Path.{_≡_, sym, _∙_, ap, subst}
+use borrow.Author.Needs.{needs}
+use Rattle.model.specs.declared.Choice.{Choice}
+use Rattle.model.specs.Flags.{flagsOf}
+use Rattle.model.specs.Deeds.{deedOf}
+use Rattle.model.specs.Search.{placeOf}
+use Rattle.model.specs.Rules.{choose}
+use Rattle.session.specs.Stored.{view}
+use Rattle.session.proofs.Known.{Sized, sized}
+use Rattle.session.proofs.StoredLaws.{view-main}
+use Rattle.choice.specs.Shows.{indexOf, Shows, Filled}
+use Rattle.choice.proofs.Tasks.{own-row, task-filled, counted, stored-shows, index-stands}
+use Rattle.choice.proofs.Groups.{chosen-in}
+use Rattle.starts.proofs.choose.Statement.{statement}
+use Rattle.starts.proofs.choose.Tie as tie
+
+sizes : (c : tie.Start) → Sized (c .args .s)
+sizes c = sized (c .args .s) _ (c .good .1 .0)
+
+-- a task stands at the index
+stands : (c : tie.Start) → c .args .sought .index < c .args .s .n
+stands c =
+    let a = c .args in
+    let x = c .pre .1 in
+    index-stands (a .table .now) (a .s) (a .b) (sizes c) (c .pre .0) (flagsOf (a .word)) (a .sought .group) (x .found) (x .index)
+
+filled : (c : tie.Start) → Filled (c .args .t)
+filled c =
+    let a = c .args in
+    rw (c .pre .2) (task-filled (a .table .now) (a .s) (a .b) (sizes c) (c .pre .0) (a .sought .index) (stands c))
+
+shows : (c : tie.Start) → Shows (view (c .args .s)) (c .args .sought .found) (c .args .t)
+shows c = rw (c .pre .2) (stored-shows (c .args .s) (c .args .sought .found) (c .pre .1 .index) (stands c))
+
+read-requires : tie.Need-read-requires
+read-requires c κs = search needs
+
+rule-in-requires : tie.Need-rule-in-requires
+rule-in-requires c κs =
+    let start = c .before .before in
+    let a = start .args in
+    (filled start, own-row (a .table .now) (a .s) (a .b) (sizes start) (start .pre .0))
+
+deed-of-requires : tie.Need-deed-of-requires
+deed-of-requires c κs = search needs
+
+room-refusal-requires : tie.Need-room-refusal-requires
+room-refusal-requires c κs = filled (c .before .before .before .before)
+
+place-of-requires : tie.Need-place-of-requires
+place-of-requires c κs = search needs
+
+-- the rule and the task found are the definition's
+chosen : (c : tie.After-rule-in)
+    → let a = c .before .before .before .args in
+    record { rule = c .rule-in .result; found = a .sought .found } ≡ choose (a .table .now) (view (a .s)) (a .b) (flagsOf (a .word))
+chosen c =
+    let start = c .before .before .before in
+    let a = start .args in
+    let x = start .pre .1 in
+    let rule = rw (c .before .read .ensures) at (c .rule-in .ensures) in
+    chosen-in (a .table .now) (view (a .s)) (a .b) (flagsOf (a .word)) (a .sought .group) (sym (x .group)) (x .found)
+    (rule (view (a .s)) (shows start) (view-main (a .s)) (x .found))
+
+returns : tie.Need-returns
+returns c =
+    let deed = c .before .before in
+    let start = deed .before .before .before .before in
+    let a = start .args in
+    let tb = a .table .now in
+    let f = flagsOf (a .word) in
+    let e = chosen (deed .before) in
+    let d = deed .deed-of .ensures ∙ ap (λ (x : Choice). deedOf (x .rule)) e in
+    record {
+      number = c .before .room-refusal .ensures tb (view (a .s)) (a .b) f (subst (λ (x : Choice). Shows (view (a .s)) (x .found) (a .t)) e (shows start)) (counted tb (a .s) (a .b) (sizes start) (start .pre .0)) d;
+      deed = d;
+      place = c .place-of .ensures ∙ ap (λ (x : Choice). placeOf (x .found)) e;
+      index = start .pre .1 .index ∙ ap (λ (x : Choice). indexOf (x .found)) e;
+    }
+
+pub choose-spec : {M : Type 1} → statement M
+choose-spec = tie.close (tie.spec read-requires rule-in-requires deed-of-requires room-refusal-requires place-of-requires returns)

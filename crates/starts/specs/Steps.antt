@@ -1,0 +1,103 @@
+-- The steps of a start on a stored session: what seeking, choosing and planning give, and the sessions that a plan puts.
+use Prim.Native.Nat.{ℕ, _≤_, _<_}
+use mathlib.Core.Path.{_≡_}
+use mathlib.Core.Bool.{Bool, true, false}
+use mathlib.Core.List.{List}
+use lib.Dec.{eqb, leb, ltb}
+use lib.ListN.{getD, set}
+use Rattle.model.specs.declared.Deed.{Deed}
+use Rattle.model.specs.declared.Flags.{Flags}
+use Rattle.model.specs.declared.Mark.{Mark}
+use Rattle.model.specs.Lists.{if_then_else_, omit}
+use Rattle.model.specs.Session.{stack, mostTasks}
+use Rattle.model.specs.Search.{placeOf}
+use Rattle.model.specs.Rules.{groupOf, soughtBy, choose}
+use Rattle.model.specs.Deeds.{deedOf}
+use Rattle.model.specs.Marks.{markAfter, closeAt, Stands}
+use Rattle.session.specs.declared.Session.{Session}
+use Rattle.session.specs.declared.Task.{Task}
+use Rattle.session.specs.Stored.{view, viewTask, hold, holdTask, noTask, storageBlank}
+use Rattle.choice.specs.Shows.{indexOf}
+use Rattle.deeds.specs.Rows.{shifted, withTasks}
+use Rattle.rules.specs.Starts.{roomRefusal, madeStored}
+use Rattle.starts.specs.declared.Sought.{Sought}
+use Rattle.starts.specs.declared.Chosen.{Chosen}
+use Rattle.starts.specs.declared.Plan.{Plan}
+
+abbrev pub taskAt : Session → ℕ → Task
+taskAt c i = getD (c .tasks) i noTask
+
+-- ---- seeking and choosing
+
+pub record Seeks (tb : List ℕ) (c : Session) (b : ℕ) (f : Flags) (x : Sought) : Type 0 where
+  pub group : x .group ≡ groupOf tb (view c) b f
+  pub found : x .found ≡ soughtBy tb (view c) b f (x .group)
+  pub index : x .index ≡ indexOf (x .found)
+
+-- k is the index of the task found
+pub record Chooses (tb : List ℕ) (c : Session) (b : ℕ) (f : Flags) (k : ℕ) (x : Chosen) : Type 0 where
+  pub number : x .number ≡ roomRefusal tb c b f
+  pub deed : x .deed ≡ deedOf (choose tb (view c) b f .rule)
+  pub place : x .place ≡ placeOf (choose tb (view c) b f .found)
+  pub index : k ≡ indexOf (choose tb (view c) b f .found)
+
+-- ---- the marked screen
+
+abbrev pub markOf : Bool → Deed → ℕ → Bool → Mark
+markOf true d p isB = markAfter d p isB
+markOf false d p isB = Mark.Gone
+
+-- the task behind k others without the marked screen
+abbrev pub closedIn : ℕ → Mark → Task → Task
+closedIn k Mark.Gone t = t
+closedIn k (Mark.Stands j i) t = if eqb j k then holdTask (stack (t .root) (omit i (viewTask t .screens))) else t
+
+-- closing it empties its task: the front one of the height h, or the one behind it of the height h′
+abbrev pub emptiesIn : Mark → ℕ → ℕ → Bool
+emptiesIn Mark.Gone h h′ = false
+emptiesIn (Mark.Stands k i) h h′ = if eqb k 0 then leb h 1 else leb h′ 1
+
+-- ---- what a plan puts
+
+abbrev pub aloneOf : Session → Plan → Session
+aloneOf c p = record { tasks = set (c .tasks) 0 (p .front); n = p .n; main = p .main }
+
+abbrev pub nearOf : Session → Plan → Session
+nearOf c p = record { tasks = set (shifted (p .front) (p .shift) (c .tasks)) 1 (p .second); n = p .n; main = p .main }
+
+-- before the marked screen closes
+abbrev pub putOf : Session → Plan → Session
+putOf c p = record { tasks = shifted (p .front) (p .shift) (c .tasks); n = p .n; main = p .main }
+
+abbrev pub farOf : Session → Plan → Session
+farOf c p = hold (closeAt (p .mark) (view (putOf c p)))
+
+-- the place i gets the task before it, where so many tasks go back
+abbrev pub movedIf : Bool → ℕ → ℕ → Session → Session
+movedIf true i j c = withTasks c (set (c .tasks) i (taskAt c j))
+movedIf false i j c = c
+
+abbrev pub movedFew : Session → ℕ → Session
+movedFew c k = movedIf (ltb 1 k) 2 1 (movedIf (ltb 2 k) 3 2 (movedIf (ltb 3 k) 4 3 c))
+
+-- what the plan that reaches far relies on
+pub record Reaches (c : Session) (p : Plan) : Type 0 where
+  pub few : p .shift < mostTasks
+  pub blank : storageBlank (putOf c p) ≡ true
+  pub marked : Stands (p .mark) (view (putOf c p))
+  pub kept : p .mark ≡ Mark.Gone → putOf c p ≡ farOf c p
+
+-- the session d is the one that the start makes
+abbrev pub Makes : List ℕ → Session → ℕ → Flags → Bool → Session → Type 0
+Makes tb c b f finishing d = record { refusal = 0; session = d } ≡ madeStored finishing tb c b f
+
+-- t and x were read and chosen, and there is room
+pub record Plannable (tb : List ℕ) (c : Session) (b : ℕ) (f : Flags) (t : Task) (x : Chosen) : Type 0 where
+  pub chosen : Chooses tb c b f (indexOf (choose tb (view c) b f .found)) x
+  pub task : t ≡ taskAt c (indexOf (choose tb (view c) b f .found))
+  pub room : x .number ≡ 0
+
+pub record Plans (tb : List ℕ) (c : Session) (b : ℕ) (f : Flags) (finishing : Bool) (p : Plan) : Type 0 where
+  pub alone : p .alone ≡ true → Makes tb c b f finishing (aloneOf c p)
+  pub near : p .alone ≡ false → p .near ≡ true → ((1 ≤ p .shift) × (p .shift ≤ 4)) × Makes tb c b f finishing (nearOf c p)
+  pub far : p .near ≡ false → Reaches c p × Makes tb c b f finishing (farOf c p)
