@@ -1,9 +1,11 @@
 // The one place where an answer is made.
 
 ghost use mathlib.Core.Path.{_≡_};
+ghost use Rattle.model.specs.declared.Answer.{Answer};
 ghost use Rattle.model.specs.Answers.{lookAt, refused as refusedAnswer};
 ghost use Rattle.session.specs.Stored.{view};
 ghost use Rattle.answer.specs.Seen.{Seen};
+ghost use Rattle.answer.specs.Words.{Words};
 use model::Answer;
 use session::Session;
 
@@ -44,5 +46,45 @@ pub fn refused(number: u8) -> Answer
         height: 0,
         tasks: 0,
         main: 0,
+    }
+}
+
+// ---- an answer as one word, in which a function can hand it over without writing it to memory number by number
+
+// The word of an answer: the refusal lowest, each number above the one before it.
+pub fn word_of(a: Answer) -> u64
+    ensures { λ r. ⌜ Words r a ⌝ }
+{
+    let w5 = a.main as u64;
+    let w4 = w5 * 256 + (a.tasks as u64);
+    let w3 = w4 * 256 + (a.height as u64);
+    let w2 = w3 * 256 + (a.root as u64);
+    let w1 = w2 * 256 + (a.screen as u64);
+    w1 * 256 + (a.refusal as u64)
+}
+
+// The word of a refused call's answer.
+pub fn refused_word(number: u8) -> u64
+    ensures { λ r. ⌜ Words r (refusedAnswer number) ⌝ }
+{
+    word_of(refused(number))
+}
+
+// The answer whose word this is.
+pub fn of_word(w: u64) -> Answer
+    ensures { λ r. ⌜ ((a : Answer) → Words w a → r ≡ a) ⌝ }
+{
+    let w1 = w / 256;
+    let w2 = w1 / 256;
+    let w3 = w2 / 256;
+    let w4 = w3 / 256;
+    let w5 = w4 / 256;
+    Answer {
+        refusal: (w % 256) as u8,
+        screen: (w1 % 256) as u8,
+        root: (w2 % 256) as u8,
+        height: (w3 % 256) as u8,
+        tasks: (w4 % 256) as u8,
+        main: (w5 % 256) as u8,
     }
 }

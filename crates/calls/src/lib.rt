@@ -13,6 +13,7 @@ ghost use Rattle.model.specs.Table.{tableRefusal};
 ghost use Rattle.model.specs.Refusals.{refusal as refusalOf};
 ghost use Rattle.session.specs.Stored.{view, noTask, soundStored, Ready};
 ghost use Rattle.answer.specs.Seen.{Seen};
+ghost use Rattle.answer.specs.Words.{Words};
 ghost use Rattle.rules.specs.Starts.{startEntry};
 ghost use Rattle.starts.specs.Steps.{aloneOf, nearOf, farOf, Reaches};
 ghost use Rattle.calls.specs.StoredCalls.{reply, sharedRefusal, startCall, settled, callStored};
@@ -148,28 +149,45 @@ pub fn entry_refusal(table: &[u8], n: u8, b: u8, word: u32) -> u8
     0
 }
 
-// What a start's plan puts, and what is then shown: alone the front task,
-pub fn start_alone(s: Session, plan: Plan) -> Reply
-    requires { ⌜ Seen (aloneOf s plan) ⌝ }
-    ensures { λ r. ⌜ r ≡ settled 0 (aloneOf s plan) ⌝ }
+// What a call over a lent session gives: the session after it, and the answer as one word.
+pub struct WordReply {
+    pub session: Session,
+    pub word: u64,
+}
+
+// An accepted call: the session that it made, and what a look at it shows.
+fn accept_word(s: Session) -> WordReply
+    requires { ⌜ Seen s ⌝ }
+    ensures { λ r. ⌜ (r .session ≡ s) × Words (r .word) (lookAt (view s)) ⌝ }
 {
-    accept(starts::put_alone(s, plan))
+    WordReply {
+        session: s,
+        word: answer::word_of(answer::look_at(s)),
+    }
+}
+
+// What a start's plan puts, and what is then shown: alone the front task,
+pub fn start_alone(s: Session, plan: Plan) -> WordReply
+    requires { ⌜ Seen (aloneOf s plan) ⌝ }
+    ensures { λ r. ⌜ (r .session ≡ aloneOf s plan) × Words (r .word) (lookAt (view (aloneOf s plan))) ⌝ }
+{
+    accept_word(starts::put_alone(s, plan))
 }
 
 // one to four tasks gone back,
-pub fn start_near(s: Session, plan: Plan) -> Reply
+pub fn start_near(s: Session, plan: Plan) -> WordReply
     requires { ⌜ Seen (nearOf s plan) × ((1 ≤ plan .shift) × (plan .shift ≤ 4)) ⌝ }
-    ensures { λ r. ⌜ r ≡ settled 0 (nearOf s plan) ⌝ }
+    ensures { λ r. ⌜ (r .session ≡ nearOf s plan) × Words (r .word) (lookAt (view (nearOf s plan))) ⌝ }
 {
-    accept(starts::put_near(s, plan))
+    accept_word(starts::put_near(s, plan))
 }
 
 // or any number, and the marked screen closed.
-pub fn start_far(s: Session, plan: Plan) -> Reply
+pub fn start_far(s: Session, plan: Plan) -> WordReply
     requires { ⌜ Seen (farOf s plan) × Reaches s plan ⌝ }
-    ensures { λ r. ⌜ r ≡ settled 0 (farOf s plan) ⌝ }
+    ensures { λ r. ⌜ (r .session ≡ farOf s plan) × Words (r .word) (lookAt (view (farOf s plan))) ⌝ }
 {
-    accept(starts::put_far(s, plan))
+    accept_word(starts::put_far(s, plan))
 }
 
 // A start of b with a flag word, or a finishing start, where the screen that was in front then closes, if it still stands.
@@ -181,21 +199,22 @@ fn make_start(table: &[u8], s: Session, b: u8, word: u32, finishing: bool) -> Re
     if number != 0 {
         return refuse(s, number);
     }
-    let sought = starts::seek(table, s, b, word);
+    let f = flags::read(word);
+    let sought = starts::seek(table, s, b, f);
     let i = sought.index;
     let t = s.tasks[i];
-    let chosen = starts::choose(table, s, t, sought, b, word);
+    let chosen = starts::choose(table, s, t, sought, b, f);
     if chosen.number != 0 {
         return refuse(s, chosen.number);
     }
     let plan = starts::plan_start(table, s, t, chosen, b, word, finishing);
     if plan.alone {
-        return start_alone(s, plan);
+        return accept(starts::put_alone(s, plan));
     }
     if plan.near {
-        return start_near(s, plan);
+        return accept(starts::put_near(s, plan));
     }
-    start_far(s, plan)
+    accept(starts::put_far(s, plan))
 }
 
 // Start of b with a flag word.

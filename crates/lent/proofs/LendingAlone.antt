@@ -44,7 +44,7 @@ use Rattle.lent.proofs.Lending.{lender, Gives, ensuring, answered, Shut
 use Rattle.lent.proofs.milchkompass_launch as outer
 
 abbrev function : Name → Fn
-function = lender []
+function = lender
 
 -- what is had of each parameter at the exit: the table as it was, the session at its last value
 abbrev stayed : Stays (outer.ended .signature .params) (outer.ended .kept)

@@ -18,6 +18,8 @@ use denote.Laws.{Is}
 use denote.Struct.Laws as LL
 use denote.Triple.Statement.{Contract, Triple}
 use denote.Triple.Spec.{tripleOf}
+use Rattle.model.proofs.Flags as L
+use Rattle.model.proofs.Flags.Laws as L′
 use Rattle.session.proofs.Task as T
 use Rattle.session.proofs.Task.Laws as T′
 use Rattle.starts.specs.declared.Chosen.{Chosen}
@@ -27,10 +29,12 @@ use Rattle.starts.proofs.Chosen as D
 use Rattle.starts.proofs.Chosen.Laws as D′
 use Rattle.starts.proofs.Plan as P
 use Rattle.starts.proofs.Plan.Laws as P′
-use Rattle.answer.proofs.refused as refusing
-use Rattle.answer.proofs.refused.Symbol as refusing-def
+use Rattle.answer.proofs.refused_word as refusing
+use Rattle.answer.proofs.refused_word.Symbol as refusing-def
 use Rattle.navigator.proofs.start_refusal as numbering
 use Rattle.navigator.proofs.start_refusal.Symbol as numbering-def
+use Rattle.flags.proofs.read as reading
+use Rattle.flags.proofs.read.Symbol as reading-def
 use Rattle.starts.proofs.seek as seeking
 use Rattle.starts.proofs.seek.Symbol as seeking-def
 use Rattle.starts.proofs.choose as choosing
@@ -54,6 +58,14 @@ module _ {M : Type 1} (𝓤 : URA M) (H : Heap 𝓤) (A : Atoms 𝓤) (W : Given
     low-is = uint-tells w32;
     typed = λ x is. (tt, record { fits = is .1 });
     makes = uint-makes 𝓤 H A W w32;
+  }
+
+  abbrev pub flags-read : Value W L.the-row L′.mir
+  flags-read = record {
+    low = L′.lowered;
+    low-is = L′.lowers .val-is;
+    typed = λ x is. LL.lawful L.the-type L′.the-laws 𝓤 H A W .typed x _ is .0;
+    makes = LL.makes L.the-type L′.the-plain 𝓤 H A;
   }
 
   abbrev pub a-task : Value W T.the-row T′.mir
@@ -101,6 +113,9 @@ module _ {M : Type 1} (𝓤 : URA M) (H : Heap 𝓤) (A : Atoms 𝓤) (mem : Mem
   abbrev pub Numbering : Contract 𝓤
   Numbering = tripleOf 𝓤 H A numbering.signature (numbering.spec 𝓤 H A mem run)
 
+  abbrev pub Reading : Contract 𝓤
+  Reading = tripleOf 𝓤 H A reading.signature (reading.spec 𝓤 H A mem run)
+
   abbrev pub Seeking : Contract 𝓤
   Seeking = tripleOf 𝓤 H A seeking.signature (seeking.spec 𝓤 H A mem run)
 
@@ -122,6 +137,7 @@ module _ {M : Type 1} (𝓤 : URA M) (H : Heap 𝓤) (A : Atoms 𝓤) (mem : Mem
   pub record Known (C : Calls 𝓤 H) : Type 1 where
     pub refuses : Triple 𝓤 (C refusing-def.name) Refusing
     pub numbers : Triple 𝓤 (C numbering-def.name) Numbering
+    pub reads : Triple 𝓤 (C reading-def.name) Reading
     pub seeks : Triple 𝓤 (C seeking-def.name) Seeking
     pub chooses : Triple 𝓤 (C choosing-def.name) Choosing
     pub plans : Triple 𝓤 (C planning-def.name) Planning

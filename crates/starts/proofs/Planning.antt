@@ -61,6 +61,18 @@ behind-low true (Deed.MoveAnd c) p n isB some j e = go p e
     go (suc zero) e = absurd (let f = in-front c isB in omega (arith, e))
     go (suc (suc p)) e = let f : 1 ≡ suc j = rw (lt-leb (suc (suc p)) 1 (omega arith)) at e in (omega (arith, f), omega arith)
 
+-- where tasks go back it does not stand in front
+front-kept : (fin : Bool) (d : Deed) (p n : ℕ) (isB : Bool) → 1 ≤ shiftOf d p n → (x : Task) → closedIn 0 (markOf fin d p isB) x ≡ x
+front-kept false d p n isB some x = refl
+front-kept true Deed.New p n isB some x = refl
+front-kept true (Deed.InFront c) p n isB some x = absurd (omega arith)
+front-kept true (Deed.MoveAnd c) p n isB some x = go p some
+  where
+    go : (p : ℕ) → 1 ≤ pred p → closedIn 0 (if leb p 1 then markIn c isB else Mark.Stands 1 0) x ≡ x
+    go zero some = absurd (omega arith)
+    go (suc zero) some = absurd (omega arith)
+    go (suc (suc p)) some = rw (lt-leb (suc (suc p)) 1 (omega arith))
+
 -- ---- rows of tasks
 
 alone-row : (ts : List Task) → 1 ≤ length ts → (x : Task) → shifted x 0 ts ≡ set ts 0 x
@@ -172,8 +184,11 @@ module _ {tb : List ℕ} {c : Session} {b : ℕ} {f : Flags} (z : Sized c) (h : 
         ∙ sym (screen-closed put put-sized 1 l (closes e) (λ r. omega (arith, ap (λ (t : Task). t .height) q))
         (sym (ap (λ (t : Task). holdTask (stack (t .root) (omit l (viewTask t .screens)))) q)))
 
-    pub closed-near : 1 ≤ shift → hold (closeAt mark (view put)) ≡ near (closedIn 0 mark next) (closedIn 1 mark front)
-    closed-near some = go mark refl
+    pub closed-near : 1 ≤ shift → hold (closeAt mark (view put)) ≡ near next (closedIn 1 mark front)
+    closed-near some =
+        go mark refl
+        ∙ ap (λ (x : Task). near x (closedIn 1 mark front))
+        (ap (λ (x : Mark). closedIn 0 x next) (told .mark-is) ∙ front-kept fin d p (c .n) (eqb b a) (rw (told .shift-is) at some) next)
       where
         at-second : (j l : ℕ) → j ≡ 0 → mark ≡ Mark.Stands (suc j) l → hold (closeAt mark (view put)) ≡ near (closedIn 0 (Mark.Stands (suc j) l) next) (closedIn 1 (Mark.Stands (suc j) l) front)
         at-second zero l q e = closed-second l e

@@ -10,6 +10,7 @@ ghost use Rattle.model.specs.declared.Mark.{Mark};
 ghost use Rattle.choice.specs.Startable.{Startable};
 ghost use Rattle.starts.specs.Steps.{taskAt, Seeks, Chooses, markOf, closedIn, emptiesIn, movedFew, aloneOf, nearOf, farOf, Plannable, Plans, Reaches};
 use model::Deed;
+use model::Flags;
 use model::Found;
 use model::Group;
 use model::Mark;
@@ -25,11 +26,10 @@ pub struct Sought {
     pub group: Group,
 }
 
-pub fn seek(table: &[u8], s: Session, b: u8, word: u32) -> Sought
+pub fn seek(table: &[u8], s: Session, b: u8, f: Flags) -> Sought
     requires { ⌜ Startable (now table) s b ⌝ }
-    ensures { λ r. ⌜ Seeks (now (table .entry)) s b (flagsOf word) r ⌝ }
+    ensures { λ r. ⌜ Seeks (now (table .entry)) s b f r ⌝ }
 {
-    let f = flags::read(word);
     let front = s.tasks[0];
     let group = choice::group_of(table, front.top(), b, f);
     let found = choice::sought_by(table, s, b, f, group);
@@ -48,11 +48,10 @@ pub struct Chosen {
 }
 
 // t is the task at the index.
-pub fn choose(table: &[u8], s: Session, t: Task, sought: Sought, b: u8, word: u32) -> Chosen
-    requires { ⌜ Startable (now table) s b × Seeks (now table) s b (flagsOf word) sought × (t ≡ taskAt s (sought .index)) ⌝ }
-    ensures { λ r. ⌜ Chooses (now (table .entry)) s b (flagsOf word) (sought .index) r ⌝ }
+pub fn choose(table: &[u8], s: Session, t: Task, sought: Sought, b: u8, f: Flags) -> Chosen
+    requires { ⌜ Startable (now table) s b × Seeks (now table) s b f sought × (t ≡ taskAt s (sought .index)) ⌝ }
+    ensures { λ r. ⌜ Chooses (now (table .entry)) s b f (sought .index) r ⌝ }
 {
-    let f = flags::read(word);
     let group = sought.group;
     let found = sought.found;
     let rule = choice::rule_in(table, group, t, s.main, b, f, found);
@@ -153,14 +152,26 @@ pub fn plan_start(
             near: false,
         };
     }
+    if shift == 0 {
+        return Plan {
+            front: closed_in(next, mark, 0),
+            second: front,
+            mark: mark,
+            shift: shift,
+            n: n,
+            main: main,
+            alone: true,
+            near: true,
+        };
+    }
     Plan {
-        front: closed_in(next, mark, 0),
+        front: next,
         second: closed_in(front, mark, 1),
         mark: mark,
         shift: shift,
         n: n,
         main: main,
-        alone: shift == 0,
+        alone: false,
         near: true,
     }
 }

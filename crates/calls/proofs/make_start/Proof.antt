@@ -1,11 +1,16 @@
 -- `calls::make_start` meets its contract, step by step.
-use mathlib.Core.Path.{_≡_, refl, sym, _∙_}
+use Prim.Native.Nat.{_≤_}
+use mathlib.Core.Path.{_≡_, refl, sym, _∙_, ap}
 use native.Mathlib.Omega.{arith}
 use borrow.Author.Needs.{needs}
 use Rattle.model.specs.Refusals.{refusal}
+use Rattle.model.specs.Flags.{flagsOf}
+use Rattle.session.specs.declared.Session.{Session}
 use Rattle.session.proofs.Known.{Sized, sized}
 use Rattle.rules.specs.Starts.{startEntry}
-use Rattle.calls.proofs.Settling.{settle-refused}
+use Rattle.starts.specs.Steps.{Seeks, Chooses, aloneOf, nearOf, farOf, Reaches}
+use Rattle.calls.specs.StoredCalls.{startCall, settled}
+use Rattle.calls.proofs.Settling.{Left, settle-refused}
 use Rattle.calls.proofs.StartSettling.{entry-left}
 use Rattle.calls.proofs.StartSteps.{startable, sought-inside, full-left, plannable, alone-left, near-left, far-left}
 use Rattle.calls.proofs.make_start.Statement.{statement}
@@ -36,23 +41,37 @@ ofPassed c = c .before .before .before
 enters : (c : tie.Else1) → let a = ofPassed c .args in refusal (startEntry (a .table .now) (a .t2 .n) (a .b) (a .word)) ≡ 0
 enters c = sym (c .before .entry-refusal .ensures) ∙ c .if1 .left
 
+read-requires : tie.Need-read-requires
+read-requires c κs = search needs
+
 seek-requires : tie.Need-seek-requires
 seek-requires c κs =
-    let start = ofPassed c in
+    let start = ofPassed (c .before) in
     let a = start .args in
-    startable (a .table .now) (a .t2) (sizes start) (start .pre) (a .b) (a .word) (a .finishing) (enters c)
+    startable (a .table .now) (a .t2) (sizes start) (start .pre) (a .b) (a .word) (a .finishing) (enters (c .before))
+
+-- what was sought, by the flags of the word
+seeks : (c : tie.After-seek) → let a = ofPassed (c .before .before) .args in Seeks (a .table .now) (a .t2) (a .b) (flagsOf (a .word)) (c .seek .result)
+seeks c = rw (c .before .read .ensures) at (c .seek .ensures)
 
 element-copy-out-t : tie.Need-element-copy-out-t
 element-copy-out-t c =
-    let start = ofPassed (c .before) in
+    let passed = c .before .before in
+    let start = ofPassed passed in
     let a = start .args in
-    sought-inside (a .table .now) (a .t2) (sizes start) (start .pre) (a .b) (a .word) (a .finishing) (enters (c .before)) (c .seek .ensures)
+    sought-inside (a .table .now) (a .t2) (sizes start) (start .pre) (a .b) (a .word) (a .finishing) (enters passed) (seeks c)
 
 mul-t : tie.Need-mul-t
 mul-t c = let i = element-copy-out-t c in omega arith
 
 choose-requires : tie.Need-choose-requires
 choose-requires c κs = (seek-requires (c .before .before) κs, c .before .seek .ensures, refl)
+
+-- what was chosen, by them
+chooses : (c : tie.After-choose)
+    → let a = ofPassed (c .before .before .before .before) .args in
+    Chooses (a .table .now) (a .t2) (a .b) (flagsOf (a .word)) (c .before .before .seek .result .index) (c .choose .result)
+chooses c = rw (c .before .before .before .read .ensures) at (c .choose .ensures)
 
 -- ---- room
 
@@ -63,77 +82,86 @@ returns-2 : tie.Need-returns-2
 returns-2 c =
     let chosen = c .before .before .before in
     let sought = chosen .before .before in
-    let start = ofPassed (sought .before) in
+    let passed = sought .before .before in
+    let start = ofPassed passed in
     let a = start .args in
     c .refuse2 .ensures ∙ sym (settle-refused (a .t2) _ (c .before .if2 .taken))
-    ∙ full-left (a .table .now) (a .t2) (sizes start) (start .pre) (a .b) (a .word) (a .finishing) (enters (sought .before)) (sought .seek .ensures) (chosen .choose .ensures) (c .before .if2 .taken) .settles
+    ∙ full-left (a .table .now) (a .t2) (sizes start) (start .pre) (a .b) (a .word) (a .finishing) (enters passed) (seeks sought) (chooses chosen) (c .before .if2 .taken) .settles
 
 plan-start-requires : tie.Need-plan-start-requires
 plan-start-requires c κs =
     let chosen = c .before .before in
     let sought = chosen .before .before in
-    let start = ofPassed (sought .before) in
+    let passed = sought .before .before in
+    let start = ofPassed passed in
     let a = start .args in (
-      startable (a .table .now) (a .t2) (sizes start) (start .pre) (a .b) (a .word) (a .finishing) (enters (sought .before)),
-      plannable (a .table .now) (a .t2) (sizes start) (start .pre) (a .b) (a .word) (a .finishing) (enters (sought .before)) (sought .seek .ensures) (chosen .choose .ensures) (c .if2 .left),
+      startable (a .table .now) (a .t2) (sizes start) (start .pre) (a .b) (a .word) (a .finishing) (enters passed),
+      plannable (a .table .now) (a .t2) (sizes start) (start .pre) (a .b) (a .word) (a .finishing) (enters passed) (seeks sought) (chooses chosen) (c .if2 .left),
     )
 
 -- ---- what the plan puts
 
 abbrev ofPlan : tie.After-plan-start → tie.Else1
-ofPlan c = c .before .before .before .before .before .before
+ofPlan c = c .before .before .before .before .before .before .before
 
-start-alone-requires : tie.Need-start-alone-requires
-start-alone-requires c κs =
+-- what each reach of the plan leaves
+abbrev LeftAt : tie.After-plan-start → Session → Type 0
+LeftAt c d = let a = ofPassed (ofPlan c) .args in Left (a .table .now) (a .t2) (startCall (a .finishing) (a .b) (a .word)) 0 d
+
+alone : (c : tie.Then3) → LeftAt (c .before) (aloneOf (ofPassed (ofPlan (c .before)) .args .t2) (c .before .plan-start .result))
+alone c =
     let passed = ofPlan (c .before) in
     let start = ofPassed passed in
     let a = start .args in
-    alone-left (a .table .now) (a .t2) (sizes start) (start .pre) (a .b) (a .word) (a .finishing) (enters passed) (c .before .plan-start .ensures) (c .if3 .taken) .seen refl
+    alone-left (a .table .now) (a .t2) (sizes start) (start .pre) (a .b) (a .word) (a .finishing) (enters passed) (c .before .plan-start .ensures) (c .if3 .taken)
+
+near : (c : tie.Then4)
+    → let plan = c .before .before in
+    ((1 ≤ plan .plan-start .result .shift) × (plan .plan-start .result .shift ≤ 4)) × LeftAt plan (nearOf (ofPassed (ofPlan plan) .args .t2) (plan .plan-start .result))
+near c =
+    let plan = c .before .before in
+    let passed = ofPlan plan in
+    let start = ofPassed passed in
+    let a = start .args in
+    near-left (a .table .now) (a .t2) (sizes start) (start .pre) (a .b) (a .word) (a .finishing) (enters passed) (plan .plan-start .ensures) (c .before .if3 .left) (c .if4 .taken)
+
+far : (c : tie.Else4)
+    → let plan = c .before .before in
+    let s = ofPassed (ofPlan plan) .args .t2 in
+    Reaches s (plan .plan-start .result) × LeftAt plan (farOf s (plan .plan-start .result))
+far c =
+    let plan = c .before .before in
+    let passed = ofPlan plan in
+    let start = ofPassed passed in
+    let a = start .args in
+    far-left (a .table .now) (a .t2) (sizes start) (start .pre) (a .b) (a .word) (a .finishing) (enters passed) (plan .plan-start .ensures) (c .if4 .left)
+
+put-alone-requires : tie.Need-put-alone-requires
+put-alone-requires c κs = search needs
+
+accept-requires : tie.Need-accept-requires
+accept-requires c κs = rw (c .put-alone .ensures) (alone (c .before) .seen refl)
 
 returns-3 : tie.Need-returns-3
-returns-3 c =
-    let plan = c .before .before in
-    let passed = ofPlan plan in
-    let start = ofPassed passed in
-    let a = start .args in
-    c .start-alone .ensures
-    ∙ alone-left (a .table .now) (a .t2) (sizes start) (start .pre) (a .b) (a .word) (a .finishing) (enters passed) (plan .plan-start .ensures) (c .before .if3 .taken) .settles
+returns-3 c = c .accept .ensures ∙ ap (settled 0) (c .before .put-alone .ensures) ∙ alone (c .before .before) .settles
 
-start-near-requires : tie.Need-start-near-requires
-start-near-requires c κs =
-    let plan = c .before .before in
-    let passed = ofPlan plan in
-    let start = ofPassed passed in
-    let a = start .args in
-    let r = near-left (a .table .now) (a .t2) (sizes start) (start .pre) (a .b) (a .word) (a .finishing) (enters passed) (plan .plan-start .ensures) (c .before .if3 .left) (c .if4 .taken) in
-    (r .1 .seen refl, r .0)
+put-near-requires : tie.Need-put-near-requires
+put-near-requires c κs = near c .0
+
+accept-requires-2 : tie.Need-accept-requires-2
+accept-requires-2 c κs = rw (c .put-near .ensures) (near (c .before) .1 .seen refl)
 
 returns-4 : tie.Need-returns-4
-returns-4 c =
-    let plan = c .before .before .before in
-    let passed = ofPlan plan in
-    let start = ofPassed passed in
-    let a = start .args in
-    c .start-near .ensures
-    ∙ near-left (a .table .now) (a .t2) (sizes start) (start .pre) (a .b) (a .word) (a .finishing) (enters passed) (plan .plan-start .ensures) (c .before .before .if3 .left) (c .before .if4 .taken) .1 .settles
+returns-4 c = c .accept2 .ensures ∙ ap (settled 0) (c .before .put-near .ensures) ∙ near (c .before .before) .1 .settles
 
-start-far-requires : tie.Need-start-far-requires
-start-far-requires c κs =
-    let plan = c .before .before in
-    let passed = ofPlan plan in
-    let start = ofPassed passed in
-    let a = start .args in
-    let r = far-left (a .table .now) (a .t2) (sizes start) (start .pre) (a .b) (a .word) (a .finishing) (enters passed) (plan .plan-start .ensures) (c .if4 .left) in
-    (r .1 .seen refl, r .0)
+put-far-requires : tie.Need-put-far-requires
+put-far-requires c κs = far c .0
+
+accept-requires-3 : tie.Need-accept-requires-3
+accept-requires-3 c κs = rw (c .put-far .ensures) (far (c .before) .1 .seen refl)
 
 returns-5 : tie.Need-returns-5
-returns-5 c =
-    let plan = c .before .before .before in
-    let passed = ofPlan plan in
-    let start = ofPassed passed in
-    let a = start .args in
-    c .start-far .ensures
-    ∙ far-left (a .table .now) (a .t2) (sizes start) (start .pre) (a .b) (a .word) (a .finishing) (enters passed) (plan .plan-start .ensures) (c .before .if4 .left) .1 .settles
+returns-5 c = c .accept3 .ensures ∙ ap (settled 0) (c .before .put-far .ensures) ∙ far (c .before .before) .1 .settles
 
 pub make-start-spec : {M : Type 1} → statement M
 make-start-spec =
@@ -142,6 +170,7 @@ make-start-spec =
     entry-refusal-requires
     refuse-requires
     returns
+    read-requires
     seek-requires
     mul-t
     element-copy-out-t
@@ -149,9 +178,12 @@ make-start-spec =
     refuse-requires-2
     returns-2
     plan-start-requires
-    start-alone-requires
+    put-alone-requires
+    accept-requires
     returns-3
-    start-near-requires
+    put-near-requires
+    accept-requires-2
     returns-4
-    start-far-requires
+    put-far-requires
+    accept-requires-3
     returns-5)

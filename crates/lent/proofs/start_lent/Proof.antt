@@ -4,7 +4,7 @@
 mod Contexts
 mod Put
 mod Choose
-use mathlib.Core.Path.{_≡_, refl, sym, _∙_, ap}
+use mathlib.Core.Path.{_≡_, refl, sym, _∙_}
 use Prim.Native.Nat.{ℕ}
 use mathlib.Core.List.{[], _∷_, List}
 use lib.ListN.{getD}
@@ -35,19 +35,22 @@ use denote.Triple.Table.{entered, cited}
 use denote.Triple.Walked.{goes-none-slice, goes-ref, goes-dropped, Walks, walked, walk-meets}
 use denote.Exit.{yes}
 use Rattle.model.specs.Answers.{refused}
+use Rattle.answer.specs.Words.{Words}
 use Rattle.session.proofs.Known.{sized}
 use Rattle.session.proofs.Session as S
 use Rattle.session.proofs.Session.Laws as S′
-use Rattle.answer.proofs.refused as refusing
-use Rattle.answer.proofs.refused.Met as refusing-thm
-use Rattle.answer.proofs.refused.Symbol as refusing-def
+use Rattle.answer.proofs.refused_word as refusing
+use Rattle.answer.proofs.refused_word.Met as refusing-thm
+use Rattle.answer.proofs.refused_word.Symbol as refusing-def
+use Rattle.flags.proofs.read.Met as reading-thm
+use Rattle.flags.proofs.read.Symbol as reading-def
 use Rattle.starts.proofs.seek.Met as seeking-thm
 use Rattle.starts.proofs.seek.Symbol as seeking-def
 use Rattle.starts.proofs.choose.Met as choosing-thm
 use Rattle.starts.proofs.choose.Symbol as choosing-def
 use Rattle.starts.proofs.plan_start.Met as planning-thm
 use Rattle.starts.proofs.plan_start.Symbol as planning-def
-use Rattle.calls.specs.StoredCalls.{reply, entryStored}
+use Rattle.calls.specs.StoredCalls.{entryStored}
 use Rattle.calls.proofs.StartSteps.{entry-refused}
 use Rattle.calls.proofs.start_alone.Met as alone-thm
 use Rattle.calls.proofs.start_alone.Symbol as alone-def
@@ -58,9 +61,9 @@ use Rattle.calls.proofs.start_far.Symbol as far-def
 use Rattle.navigator.proofs.start_refusal as numbering
 use Rattle.navigator.proofs.start_refusal.Met as numbering-thm
 use Rattle.navigator.proofs.start_refusal.Symbol as numbering-def
-use Rattle.lent.proofs.LendingCalls.{Passed, pass, denots, lows, a-number, a-session, an-answer, on-values, on-table, calls-values, calls-table}
+use Rattle.lent.proofs.LendingCalls.{Passed, pass, denots, lows, a-number, a-session, a-long, on-values, on-table, calls-values, calls-table}
 use Rattle.lent.proofs.LendingWays.{not-zero, is-zero, freed, opened, leaves}
-use Rattle.lent.proofs.LendingStart.{a-word, Refusing, Numbering, Seeking, Choosing, Planning, Alone, Near, Far, Known}
+use Rattle.lent.proofs.LendingStart.{a-word, Refusing, Numbering, Reading, Seeking, Choosing, Planning, Alone, Near, Far, Known}
 use Rattle.lent.proofs.start_lent as outer
 use Rattle.lent.proofs.start_lent.Code as code
 use Rattle.lent.proofs.start_lent.Code.Mir as body
@@ -80,35 +83,34 @@ module _ {M : Type 1} (𝓤 : URA M) (H : Heap 𝓤) (A : Atoms 𝓤) (W : Given
   walk-body : Sq W (At-start 𝓤 F l) (runs C Λ (Env-of l) (code.function .body) (atRet (Env-of l) (Post 𝓤 H A W mem run F)))
   walk-body =
       assigns ! (of-opd ! (load ! (from ! (hop ! (look ! 10 refl) (stop !))) (look-raw ! 2 refl))) (from ! (stop !))
-      (init ! 36 refl (a-session 𝓤 H A W .typed (F .s) is)) $
+      (init ! 38 refl (a-session 𝓤 H A W .typed (F .s) is)) $
       calls-table ! (a-number 𝓤 H A W) fm (Numbering 𝓤 H A mem run) (known .numbers)
       (((F .κt, tt), (F .qt, tt), tt, (F .table, denots entry), (vt F ∷ [], lows entry)), tt)
       (on-table W entry (F .κt) (F .qt) (F .table) (id⊢ 𝓤 _))
       numbering.ended (F .κt, tt) (F .table, denots entry) (λ n. n ≡ entryStored (tb F) (F .s) (F .b) (F .word)) (λ u. id⊢ 𝓤 _)
-      (and-then ! (load ! (from ! (stop !)) (look ! 8 refl)) (and-then ! (load ! (from ! (stop !)) (look ! 36 refl))
+      (and-then ! (load ! (from ! (stop !)) (look ! 8 refl)) (and-then ! (load ! (from ! (stop !)) (look ! 38 refl))
       (and-then ! (load ! (from ! (stop !)) (look ! 12 refl))
       (and-then ! (load ! (from ! (stop !)) (look ! 14 refl)) (no-more !)))))
       16 refl refl (λ n is-n numbered.
-      assigns ! (bin ! (load ! (from ! (stop !)) (look ! 18 refl)) (lit ! tt) tt) (from ! (stop !)) (init ! 38 refl (tt, tt)) $
-      first ! $ branches ! (load ! (from ! (stop !)) (look ! 38 refl))
+      assigns ! (bin ! (load ! (from ! (stop !)) (look ! 18 refl)) (lit ! tt) tt) (from ! (stop !)) (init ! 40 refl (tt, tt)) $
+      first ! $ branches ! (load ! (from ! (stop !)) (look ! 40 refl))
       -- refused
       (λ no.
-      calls-values ! (an-answer 𝓤 H A W) fm (Refusing 𝓤 H A mem run) (known .refuses)
+      calls-values ! (a-long 𝓤 H A W) fm (Refusing 𝓤 H A mem run) (known .refuses)
       ((tt, tt, tt, (n, tt), (vint w8 n ∷ [], tt)), tt) (on-values W (pass (a-number 𝓤 H A W) n is-n ∷ []) (id⊢ 𝓤 _))
-      refusing.ended tt (n, tt) (λ a. a ≡ refused n) (λ u. id⊢ 𝓤 _)
-      (and-then ! (load ! (from ! (stop !)) (look ! 19 refl)) (no-more !)) 6 refl refl (λ a is-a told.
+      refusing.ended tt (n, tt) (λ w. Words w (refused n)) (λ u. id⊢ 𝓤 _)
+      (and-then ! (load ! (from ! (stop !)) (look ! 19 refl)) (no-more !)) 6 refl refl (λ w is-w told.
       leaves ! (F .s) (F .s) is (Post 𝓤 H A W mem run F) refl $
-      forget ! 7 refl $ forget ! 11 refl $ forget ! 13 refl $ forget ! 15 refl $ forget ! 17 refl $ forget ! 35 refl $
-      forget ! 37 refl $
+      forget ! 7 refl $ forget ! 11 refl $ forget ! 13 refl $ forget ! 15 refl $ forget ! 17 refl $ forget ! 37 refl $
+      forget ! 39 refl $
       freed ! (Env-of l) $
       by !
-      (exits 𝓤 H A W mem run F a (F .s) is-a
-      (ap (reply (F .s)) told
-      ∙ sym (entry-refused (tb F) (F .s) (sized (F .s) _ is) (F .b) (F .word) (F .finishing) n numbered (not-zero n no))))))
+      (exits 𝓤 H A W mem run F w (F .s) is-w told
+      (sym (entry-refused (tb F) (F .s) (sized (F .s) _ is) (F .b) (F .word) (F .finishing) n numbered (not-zero n no))))))
       -- passed
       (λ zero.
       skips ! $ exec ! C Λ (Env-of l) body.t-5 (atRet (Env-of l) (Post 𝓤 H A W mem run F)) $
-      forget ! 18 refl $ forget ! 36 refl $ forget ! 38 refl $ walk-choose 𝓤 H A W mem run F is C Λ fm known l (sym numbered ∙ is-zero n zero)))
+      forget ! 18 refl $ forget ! 38 refl $ forget ! 40 refl $ walk-choose 𝓤 H A W mem run F is C Λ fm known l (sym numbered ∙ is-zero n zero)))
 
 module _ {M : Type 1} (𝓤 : URA M) (H : Heap 𝓤) (A : Atoms 𝓤) (W : Given 𝓤 H A) (mem : Memory → SProp 𝓤) (run : Routine → Fun 𝓤) where
   walk : (F : Frame) (C : Calls 𝓤 H) (Λ : Loops 𝓤 H) → FmC 𝓤 H (W .laws) C → Known 𝓤 H A mem run C
@@ -124,20 +126,19 @@ module _ {M : Type 1} (𝓤 : URA M) (H : Heap 𝓤) (A : Atoms 𝓤) (W : Given
       alloc1 ! (λ l0. alloc1 ! (λ l1. alloc1 ! (λ l2. alloc1 ! (λ l3. alloc1 ! (λ l4. alloc1 ! (λ l5. alloc1 ! (λ l6.
       alloc1 ! (λ l7. alloc1 ! (λ l8. alloc1 ! (λ l9. alloc1 ! (λ l10. alloc1 ! (λ l11. alloc1 ! (λ l12. alloc1 ! (λ l13.
       alloc1 ! (λ l14. alloc1 ! (λ l15. alloc1 ! (λ l16. alloc1 ! (λ l17. alloc1 ! (λ l18. alloc1 ! (λ l19. alloc1 ! (λ l20.
-      alloc1 ! (λ l21. alloc1 ! (λ l22. alloc0 ! $ params1 ! $
-      pass1 ! (init ! 42 refl (shr-slice-lawful 𝓤 H A W (named 0) (F .κt) u8 .typed (F .table) (vt F ∷ []) pt .0)) $
-      pass1 ! (init ! 40 refl (tt, tt)) $ pass1 ! (init ! 38 refl (tt, record { fits = F .b-fits })) $
-      pass1 ! (init ! 36 refl (tt, record { fits = F .word-fits })) $ pass1 ! (init ! 34 refl (tt, tt)) $ pass0 ! $
-      move ! (47 ∷ []) $ fsplit ! $ move ! (1 ∷ []) $ fsplit ! $ fsplit3 ! $ drop ! $
-      move ! (50 ∷ []) $ split ! $ move ! (1 ∷ []) $ split ! $ move ! (2 ∷ 1 ∷ []) $ join ! $
+      alloc1 ! (λ l21. alloc1 ! (λ l22. alloc1 ! (λ l23. alloc0 ! $ params1 ! $
+      pass1 ! (init ! 44 refl (shr-slice-lawful 𝓤 H A W (named 0) (F .κt) u8 .typed (F .table) (vt F ∷ []) pt .0)) $
+      pass1 ! (init ! 42 refl (tt, tt)) $ pass1 ! (init ! 40 refl (tt, record { fits = F .b-fits })) $
+      pass1 ! (init ! 38 refl (tt, record { fits = F .word-fits })) $ pass1 ! (init ! 36 refl (tt, tt)) $ pass0 ! $
+      move ! (49 ∷ []) $ fsplit ! $ move ! (1 ∷ []) $ fsplit ! $ fsplit3 ! $ drop ! $
+      move ! (52 ∷ []) $ split ! $ move ! (1 ∷ []) $ split ! $ move ! (2 ∷ 1 ∷ []) $ join ! $
       -- Tokens, κs, what is observed, the borrow, what the other parameters own, OwnTable, the locals, the last first
       keep !
-      (2 ∷ 3 ∷ 1 ∷ 0 ∷ 5 ∷ 50 ∷ 51 ∷ 48 ∷ 49 ∷ 46 ∷ 47 ∷ 44 ∷ 45 ∷ 42 ∷ 43 ∷ 40 ∷ 41 ∷ 38 ∷ 39 ∷ 36 ∷ 37 ∷ 34 ∷ 35 ∷ 32
-      ∷ 33 ∷ 30 ∷ 31 ∷ 28 ∷ 29 ∷ 26 ∷ 27 ∷ 24 ∷ 25 ∷ 22 ∷ 23 ∷ 20 ∷ 21 ∷ 18 ∷ 19 ∷ 16 ∷ 17 ∷ 14 ∷ 15 ∷ 12 ∷ 13 ∷ 10 ∷ 11
-      ∷ 8 ∷ 9 ∷ 6 ∷ 7 ∷ []) $
+      (2 ∷ 3 ∷ 1 ∷ 0 ∷ 5 ∷ 52 ∷ 53 ∷ 50 ∷ 51 ∷ 48 ∷ 49 ∷ 46 ∷ 47 ∷ 44 ∷ 45 ∷ 42 ∷ 43 ∷ 40 ∷ 41 ∷ 38 ∷ 39 ∷ 36 ∷ 37 ∷ 34 ∷ 35 ∷ 32 ∷ 33 ∷ 30 ∷ 31 ∷ 28 ∷ 29 ∷ 26 ∷ 27 ∷ 24 ∷ 25 ∷ 22 ∷ 23 ∷ 20 ∷ 21 ∷ 18 ∷ 19 ∷ 16 ∷ 17 ∷ 14 ∷ 15 ∷ 12 ∷ 13 ∷ 10 ∷ 11 ∷ 8 ∷ 9 ∷ 6 ∷ 7 ∷ []) $
       opened ! tt (F .s) (λ is. move ! (4 ∷ 5 ∷ []) $
       walk-body 𝓤 H A W mem run F is C Λ fm known (λ i. getD
-      (l0 ∷ l1 ∷ l2 ∷ l3 ∷ l4 ∷ l5 ∷ l6 ∷ l7 ∷ l8 ∷ l9 ∷ l10 ∷ l11 ∷ l12 ∷ l13 ∷ l14 ∷ l15 ∷ l16 ∷ l17 ∷ l18 ∷ l19 ∷ l20 ∷ l21 ∷ l22 ∷ []) i 0)))))))))))))))))))))))))
+      (l0 ∷ l1 ∷ l2 ∷ l3 ∷ l4 ∷ l5 ∷ l6 ∷ l7 ∷ l8 ∷ l9 ∷ l10 ∷ l11
+      ∷ l12 ∷ l13 ∷ l14 ∷ l15 ∷ l16 ∷ l17 ∷ l18 ∷ l19 ∷ l20 ∷ l21 ∷ l22 ∷ l23 ∷ []) i 0))))))))))))))))))))))))))
 
   walks : (C : Calls 𝓤 H) (Λ : Loops 𝓤 H) → FmC 𝓤 H (W .laws) C → Known 𝓤 H A mem run C
       → Walks 𝓤 H A outer.ended stayed (WpFn 𝓤 H C Λ code.function) (outer.clauses 𝓤 H A mem run)
@@ -194,11 +195,13 @@ start-lent-spec 𝓤 H 𝓜 𝓖 𝓡 =
     (meets 𝓤 H (𝓖 .A) (givenOf 𝓤 H 𝓜 𝓖) (𝓜 .mem) (𝓡 .run) (tablesOf 𝓤 H 𝓜 (tables 𝓤 H 𝓜 𝓡 code.env))
     (record {
       refuses = cited 𝓤 H (Refusing 𝓤 H (𝓖 .A) (𝓜 .mem) (𝓡 .run)) 𝓜 𝓡 code.env refusing-def.name refusing-def.routine
-          code.calls-answer·refused (refusing-thm.met 𝓤 H 𝓜 𝓖 𝓡);
+          code.calls-answer·refused-word (refusing-thm.met 𝓤 H 𝓜 𝓖 𝓡);
       numbers = cited 𝓤 H (Numbering 𝓤 H (𝓖 .A) (𝓜 .mem) (𝓡 .run)) 𝓜 𝓡 code.env numbering-def.name numbering-def.routine
           code.calls-navigator·start-refusal (numbering-thm.met 𝓤 H 𝓜 𝓖 𝓡);
       seeks = cited 𝓤 H (Seeking 𝓤 H (𝓖 .A) (𝓜 .mem) (𝓡 .run)) 𝓜 𝓡 code.env seeking-def.name seeking-def.routine
           code.calls-starts·seek (seeking-thm.met 𝓤 H 𝓜 𝓖 𝓡);
+      reads = cited 𝓤 H (Reading 𝓤 H (𝓖 .A) (𝓜 .mem) (𝓡 .run)) 𝓜 𝓡 code.env reading-def.name reading-def.routine
+          code.calls-flags·read (reading-thm.met 𝓤 H 𝓜 𝓖 𝓡);
       chooses = cited 𝓤 H (Choosing 𝓤 H (𝓖 .A) (𝓜 .mem) (𝓡 .run)) 𝓜 𝓡 code.env choosing-def.name choosing-def.routine
           code.calls-starts·choose (choosing-thm.met 𝓤 H 𝓜 𝓖 𝓡);
       plans = cited 𝓤 H (Planning 𝓤 H (𝓖 .A) (𝓜 .mem) (𝓡 .run)) 𝓜 𝓡 code.env planning-def.name planning-def.routine

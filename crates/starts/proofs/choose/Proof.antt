@@ -3,7 +3,6 @@ use Prim.Native.Nat.{_<_}
 use mathlib.Core.Path.{_≡_, sym, _∙_, ap, subst}
 use borrow.Author.Needs.{needs}
 use Rattle.model.specs.declared.Choice.{Choice}
-use Rattle.model.specs.Flags.{flagsOf}
 use Rattle.model.specs.Deeds.{deedOf}
 use Rattle.model.specs.Search.{placeOf}
 use Rattle.model.specs.Rules.{choose}
@@ -24,7 +23,7 @@ stands : (c : tie.Start) → c .args .sought .index < c .args .s .n
 stands c =
     let a = c .args in
     let x = c .pre .1 in
-    index-stands (a .table .now) (a .s) (a .b) (sizes c) (c .pre .0) (flagsOf (a .word)) (a .sought .group) (x .found) (x .index)
+    index-stands (a .table .now) (a .s) (a .b) (sizes c) (c .pre .0) (a .f) (a .sought .group) (x .found) (x .index)
 
 filled : (c : tie.Start) → Filled (c .args .t)
 filled c =
@@ -34,12 +33,9 @@ filled c =
 shows : (c : tie.Start) → Shows (view (c .args .s)) (c .args .sought .found) (c .args .t)
 shows c = rw (c .pre .2) (stored-shows (c .args .s) (c .args .sought .found) (c .pre .1 .index) (stands c))
 
-read-requires : tie.Need-read-requires
-read-requires c κs = search needs
-
 rule-in-requires : tie.Need-rule-in-requires
 rule-in-requires c κs =
-    let start = c .before .before in
+    let start = c .before in
     let a = start .args in
     (filled start, own-row (a .table .now) (a .s) (a .b) (sizes start) (start .pre .0))
 
@@ -47,30 +43,29 @@ deed-of-requires : tie.Need-deed-of-requires
 deed-of-requires c κs = search needs
 
 room-refusal-requires : tie.Need-room-refusal-requires
-room-refusal-requires c κs = filled (c .before .before .before .before)
+room-refusal-requires c κs = filled (c .before .before .before)
 
 place-of-requires : tie.Need-place-of-requires
 place-of-requires c κs = search needs
 
 -- the rule and the task found are the definition's
 chosen : (c : tie.After-rule-in)
-    → let a = c .before .before .before .args in
-    record { rule = c .rule-in .result; found = a .sought .found } ≡ choose (a .table .now) (view (a .s)) (a .b) (flagsOf (a .word))
+    → let a = c .before .before .args in
+    record { rule = c .rule-in .result; found = a .sought .found } ≡ choose (a .table .now) (view (a .s)) (a .b) (a .f)
 chosen c =
-    let start = c .before .before .before in
+    let start = c .before .before in
     let a = start .args in
     let x = start .pre .1 in
-    let rule = rw (c .before .read .ensures) at (c .rule-in .ensures) in
-    chosen-in (a .table .now) (view (a .s)) (a .b) (flagsOf (a .word)) (a .sought .group) (sym (x .group)) (x .found)
-    (rule (view (a .s)) (shows start) (view-main (a .s)) (x .found))
+    chosen-in (a .table .now) (view (a .s)) (a .b) (a .f) (a .sought .group) (sym (x .group)) (x .found)
+    (c .rule-in .ensures (view (a .s)) (shows start) (view-main (a .s)) (x .found))
 
 returns : tie.Need-returns
 returns c =
     let deed = c .before .before in
-    let start = deed .before .before .before .before in
+    let start = deed .before .before .before in
     let a = start .args in
     let tb = a .table .now in
-    let f = flagsOf (a .word) in
+    let f = a .f in
     let e = chosen (deed .before) in
     let d = deed .deed-of .ensures ∙ ap (λ (x : Choice). deedOf (x .rule)) e in
     record {
@@ -81,4 +76,4 @@ returns c =
     }
 
 pub choose-spec : {M : Type 1} → statement M
-choose-spec = tie.close (tie.spec read-requires rule-in-requires deed-of-requires room-refusal-requires place-of-requires returns)
+choose-spec = tie.close (tie.spec rule-in-requires deed-of-requires room-refusal-requires place-of-requires returns)

@@ -4,7 +4,7 @@ use mathlib.Core.Path.{_≡_, refl, sym, _∙_, ap, subst}
 use mathlib.Core.Bool.{Bool, true, false, _||_, true≢false, false≢true}
 use native.Mathlib.Omega.{arith}
 use borrow.Author.Needs.{needs}
-use borrow.Author.Tests.{eqb-true, eqb-false, ltb-false}
+use borrow.Author.Tests.{ltb-false}
 use lib.Dec.{ltb}
 use Rattle.model.specs.Flags.{flagsOf}
 use Rattle.model.specs.Rules.{choose}
@@ -122,19 +122,13 @@ returns c =
       );
     }
 
--- ---- near, or alone
+-- ---- alone
 
 closed-in-requires : tie.Need-closed-in-requires
 closed-in-requires c κs =
-    let made = c .before .before in
-    let start = ofMade made in
-    front-open (sizes start) (start .pre .0) (room start) (picks start) (told made) (stays c .1)
-
-closed-in-requires-2 : tie.Need-closed-in-requires-2
-closed-in-requires-2 c κs =
     let made = c .before .before .before in
     let start = ofMade made in
-    second-open (sizes start) (start .pre .0) (room start) (picks start) (told made) (stays (c .before) .1)
+    front-open (sizes start) (start .pre .0) (room start) (picks start) (told made) (stays (c .before) .1)
 
 returns-2 : tie.Need-returns-2
 returns-2 c =
@@ -142,20 +136,40 @@ returns-2 c =
     let made = else .before .before in
     let start = ofMade made in
     let a = start .args in
-    let few = ltb-false 4 (made .before .before .before .before .before .shift-of .result) (stays else .0) in
-    let makes = put-makes (sizes start) (start .pre .0) (room start) (picks start) (told made) in
-    let front = c .before .closed-in .ensures in
-    let second = c .closed-in2 .ensures in
     record {
-      alone = λ e. rw front (subst (Makes (a .table .now) (a .t2) (a .b) (flagsOf (a .word)) (a .finishing))
-          (closed-alone (sizes start) (start .pre .0) (room start) (picks start) (told made) (stays else .1) (eqb-true (made .before .before .before .before .before .shift-of .result) 0 e)) makes);
-      near = λ e g.
-          let k = made .before .before .before .before .before .shift-of .result in
-          let some : 1 ≤ k = let n : (k ≡ 0 → ⊥) = eqb-false k 0 e in omega (arith, n) in (
-            (some, few),
-            rw (front, second) (subst (Makes (a .table .now) (a .t2) (a .b) (flagsOf (a .word)) (a .finishing))
-                (closed-near (sizes start) (start .pre .0) (room start) (picks start) (told made) (stays else .1) some) makes),
-          );
+      alone = λ e. rw (c .closed-in .ensures)
+          (subst (Makes (a .table .now) (a .t2) (a .b) (flagsOf (a .word)) (a .finishing))
+          (closed-alone (sizes start) (start .pre .0) (room start) (picks start) (told made) (stays else .1) (c .before .if2 .taken))
+          (put-makes (sizes start) (start .pre .0) (room start) (picks start) (told made)));
+      near = λ e g. absurd (true≢false e);
+      far = λ e. absurd (true≢false e);
+    }
+
+-- ---- near
+
+closed-in-requires-2 : tie.Need-closed-in-requires-2
+closed-in-requires-2 c κs =
+    let made = c .before .before .before in
+    let start = ofMade made in
+    second-open (sizes start) (start .pre .0) (room start) (picks start) (told made) (stays (c .before) .1)
+
+returns-3 : tie.Need-returns-3
+returns-3 c =
+    let else = c .before .before in
+    let made = else .before .before in
+    let start = ofMade made in
+    let a = start .args in
+    let k = made .before .before .before .before .before .shift-of .result in
+    let some : 1 ≤ k = let n : (k ≡ 0 → ⊥) = c .before .if2 .left in omega (arith, n) in
+    record {
+      alone = λ e. absurd (false≢true e);
+      near = λ e g. (
+        (some, ltb-false 4 k (stays else .0)),
+        rw (c .closed-in2 .ensures)
+            (subst (Makes (a .table .now) (a .t2) (a .b) (flagsOf (a .word)) (a .finishing))
+            (closed-near (sizes start) (start .pre .0) (room start) (picks start) (told made) (stays else .1) some)
+            (put-makes (sizes start) (start .pre .0) (room start) (picks start) (told made))),
+      );
       far = λ e. absurd (true≢false e);
     }
 
@@ -173,5 +187,6 @@ plan-start-spec =
     empties-requires
     returns
     closed-in-requires
+    returns-2
     closed-in-requires-2
-    returns-2)
+    returns-3)

@@ -17,7 +17,7 @@ use contract.Monad.{Fun}
 use types.Kit.{Given, Item, ‵, _⊛_, ⋆, _$_, _∵_, !, qed, move, split, join, fjoin, fjoin3, feqI, suffices, frame, done}
 use denote.Laws.{Is}
 use denote.Memory.{pointee}
-use denote.Builtin.{u8, u32, bool}
+use denote.Builtin.{u8, u32, u64, bool}
 use denote.Ref.{RefT, now}
 use denote.Slice.{sliceTy, sliceVal, ShrSlice}
 use denote.Signature.{plain}
@@ -25,8 +25,7 @@ use denote.Steps.{owned, nothing}
 use denote.Triple.Walked.{Stays, stay-ref, stay-none-slice, stay-dropped, walkOf, ends-at}
 use denote.Exit.{yes}
 use Rattle.model.specs.declared.Answer.{Answer}
-use Rattle.model.proofs.Answer as N
-use Rattle.model.proofs.Answer.Laws as N′
+use Rattle.model.proofs.Flags.Laws as L′
 use Rattle.session.specs.declared.Session.{Session}
 use Rattle.session.proofs.Task.Laws as T′
 use Rattle.session.proofs.Session as S
@@ -35,10 +34,12 @@ use Rattle.starts.specs.declared.Plan.{Plan}
 use Rattle.starts.proofs.Sought.Laws as Q′
 use Rattle.starts.proofs.Chosen.Laws as D′
 use Rattle.starts.proofs.Plan.Laws as P′
+use Rattle.answer.specs.Words.{Words}
+use Rattle.calls.specs.declared.Reply.{Reply}
 use Rattle.calls.specs.StoredCalls.{reply, callStored, startCall}
-use Rattle.calls.proofs.Reply.Laws as R′
-use Rattle.lent.proofs.Lending.{of-parts, ensuring, Shut, Open}
-use Rattle.lent.proofs.LendingCalls.{an-answer}
+use Rattle.calls.proofs.WordReply.Laws as G′
+use Rattle.lent.proofs.Lending.{of-word-parts, ensuring, Shut, Open}
+use Rattle.lent.proofs.LendingCalls.{a-long}
 use Rattle.lent.proofs.LendingWays.{vacant, holding}
 use Rattle.lent.proofs.start_lent as outer
 
@@ -87,8 +88,8 @@ module _ (F : Frame) where
   abbrev pub vals : List Val × (List Val × (List Val × (List Val × (List Val × Unit {0}))))
   vals = (vt ∷ [], (vptr (F .p) (F .o) ∷ [], (vint w8 (F .b) ∷ [], (vint w32 (F .word) ∷ [], (vbool (F .finishing) ∷ [], tt)))))
 
--- ---- the locals: 0 is the answer, 1 to 5 the parameters, 6 the number, 7 what is sought, 8 its index, 9 the task, 10 what is
--- chosen, 11 the plan, 12 to 14 the replies, 15, 21 and 22 copies of the session, 16 the tests, 17 to 20 the way to the task
+-- ---- the locals: 0 is the answer, 1 to 5 the parameters, 6 the number, 7 the flags, 8 what is sought, 9 its index, 10 the task,
+-- 11 what is chosen, 12 the plan, 13 to 15 the replies, 16, 22 and 23 copies of the session, 17 the tests, 18 to 21 the way to the task
 
 abbrev tableTy : Ty
 tableTy = sliceTy (tyRef (named 0) imm (tyInt w8))
@@ -99,10 +100,10 @@ lentTy = tyRef (named 1) mut (pointee (S.the-row .written))
 -- local i lies at l i
 abbrev pub Env-of : (ℕ → ℕ) → List (Ty × ℕ)
 Env-of l =
-    (N′.mir, l 0) ∷ (tableTy, l 1) ∷ (lentTy, l 2) ∷ (tyInt w8, l 3) ∷ (tyInt w32, l 4) ∷ (tyBool, l 5) ∷ (tyInt w8, l 6)
-    ∷ (Q′.mir, l 7) ∷ (tyInt w64, l 8) ∷ (T′.mir, l 9) ∷ (D′.mir, l 10) ∷ (P′.mir, l 11) ∷ (R′.mir, l 12) ∷ (R′.mir, l 13)
-    ∷ (R′.mir, l 14) ∷ (S′.mir, l 15) ∷ (tyBool, l 16) ∷ (tyInt w64, l 17) ∷ (tyPtr, l 18) ∷ (tyPtr, l 19) ∷ (T′.mir, l 20)
-    ∷ (S′.mir, l 21) ∷ (S′.mir, l 22) ∷ []
+    (tyInt w64, l 0) ∷ (tableTy, l 1) ∷ (lentTy, l 2) ∷ (tyInt w8, l 3) ∷ (tyInt w32, l 4) ∷ (tyBool, l 5) ∷ (tyInt w8, l 6)
+    ∷ (L′.mir, l 7) ∷ (Q′.mir, l 8) ∷ (tyInt w64, l 9) ∷ (T′.mir, l 10) ∷ (D′.mir, l 11) ∷ (P′.mir, l 12) ∷ (G′.mir, l 13) ∷ (G′.mir, l 14)
+    ∷ (G′.mir, l 15) ∷ (S′.mir, l 16) ∷ (tyBool, l 17) ∷ (tyInt w64, l 18) ∷ (tyPtr, l 19) ∷ (tyPtr, l 20) ∷ (T′.mir, l 21)
+    ∷ (S′.mir, l 22) ∷ (S′.mir, l 23) ∷ []
 
 -- ---- the contexts: the token of the table's lifetime, what the table owns, the open borrow, and each local with its end
 
@@ -119,28 +120,28 @@ module _ {M : Type 1} (𝓤 : URA M) (F : Frame) where
     abbrev Opened : List (Item 𝓤) → List (Item 𝓤)
     Opened Γ =
         Tokens ∷ ‵ (OwnTable F) ∷ Open (F .κs) (F .qs) (F .γ) (F .p) (F .o) (F .s)
-        (vacant N′.mir (l 0) (holding tableTy (vt F) (l 1) (holding lentTy (vptr (F .p) (F .o)) (l 2) Γ)))
+        (vacant (tyInt w64) (l 0) (holding tableTy (vt F) (l 1) (holding lentTy (vptr (F .p) (F .o)) (l 2) Γ)))
 
     abbrev Behind : List (Item 𝓤)
     Behind =
-        vacant R′.mir (l 12) (vacant R′.mir (l 13) (vacant R′.mir (l 14) (vacant S′.mir (l 15) (vacant tyBool (l 16)
-        (vacant (tyInt w64) (l 17) (vacant tyPtr (l 18) (vacant tyPtr (l 19) (vacant T′.mir (l 20) (vacant S′.mir (l 21)
-        (vacant S′.mir (l 22) []))))))))))
+        vacant G′.mir (l 13) (vacant G′.mir (l 14) (vacant G′.mir (l 15) (vacant S′.mir (l 16) (vacant tyBool (l 17)
+        (vacant (tyInt w64) (l 18) (vacant tyPtr (l 19) (vacant tyPtr (l 20) (vacant T′.mir (l 21) (vacant S′.mir (l 22)
+        (vacant S′.mir (l 23) []))))))))))
 
     abbrev Middle : List (Item 𝓤) → List (Item 𝓤)
-    Middle Γ = vacant (tyInt w8) (l 6) (vacant Q′.mir (l 7) (vacant (tyInt w64) (l 8) (vacant T′.mir (l 9) (vacant D′.mir (l 10) Γ))))
+    Middle Γ = vacant (tyInt w8) (l 6) (vacant L′.mir (l 7) (vacant Q′.mir (l 8) (vacant (tyInt w64) (l 9) (vacant T′.mir (l 10) (vacant D′.mir (l 11) Γ)))))
 
     abbrev pub At-start : List (Item 𝓤)
     At-start =
         Opened
         (holding (tyInt w8) (vint w8 (F .b)) (l 3) (holding (tyInt w32) (vint w32 (F .word)) (l 4)
-        (holding tyBool (vbool (F .finishing)) (l 5) (Middle (vacant P′.mir (l 11) Behind)))))
+        (holding tyBool (vbool (F .finishing)) (l 5) (Middle (vacant P′.mir (l 12) Behind)))))
 
     abbrev pub At-plan : Plan → List (Item 𝓤)
     At-plan x =
         Opened
         (vacant (tyInt w8) (l 3) (vacant (tyInt w32) (l 4) (vacant tyBool (l 5)
-        (Middle (holding P′.mir (P′.lowered x) (l 11) Behind)))))
+        (Middle (holding P′.mir (P′.lowered x) (l 12) Behind)))))
 
 -- ---- how it ends
 
@@ -151,21 +152,23 @@ module _ {M : Type 1} (𝓤 : URA M) (H : Heap 𝓤) (A : Atoms 𝓤) (W : Given
       walkOf 𝓤 H A outer.ended stayed (outer.clauses 𝓤 H A mem run) .post
       (((F .κt, (F .κs, tt)), (F .qt, (F .qs, tt)), tt, args F, vals F), tt)
 
-  pub exits : (a : Answer) (s′ : Session) → Is N.the-row a (N′.lowered a ∷ [])
-      → reply s′ a ≡ callStored (tb F) (F .s) (startCall (F .finishing) (F .b) (F .word))
-      → ent 𝓤 (⋆ 𝓤 H A (Left 𝓤 F s′)) (Post (N′.lowered a))
-  exits a s′ is e =
+  abbrev Result : Reply
+  Result = callStored (tb F) (F .s) (startCall (F .finishing) (F .b) (F .word))
+
+  pub exits : (w : ℕ) (s′ : Session) → Is u64 w (vint w64 w ∷ []) → {a : Answer} → Words w a → reply s′ a ≡ Result
+      → ent 𝓤 (⋆ 𝓤 H A (Left 𝓤 F s′)) (Post (vint w64 w))
+  exits w s′ is words e =
       qed W (Left 𝓤 F s′) ∵
       suffices ! _
       (ends-at 𝓤 H A outer.ended stayed (outer.clauses 𝓤 H A mem run) W
-      (((F .κt, (F .κs, tt)), (F .qt, (F .qs, tt)), tt, args F, vals F), tt) (N′.lowered a) a
+      (((F .κt, (F .κs, tt)), (F .qt, (F .qs, tt)), tt, args F, vals F), tt) (vint w64 w) w
       (tt, (s′, (tt, (tt, (tt, tt))))) (tt, (tt, (tt, (tt, (tt, tt)))))) $
-      ensuring ! (of-parts 𝓤 e) $
+      ensuring ! (of-word-parts 𝓤 words e) $
       -- the tokens
       move ! (3 ∷ []) $ split ! $ move ! (4 ∷ 1 ∷ []) $ join ! $ move ! (1 ∷ 0 ∷ []) $ join ! $ frame ! $
       -- the parameters
       feqI ! (List Val) (vptr (F .p) (F .o) ∷ []) (vptr (F .p) (F .o) ∷ []) refl $ fjoin3 ! $
       nothing ! $ nothing ! $ fjoin ! $ nothing ! $ fjoin ! $ nothing ! $ fjoin ! $
       move ! (1 ∷ 0 ∷ []) $ fjoin ! $ move ! (1 ∷ 0 ∷ []) $ fjoin ! $
-      -- the answer
-      owned ! N.the-row (Is N.the-row) (an-answer 𝓤 H A W .makes) a _ is $ move ! (1 ∷ 0 ∷ []) $ done !
+      -- the word
+      owned ! u64 (Is u64) (a-long 𝓤 H A W .makes) w _ is $ move ! (1 ∷ 0 ∷ []) $ done !

@@ -1,0 +1,37 @@
+-- The answer is had back from its word, number by number.
+use Prim.Native.Nat.{ℕ, _/_, _%_}
+use mathlib.Core.Path.{_≡_}
+use native.Mathlib.Nat.{mod-eq-of-lt}
+use lib.Arith.{digits-div, digits-mod}
+use Rattle.model.specs.declared.Answer.{Answer}
+use Rattle.answer.specs.Words.{Words}
+
+-- the answer that a word is taken apart into
+abbrev pub taken : ℕ → Answer
+taken w =
+    record {
+      refusal = w % 256;
+      screen = w / 256 % 256;
+      root = w / 256 / 256 % 256;
+      height = w / 256 / 256 / 256 % 256;
+      tasks = w / 256 / 256 / 256 / 256 % 256;
+      main = w / 256 / 256 / 256 / 256 / 256 % 256;
+    }
+
+pub taken-back : (w : ℕ) (a : Answer) → Words w a → taken w ≡ a
+taken-back w a h =
+    let b = h .bytes in
+    rw (
+      h .word,
+      digits-mod _ (b .refusal),
+      digits-div _ (b .refusal),
+      digits-mod _ (b .screen),
+      digits-div _ (b .screen),
+      digits-mod _ (b .root),
+      digits-div _ (b .root),
+      digits-mod _ (b .height),
+      digits-div _ (b .height),
+      digits-mod _ (b .tasks),
+      digits-div _ (b .tasks),
+      mod-eq-of-lt (b .main),
+    )
