@@ -2,6 +2,5 @@ pub mod Lending
 pub mod LendingAlone
 pub mod LendingCalls
 pub mod LendingOn
-pub mod LendingStart
 pub mod LendingTask
 pub mod LendingWays

@@ -1,6 +1,7 @@
 -- `lent::start_lent` meets its contract: a walk of its code by hand. Its number decides whether it is refused at its entry;
 -- Proof/Choose.antt has the way from there to the plan, and Proof/Put.antt what the plan puts. Proof/Contexts.antt has the locals and
 -- the contexts. All that the proof knows of the functions called is their contracts.
+mod Callees
 mod Contexts
 mod Put
 mod Choose
@@ -63,7 +64,7 @@ use Rattle.navigator.proofs.start_refusal.Met as numbering-thm
 use Rattle.navigator.proofs.start_refusal.Symbol as numbering-def
 use Rattle.lent.proofs.LendingCalls.{Passed, pass, denots, lows, a-number, a-session, a-long, on-values, on-table, calls-values, calls-table}
 use Rattle.lent.proofs.LendingWays.{not-zero, is-zero, freed, opened, leaves}
-use Rattle.lent.proofs.LendingStart.{a-word, Refusing, Numbering, Reading, Seeking, Choosing, Planning, Alone, Near, Far, Known}
+use Rattle.lent.proofs.start_lent.Proof.Callees.{a-word, Refusing, Numbering, Reading, Seeking, Choosing, Planning, Alone, Near, Far, Known}
 use Rattle.lent.proofs.start_lent as outer
 use Rattle.lent.proofs.start_lent.Code as code
 use Rattle.lent.proofs.start_lent.Code.Mir as body

@@ -47,7 +47,7 @@ use Rattle.calls.proofs.StartSteps.{entered-ready, entered, startable, sought-i
 use Rattle.lent.proofs.LendingCalls.{Passed, pass, denots, lows, a-number, a-bool, a-session, a-long, on-values, on-table, calls-values, calls-table}
 use Rattle.lent.proofs.LendingWays.{not-zero, is-zero, freed, leaves}
 use Rattle.lent.proofs.LendingTask.{look-task, task-is}
-use Rattle.lent.proofs.LendingStart.{a-word, flags-read, Reading, a-task, a-sought, a-chosen, a-plan, number-is, Refusing, Seeking, Choosing, Planning, Known}
+use Rattle.lent.proofs.start_lent.Proof.Callees.{a-word, flags-read, Reading, a-task, a-sought, a-chosen, a-plan, number-is, Refusing, Seeking, Choosing, Planning, Known}
 use Rattle.lent.proofs.start_lent.Code.Mir as body
 use Rattle.lent.proofs.start_lent.Proof.Contexts.{Frame, tb, vt, Env-of, At-start, Post, exits}
 use Rattle.lent.proofs.start_lent.Proof.Put.{walk-put}

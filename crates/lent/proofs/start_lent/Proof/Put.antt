@@ -33,7 +33,7 @@ use Rattle.calls.proofs.start_near as near
 use Rattle.calls.proofs.start_far as far
 use Rattle.lent.proofs.LendingCalls.{Passed, pass, denots, lows, a-session, a-word-reply, on-values, calls-values}
 use Rattle.lent.proofs.LendingWays.{word-is, held, failed, freed, stores-word}
-use Rattle.lent.proofs.LendingStart.{a-plan, Alone, Near, Far, Known}
+use Rattle.lent.proofs.start_lent.Proof.Callees.{a-plan, Alone, Near, Far, Known}
 use Rattle.lent.proofs.start_lent.Code.Mir as body
 use Rattle.lent.proofs.start_lent.Proof.Contexts.{Frame, tb, Env-of, At-plan, Post, exits}
 

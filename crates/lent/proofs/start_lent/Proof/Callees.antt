@@ -13,7 +13,6 @@ use ghost.Atoms.{Atoms}
 use contract.Monad.{Fun}
 use types.Kit.{Given}
 use denote.Builtin.{u8, u32}
-use denote.Plain.{uint-tells, uint-makes}
 use denote.Laws.{Is}
 use denote.Struct.Laws as LL
 use denote.Triple.Statement.{Contract, Triple}
@@ -47,58 +46,28 @@ use Rattle.calls.proofs.start_near as near
 use Rattle.calls.proofs.start_near.Symbol as near-def
 use Rattle.calls.proofs.start_far as far
 use Rattle.calls.proofs.start_far.Symbol as far-def
-use Rattle.lent.proofs.LendingCalls.{Value}
+use Rattle.lent.proofs.LendingCalls.{Value, of-width, of-struct}
 
 -- ---- the values
 
 module _ {M : Type 1} (𝓤 : URA M) (H : Heap 𝓤) (A : Atoms 𝓤) (W : Given 𝓤 H A) where
   abbrev pub a-word : Value W u32 (tyInt w32)
-  a-word = record {
-    low = vint w32;
-    low-is = uint-tells w32;
-    typed = λ x is. (tt, record { fits = is .1 });
-    makes = uint-makes 𝓤 H A W w32;
-  }
+  a-word = of-width 𝓤 H A W w32
 
   abbrev pub flags-read : Value W L.the-row L′.mir
-  flags-read = record {
-    low = L′.lowered;
-    low-is = L′.lowers .val-is;
-    typed = λ x is. LL.lawful L.the-type L′.the-laws 𝓤 H A W .typed x _ is .0;
-    makes = LL.makes L.the-type L′.the-plain 𝓤 H A;
-  }
+  flags-read = of-struct 𝓤 H A W L.the-type L′.the-laws L′.lowers L′.the-plain
 
   abbrev pub a-task : Value W T.the-row T′.mir
-  a-task = record {
-    low = T′.lowered;
-    low-is = T′.lowers .val-is;
-    typed = λ x is. LL.lawful T.the-type T′.the-laws 𝓤 H A W .typed x _ is .0;
-    makes = LL.makes T.the-type T′.the-plain 𝓤 H A;
-  }
+  a-task = of-struct 𝓤 H A W T.the-type T′.the-laws T′.lowers T′.the-plain
 
   abbrev pub a-sought : Value W Q.the-row Q′.mir
-  a-sought = record {
-    low = Q′.lowered;
-    low-is = Q′.lowers .val-is;
-    typed = λ x is. LL.lawful Q.the-type Q′.the-laws 𝓤 H A W .typed x _ is .0;
-    makes = LL.makes Q.the-type Q′.the-plain 𝓤 H A;
-  }
+  a-sought = of-struct 𝓤 H A W Q.the-type Q′.the-laws Q′.lowers Q′.the-plain
 
   abbrev pub a-chosen : Value W D.the-row D′.mir
-  a-chosen = record {
-    low = D′.lowered;
-    low-is = D′.lowers .val-is;
-    typed = λ x is. LL.lawful D.the-type D′.the-laws 𝓤 H A W .typed x _ is .0;
-    makes = LL.makes D.the-type D′.the-plain 𝓤 H A;
-  }
+  a-chosen = of-struct 𝓤 H A W D.the-type D′.the-laws D′.lowers D′.the-plain
 
   abbrev pub a-plan : Value W P.the-row P′.mir
-  a-plan = record {
-    low = P′.lowered;
-    low-is = P′.lowers .val-is;
-    typed = λ x is. LL.lawful P.the-type P′.the-laws 𝓤 H A W .typed x _ is .0;
-    makes = LL.makes P.the-type P′.the-plain 𝓤 H A;
-  }
+  a-plan = of-struct 𝓤 H A W P.the-type P′.the-laws P′.lowers P′.the-plain
 
 -- the number of what is chosen has its machine value
 pub number-is : (x : Chosen) (vs : List Val) → Is D.the-row x vs → Is u8 (x .number) (vint w8 (x .number) ∷ [])
