@@ -2,8 +2,8 @@
 
 mod common;
 
-use common::{image, navigator, table_t};
-use milchkompass::{Answer, Flags, Navigator, Refusal, Table};
+use common::{image, session, table_t};
+use milchkompass::{Answer, Flags, Refusal, Session, Table};
 
 const NTK: Flags = Flags::NEW_TASK;
 const STP: Flags = Flags::SINGLE_TOP;
@@ -24,26 +24,26 @@ fn answer(screen: u8, root: u8, height: u8, tasks: u8, main: u8) -> Answer {
 
 #[test]
 fn the_players_example() {
-    let mut n = Navigator::new(table_t());
-    assert!(n.look().is_empty());
-    assert_eq!(n.launch(), Ok(answer(0, 0, 1, 1, 1)));
-    assert_eq!(n.start(1, Flags::NONE), Ok(answer(1, 0, 2, 1, 1)));
-    assert_eq!(n.start(3, Flags::NONE), Ok(answer(3, 3, 1, 2, 2)));
-    assert_eq!(n.look(), answer(3, 3, 1, 2, 2));
-    assert_eq!(n.finish_start(0, NTK), Ok(answer(0, 0, 3, 1, 1)));
-    assert_eq!(n.back(), Ok(answer(1, 0, 2, 1, 1)));
-    assert_eq!(n.back(), Ok(answer(0, 0, 1, 1, 1)));
-    assert_eq!(n.back(), Ok(answer(0, 0, 0, 0, 0)));
-    assert_eq!(n.back(), Err(Refusal::Empty));
-    assert_eq!(n, Navigator::new(table_t()));
+    let mut s = Session::new(table_t());
+    assert!(s.look().is_empty());
+    assert_eq!(s.launch(), Ok(answer(0, 0, 1, 1, 1)));
+    assert_eq!(s.start(1, Flags::NONE), Ok(answer(1, 0, 2, 1, 1)));
+    assert_eq!(s.start(3, Flags::NONE), Ok(answer(3, 3, 1, 2, 2)));
+    assert_eq!(s.look(), answer(3, 3, 1, 2, 2));
+    assert_eq!(s.finish_start(0, NTK), Ok(answer(0, 0, 3, 1, 1)));
+    assert_eq!(s.back(), Ok(answer(1, 0, 2, 1, 1)));
+    assert_eq!(s.back(), Ok(answer(0, 0, 1, 1, 1)));
+    assert_eq!(s.back(), Ok(answer(0, 0, 0, 0, 0)));
+    assert_eq!(s.back(), Err(Refusal::Empty));
+    assert_eq!(s, Session::new(table_t()));
 }
 
 #[test]
 fn stacks_of_starts() {
-    let p1 = navigator(&[(0, &[2, 1, 0])], 1);
-    let p4 = navigator(&[(4, &[4]), (3, &[3]), (0, &[1, 0])], 3);
-    let p6 = navigator(&[(5, &[1, 5]), (0, &[0])], 2);
-    let p7 = navigator(&[(3, &[3]), (0, &[0])], 2);
+    let p1 = session(&[(0, &[2, 1, 0])], 1);
+    let p4 = session(&[(4, &[4]), (3, &[3]), (0, &[1, 0])], 3);
+    let p6 = session(&[(5, &[1, 5]), (0, &[0])], 2);
+    let p7 = session(&[(3, &[3]), (0, &[0])], 2);
     for (before, screen, flags, after) in [
         (&p1, 1, RTF, "0:[1,2,0], m 1"),
         (&p1, 1, CTP, "0:[1,0], m 1"),
@@ -54,39 +54,39 @@ fn stacks_of_starts() {
         (&p6, 5, NTK, "5:[1,5] 0:[0], m 2"),
         (&p7, 3, NTK | MTK, "3:[3] 0:[0], m 2"),
     ] {
-        let mut n = before.clone();
-        assert_eq!(n.start(screen, flags), Ok(n.look()));
-        assert_eq!(n.to_string(), after, "start {screen} of {before}");
+        let mut s = before.clone();
+        assert_eq!(s.start(screen, flags), Ok(s.look()));
+        assert_eq!(s.to_string(), after, "start {screen} of {before}");
     }
 }
 
 #[test]
 fn stacks_of_finishing_starts() {
     for (flags, after) in [(NTK | CTK, "0:[0], m 1"), (NTK | STP, "m 0")] {
-        let mut n = navigator(&[(0, &[0])], 1);
-        assert_eq!(n.finish_start(0, flags), Ok(n.look()));
-        assert_eq!(n.to_string(), after);
+        let mut s = session(&[(0, &[0])], 1);
+        assert_eq!(s.finish_start(0, flags), Ok(s.look()));
+        assert_eq!(s.to_string(), after);
     }
 }
 
 #[test]
 fn save_and_restore() {
-    let p10 = navigator(&[(3, &[3]), (0, &[1, 0])], 2);
+    let p10 = session(&[(3, &[3]), (0, &[1, 0])], 2);
     let saved = p10.save();
     assert_eq!(saved, [3, 1, 3, 0, 2, 1, 0, 0, 7, 2, 2, 8, 0x42]);
     assert_eq!(saved, image(&[(3, &[3]), (0, &[1, 0])], 2));
     let mut buffer = [0xee; 14];
     assert_eq!(p10.save_into(&mut buffer), Ok(13));
     assert_eq!((&buffer[..13], buffer[13]), (&saved[..], 0xee));
-    let mut n = navigator(&[(0, &[2, 1, 0])], 1);
-    assert_eq!(n.restore(&saved), Ok(answer(3, 3, 1, 2, 2)));
-    assert_eq!(n, p10);
+    let mut s = session(&[(0, &[2, 1, 0])], 1);
+    assert_eq!(s.restore(&saved), Ok(answer(3, 3, 1, 2, 2)));
+    assert_eq!(s, p10);
 }
 
 #[test]
 fn the_longest_image() {
     let tasks: [(u8, &[u8]); 16] = [(1, &[1; 32]); 16];
-    let full = navigator(&tasks, 0);
+    let full = session(&tasks, 0);
     assert_eq!(full.save().len(), 550);
     assert_eq!(full.save(), image(&tasks, 0));
 }
@@ -96,7 +96,7 @@ fn tables_and_flags() {
     let bytes = [6, 0, 0, 1, 0, 1, 1, 1, 2, 2, 3, 1, 0, 2];
     assert_eq!(table_t().bytes(), bytes);
     assert_eq!(Table::from_bytes(&bytes), Ok(table_t()));
-    assert_eq!(Navigator::new(table_t()).table(), &table_t());
+    assert_eq!(Session::new(table_t()).table(), &table_t());
     let mut flags = NTK;
     flags |= CTK;
     assert_eq!(flags, Flags::from_bits(0x1000_8000));

@@ -1,10 +1,10 @@
 //! Every refusal that a caller can provoke, and that it changes nothing. 20
-//! cannot be: the session of a navigator is its own.
+//! cannot be: a session's storage is its own.
 
 mod common;
 
-use common::{image, navigator, table_t};
-use milchkompass::{Flags, LaunchMode, Navigator, Refusal, Screen, Table};
+use common::{image, session, table_t};
+use milchkompass::{Flags, LaunchMode, Refusal, Screen, Session, Table};
 
 const PLAIN: Screen = Screen::new(LaunchMode::Standard, 0);
 
@@ -24,16 +24,16 @@ fn tables() {
 }
 
 /// A start and a finishing start are both refused so, and change nothing.
-fn starts_refused(before: &Navigator, screen: u8, flags: Flags, refusal: Refusal) {
-    let mut n = before.clone();
-    assert_eq!(n.start(screen, flags), Err(refusal));
-    assert_eq!(n.finish_start(screen, flags), Err(refusal));
-    assert_eq!(&n, before);
+fn starts_refused(before: &Session, screen: u8, flags: Flags, refusal: Refusal) {
+    let mut s = before.clone();
+    assert_eq!(s.start(screen, flags), Err(refusal));
+    assert_eq!(s.finish_start(screen, flags), Err(refusal));
+    assert_eq!(&s, before);
 }
 
 #[test]
 fn starts() {
-    let fresh = Navigator::new(table_t());
+    let fresh = Session::new(table_t());
     let other = Flags::from_bits(1);
     starts_refused(&fresh, 6, other, Refusal::NoSuchScreen);
     starts_refused(&fresh, 0, other, Refusal::OtherFlag);
@@ -44,30 +44,30 @@ fn starts() {
 fn full_sessions_and_tasks() {
     let apart = Flags::NEW_TASK | Flags::MULTIPLE_TASK;
     let task: (u8, &[u8]) = (0, &[0]);
-    let tasks = navigator(&[task; 16], 1);
+    let tasks = session(&[task; 16], 1);
     starts_refused(&tasks, 0, apart, Refusal::TasksFull);
-    let mut room = navigator(&[task; 15], 1);
+    let mut room = session(&[task; 15], 1);
     assert!(room.start(0, apart).is_ok());
-    let screens = navigator(&[(0, &[0; 32])], 1);
+    let screens = session(&[(0, &[0; 32])], 1);
     starts_refused(&screens, 1, Flags::NONE, Refusal::TaskFull);
-    let mut room = navigator(&[(0, &[0; 31])], 1);
+    let mut room = session(&[(0, &[0; 31])], 1);
     assert!(room.start(1, Flags::NONE).is_ok());
 }
 
 #[test]
 fn launch_and_back() {
-    let mut fresh = Navigator::new(table_t());
+    let mut fresh = Session::new(table_t());
     assert_eq!(fresh.back(), Err(Refusal::Empty));
-    assert_eq!(fresh, Navigator::new(table_t()));
-    let before = navigator(&[(3, &[3]), (0, &[1, 0])], 2);
-    let mut n = before.clone();
-    assert_eq!(n.launch(), Err(Refusal::NotEmpty));
-    assert_eq!(n, before);
+    assert_eq!(fresh, Session::new(table_t()));
+    let before = session(&[(3, &[3]), (0, &[1, 0])], 2);
+    let mut s = before.clone();
+    assert_eq!(s.launch(), Err(Refusal::NotEmpty));
+    assert_eq!(s, before);
 }
 
 #[test]
 fn images() {
-    let before = navigator(&[(3, &[3]), (0, &[1, 0])], 2);
+    let before = session(&[(3, &[3]), (0, &[1, 0])], 2);
     let cut = &before.save()[1..];
     for (image, refusal) in [
         (cut, Refusal::ImageTrailer),
@@ -76,9 +76,9 @@ fn images() {
         (&image(&[(0, &[6])], 0), Refusal::ImageUnsound),
         (&image(&[(0, &[4])], 0), Refusal::ImageUnsound),
     ] {
-        let mut n = before.clone();
-        assert_eq!(n.restore(image), Err(refusal));
-        assert_eq!(n, before);
+        let mut s = before.clone();
+        assert_eq!(s.restore(image), Err(refusal));
+        assert_eq!(s, before);
     }
     let mut buffer = [0xee; 12];
     assert_eq!(before.save_into(&mut buffer), Err(Refusal::BufferShort));

@@ -1,6 +1,6 @@
 //! Table T, and sessions from their stacks.
 
-use milchkompass::{LaunchMode, Navigator, Screen, Table};
+use milchkompass::{LaunchMode, Screen, Session, Table};
 
 /// Table T of document 01.
 pub fn table_t() -> Table {
@@ -29,9 +29,9 @@ pub fn image(tasks: &[(u8, &[u8])], main: u8) -> Vec<u8> {
 }
 
 /// The session of these tasks under table T.
-pub fn navigator(tasks: &[(u8, &[u8])], main: u8) -> Navigator {
-    let mut navigator = Navigator::new(table_t());
-    let restored = navigator.restore(&image(tasks, main));
+pub fn session(tasks: &[(u8, &[u8])], main: u8) -> Session {
+    let mut session = Session::new(table_t());
+    let restored = session.restore(&image(tasks, main));
     restored.expect("a sound session");
-    navigator
+    session
 }

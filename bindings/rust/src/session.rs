@@ -33,17 +33,17 @@ impl Answer {
 /// It shows its tasks, front first, as `root:[top,..,bottom]`, and the main
 /// place: `3:[3] 0:[1,0], m 2`.
 #[derive(Clone, PartialEq, Eq)]
-pub struct Navigator {
+pub struct Session {
     table: Table,
-    session: raw::Session,
+    stored: raw::Session,
 }
 
-impl Navigator {
+impl Session {
     /// A fresh session: no task.
-    pub fn new(table: Table) -> Navigator {
-        Navigator {
+    pub fn new(table: Table) -> Session {
+        Session {
             table,
-            session: raw::Session::FRESH,
+            stored: raw::Session::FRESH,
         }
     }
 
@@ -55,7 +55,7 @@ impl Navigator {
     /// Launch: one task of the main screen alone, which is the main task.
     /// Refused with [`NotEmpty`](Refusal::NotEmpty).
     pub fn launch(&mut self) -> Result<Answer, Refusal> {
-        outcome(raw::launch(self.table.bytes(), &mut self.session))
+        outcome(raw::launch(self.table.bytes(), &mut self.stored))
     }
 
     /// Start of a screen, by the first of the rules R1 to R18 that fits.
@@ -64,25 +64,25 @@ impl Navigator {
     /// [`TasksFull`](Refusal::TasksFull) or [`TaskFull`](Refusal::TaskFull).
     pub fn start(&mut self, screen: u8, flags: Flags) -> Result<Answer, Refusal> {
         let table = self.table.bytes();
-        outcome(raw::start(table, &mut self.session, screen, flags.bits()))
+        outcome(raw::start(table, &mut self.stored, screen, flags.bits()))
     }
 
-    /// Finishing start: as [`start`](Navigator::start), and then the screen
+    /// Finishing start: as [`start`](Session::start), and then the screen
     /// that was in front is removed, if it still stands. Refused as a start is.
     pub fn finish_start(&mut self, screen: u8, flags: Flags) -> Result<Answer, Refusal> {
         let (table, word) = (self.table.bytes(), flags.bits());
-        outcome(raw::finish_start(table, &mut self.session, screen, word))
+        outcome(raw::finish_start(table, &mut self.stored, screen, word))
     }
 
     /// Back: the front screen goes, and its task too if that was its last.
     /// Refused with [`Empty`](Refusal::Empty).
     pub fn back(&mut self) -> Result<Answer, Refusal> {
-        outcome(raw::back(self.table.bytes(), &mut self.session))
+        outcome(raw::back(self.table.bytes(), &mut self.stored))
     }
 
     /// Look: what is in front now.
     pub fn look(&self) -> Answer {
-        outcome(raw::look(self.table.bytes(), &self.session)).expect(NEVER)
+        outcome(raw::look(self.table.bytes(), &self.stored)).expect(NEVER)
     }
 
     /// Save: the session's image.
@@ -96,7 +96,7 @@ impl Navigator {
     /// Save at the start of a buffer: the image's length. The rest of the
     /// buffer stays. Refused with [`BufferShort`](Refusal::BufferShort).
     pub fn save_into(&self, buffer: &mut [u8]) -> Result<usize, Refusal> {
-        let reply = raw::save(self.table.bytes(), &self.session, buffer);
+        let reply = raw::save(self.table.bytes(), &self.stored, buffer);
         Refusal::check(reply.refusal)?;
         Ok(reply.length)
     }
@@ -106,7 +106,7 @@ impl Navigator {
     /// [`ImageTasks`](Refusal::ImageTasks), then
     /// [`ImageUnsound`](Refusal::ImageUnsound).
     pub fn restore(&mut self, image: &[u8]) -> Result<Answer, Refusal> {
-        outcome(raw::restore(self.table.bytes(), &mut self.session, image))
+        outcome(raw::restore(self.table.bytes(), &mut self.stored, image))
     }
 }
 
@@ -124,9 +124,9 @@ fn outcome(answer: raw::Answer) -> Result<Answer, Refusal> {
     })
 }
 
-impl fmt::Display for Navigator {
+impl fmt::Display for Session {
     fn fmt(&self, f: &mut fmt::Formatter) -> fmt::Result {
-        let tasks = &self.session.tasks[..usize::from(self.session.n)];
+        let tasks = &self.stored.tasks[..usize::from(self.stored.n)];
         for (i, task) in tasks.iter().enumerate() {
             let screens = task.screens[..usize::from(task.height)].iter().rev();
             let screens: Vec<String> = screens.map(u8::to_string).collect();
@@ -134,12 +134,12 @@ impl fmt::Display for Navigator {
             write!(f, "{space}{}:[{}]", task.root, screens.join(","))?;
         }
         let comma = if tasks.is_empty() { "" } else { ", " };
-        write!(f, "{comma}m {}", self.session.main)
+        write!(f, "{comma}m {}", self.stored.main)
     }
 }
 
-impl fmt::Debug for Navigator {
+impl fmt::Debug for Session {
     fn fmt(&self, f: &mut fmt::Formatter) -> fmt::Result {
-        write!(f, "Navigator({self})")
+        write!(f, "Session({self})")
     }
 }
