@@ -6,7 +6,7 @@ use native.Mathlib.Omega.{arith}
 use lib.ListN.{getD, set, replicate}
 use Rattle.model.specs.Lists.{omit}
 use Rattle.model.specs.Table.{mainScreen}
-use Rattle.model.specs.Session.{state, fresh, mostHeight, top, frontScreen}
+use Rattle.model.specs.Session.{state, mostHeight, top, frontScreen}
 use Rattle.model.specs.Deeds.{mainWithout}
 use Rattle.model.specs.Calls.{launched, backed}
 use Rattle.session.specs.declared.Session.{Session}

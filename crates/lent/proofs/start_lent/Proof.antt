@@ -62,7 +62,7 @@ use Rattle.calls.proofs.start_far.Symbol as far-def
 use Rattle.navigator.proofs.start_refusal as numbering
 use Rattle.navigator.proofs.start_refusal.Met as numbering-thm
 use Rattle.navigator.proofs.start_refusal.Symbol as numbering-def
-use Rattle.lent.proofs.LendingCalls.{Passed, pass, denots, lows, a-number, a-session, a-long, on-values, on-table, calls-values, calls-table}
+use Rattle.lent.proofs.LendingCalls.{Passed, pass, denots, lows, a-number, a-session, a-long, on-values, on-table, calls-values, calls-slices}
 use Rattle.lent.proofs.LendingWays.{not-zero, is-zero, freed, opened, leaves}
 use Rattle.lent.proofs.start_lent.Proof.Callees.{a-word, Refusing, Numbering, Reading, Seeking, Choosing, Planning, Alone, Near, Far, Known}
 use Rattle.lent.proofs.start_lent as outer
@@ -85,10 +85,10 @@ module _ {M : Type 1} (𝓤 : URA M) (H : Heap 𝓤) (A : Atoms 𝓤) (W : Given
   walk-body =
       assigns ! (of-opd ! (load ! (from ! (hop ! (look ! 10 refl) (stop !))) (look-raw ! 2 refl))) (from ! (stop !))
       (init ! 38 refl (a-session 𝓤 H A W .typed (F .s) is)) $
-      calls-table ! (a-number 𝓤 H A W) fm (Numbering 𝓤 H A mem run) (known .numbers)
+      calls-slices ! (a-number 𝓤 H A W) fm (Numbering 𝓤 H A mem run) (known .numbers)
       (((F .κt, tt), (F .qt, tt), tt, (F .table, denots entry), (vt F ∷ [], lows entry)), tt)
       (on-table W entry (F .κt) (F .qt) (F .table) (id⊢ 𝓤 _))
-      numbering.ended (F .κt, tt) (F .table, denots entry) (λ n. n ≡ entryStored (tb F) (F .s) (F .b) (F .word)) (λ u. id⊢ 𝓤 _)
+      numbering.ended (F .κt, tt) (F .table, denots entry) (λ n. n ≡ entryStored (tb F) (F .s) (F .b) (F .word)) (λ r. id⊢ 𝓤 _) (λ u. id⊢ 𝓤 _)
       (and-then ! (load ! (from ! (stop !)) (look ! 8 refl)) (and-then ! (load ! (from ! (stop !)) (look ! 38 refl))
       (and-then ! (load ! (from ! (stop !)) (look ! 12 refl))
       (and-then ! (load ! (from ! (stop !)) (look ! 14 refl)) (no-more !)))))

@@ -44,7 +44,7 @@ use Rattle.starts.proofs.plan_start as planning
 use Rattle.calls.specs.StoredCalls.{entryStored}
 use Rattle.calls.proofs.Settling.{settle-refused}
 use Rattle.calls.proofs.StartSteps.{entered-ready, entered, startable, sought-inside, full-left, plannable}
-use Rattle.lent.proofs.LendingCalls.{Passed, pass, denots, lows, a-number, a-bool, a-session, a-long, on-values, on-table, calls-values, calls-table}
+use Rattle.lent.proofs.LendingCalls.{Passed, pass, denots, lows, a-number, a-bool, a-session, a-long, on-values, on-table, calls-values, calls-slices}
 use Rattle.lent.proofs.LendingWays.{not-zero, is-zero, freed, leaves}
 use Rattle.lent.proofs.LendingTask.{look-task, task-is}
 use Rattle.lent.proofs.start_lent.Proof.Callees.{a-word, flags-read, Reading, a-task, a-sought, a-chosen, a-plan, number-is, Refusing, Seeking, Choosing, Planning, Known}
@@ -100,10 +100,10 @@ module _ {M : Type 1} (𝓤 : URA M) (H : Heap 𝓤) (A : Atoms 𝓤) (W : Given
       (and-then ! (load ! (from ! (stop !)) (look ! 15 refl)) (no-more !)) 20 refl refl (λ f is-f read.
       assigns ! (of-opd ! (load ! (from ! (hop ! (look ! 10 refl) (stop !))) (look-raw ! 2 refl))) (from ! (stop !))
       (init ! 38 refl (a-session 𝓤 H A W .typed (F .s) is)) $
-      calls-table ! (a-sought 𝓤 H A W) fm (Seeking 𝓤 H A mem run) (known .seeks)
+      calls-slices ! (a-sought 𝓤 H A W) fm (Seeking 𝓤 H A mem run) (known .seeks)
       (((F .κt, tt), (F .qt, tt), tt, (F .table, denots (sought f is-f)), (vt F ∷ [], lows (sought f is-f))), tt)
       (on-table W (sought f is-f) (F .κt) (F .qt) (F .table) (factI 𝓤 _ (emp 𝓤) may))
-      seeking.ended (F .κt, tt) (F .table, denots (sought f is-f)) (Seeks (tb F) (F .s) (F .b) f) (λ u. id⊢ 𝓤 _)
+      seeking.ended (F .κt, tt) (F .table, denots (sought f is-f)) (Seeks (tb F) (F .s) (F .b) f) (λ r. id⊢ 𝓤 _) (λ u. id⊢ 𝓤 _)
       (and-then ! (load ! (from ! (stop !)) (look ! 8 refl)) (and-then ! (load ! (from ! (stop !)) (look ! 38 refl))
       (and-then ! (load ! (from ! (stop !)) (look ! 12 refl))
       (and-then ! (load ! (from ! (stop !)) (look ! 20 refl)) (no-more !)))))
@@ -126,7 +126,7 @@ module _ {M : Type 1} (𝓤 : URA M) (H : Heap 𝓤) (A : Atoms 𝓤) (W : Given
       -- what is done
       assigns ! (of-opd ! (load ! (from ! (hop ! (look ! 10 refl) (stop !))) (look-raw ! 2 refl))) (from ! (stop !))
       (init ! 38 refl (a-session 𝓤 H A W .typed (F .s) is)) $
-      calls-table ! (a-chosen 𝓤 H A W) fm (Choosing 𝓤 H A mem run) (known .chooses) (
+      calls-slices ! (a-chosen 𝓤 H A W) fm (Choosing 𝓤 H A mem run) (known .chooses) (
         (
           (F .κt, tt),
           (F .qt, tt),
@@ -138,7 +138,7 @@ module _ {M : Type 1} (𝓤 : URA M) (H : Heap 𝓤) (A : Atoms 𝓤) (W : Given
       )
       (on-table W (chosen (x .index) (inside x seeks) f is-f x is-x) (F .κt) (F .qt) (F .table) (factI 𝓤 _ (emp 𝓤) (may, by-read, refl)))
       choosing.ended (F .κt, tt) (F .table, denots (chosen (x .index) (inside x seeks) f is-f x is-x))
-      (Chooses (tb F) (F .s) (F .b) f (x .index)) (λ u. id⊢ 𝓤 _)
+      (Chooses (tb F) (F .s) (F .b) f (x .index)) (λ r. id⊢ 𝓤 _) (λ u. id⊢ 𝓤 _)
       (and-then ! (load ! (from ! (stop !)) (look ! 8 refl)) (and-then ! (load ! (from ! (stop !)) (look ! 38 refl))
       (and-then ! (load ! (from ! (stop !)) (look ! 26 refl)) (and-then ! (load ! (from ! (stop !)) (look ! 22 refl))
       (and-then ! (load ! (from ! (stop !)) (look ! 12 refl))
@@ -168,7 +168,7 @@ module _ {M : Type 1} (𝓤 : URA M) (H : Heap 𝓤) (A : Atoms 𝓤) (W : Given
       skips ! $ exec ! C Λ (Env-of l) body.t-18 (atRet (Env-of l) (Post 𝓤 H A W mem run F)) $
       assigns ! (of-opd ! (load ! (from ! (hop ! (look ! 10 refl) (stop !))) (look-raw ! 2 refl))) (from ! (stop !))
       (init ! 38 refl (a-session 𝓤 H A W .typed (F .s) is)) $
-      calls-table ! (a-plan 𝓤 H A W) fm (Planning 𝓤 H A mem run) (known .plans) (
+      calls-slices ! (a-plan 𝓤 H A W) fm (Planning 𝓤 H A mem run) (known .plans) (
         (
           (F .κt, tt),
           (F .qt, tt),
@@ -182,7 +182,7 @@ module _ {M : Type 1} (𝓤 : URA M) (H : Heap 𝓤) (A : Atoms 𝓤) (W : Given
       (factI 𝓤 _ (emp 𝓤)
       (may, plannable (tb F) (F .s) z h (F .b) (F .word) (F .finishing) e seeks chooses (is-zero (y .number) zero))))
       planning.ended (F .κt, tt) (F .table, denots (planned (x .index) (inside x seeks) y is-y))
-      (Plans (tb F) (F .s) (F .b) (flagsOf (F .word)) (F .finishing)) (λ u. id⊢ 𝓤 _)
+      (Plans (tb F) (F .s) (F .b) (flagsOf (F .word)) (F .finishing)) (λ r. id⊢ 𝓤 _) (λ u. id⊢ 𝓤 _)
       (and-then ! (load ! (from ! (stop !)) (look ! 8 refl)) (and-then ! (load ! (from ! (stop !)) (look ! 38 refl))
       (and-then ! (load ! (from ! (stop !)) (look ! 26 refl)) (and-then ! (load ! (from ! (stop !)) (look ! 28 refl))
       (and-then ! (load ! (from ! (stop !)) (look ! 12 refl)) (and-then ! (load ! (from ! (stop !)) (look ! 14 refl))
