@@ -94,9 +94,6 @@ module _ {M : Type 1} {𝓤 : URA M} {H : Heap 𝓤} {A : Atoms 𝓤} {K : Type 
 abbrev pub LocalsOf : Ty → ℕ → Ty × ℕ → Ty → ℕ → List (Ty × ℕ) → List (Ty × ℕ)
 LocalsOf τ₀ answer e τ borrow E = (τ₀, answer) ∷ e ∷ (τ, borrow) ∷ E
 
-abbrev pub Locals : ℕ → Ty × ℕ → Ty → ℕ → List (Ty × ℕ) → List (Ty × ℕ)
-Locals = LocalsOf N′.mir
-
 -- κ, q: the lifetime of the borrow, and the share of it. The session s lies at p, o.
 module _ {M : Type 1} {𝓤 : URA M} (κ : Lft) (q : Share) (γ : GName) (p o : ℕ) (s : Session) (Γ : List (Item 𝓤)) where
   abbrev pub Shut : List (Item 𝓤)

@@ -35,7 +35,7 @@ use Rattle.calls.proofs.Reply.Laws as R′
 use Rattle.navigator.proofs.launch as core
 use Rattle.lent.proofs.Lending.{local-of, bytesTy, lentTy, stored, Open, answer-is}
 use Rattle.lent.proofs.LendingCalls.{a-session, a-reply, Passed, pass, denots, lows, on-table, calls-slices}
-use Rattle.lent.proofs.LendingWays.{vacant, holding, freed, opened, stores-within}
+use Rattle.lent.proofs.LendingWays.{vacant, holding, freed, opened, of-reply, stores-within}
 use Rattle.lent.proofs.LendingTable as T
 use Rattle.lent.proofs.LendingTable.{Frame, vt, OwnTable, args, vals, Tokens, Walk}
 use Rattle.lent.proofs.milchkompass_launch as outer
@@ -102,7 +102,7 @@ module _ {M : Type 1} (𝓤 : URA M) (H : Heap 𝓤) (A : Atoms 𝓤) (does : Ca
         core.ended (F .κt, tt) (F .table, denots session) Made (λ r. fst∗ 𝓤 (fact 𝓤 (Made r)) (fact 𝓤 _)) (λ u. id⊢ 𝓤 _)
         (and-then ! (load ! (from ! (stop !)) (look ! 8 refl)) (and-then ! (load ! (from ! (stop !)) (look ! 14 refl)) (no-more !)))
         10 refl refl (λ r is-r made.
-        stores-within ! (F .s) r is-r Ends 1 refl refl refl $
+        stores-within ! (F .s) (of-reply W r is-r) Ends 1 refl refl refl $
         forget ! 7 refl $ forget ! 11 refl $ forget ! 13 refl $ freed ! Env-of $
         by ! (T.exits 𝓤 H A W does clauses shown F g (r .answer) (r .session) (answer-is r _ is-r) made))
 

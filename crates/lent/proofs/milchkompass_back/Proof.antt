@@ -61,7 +61,7 @@ use Rattle.navigator.proofs.back_refusal.Met as numbering-thm
 use Rattle.navigator.proofs.back_refusal.Symbol as numbering-def
 use Rattle.lent.proofs.Lending.{bytesTy, lentTy, of-parts, Open, answer-is}
 use Rattle.lent.proofs.LendingCalls.{a-number, a-bool, a-session, an-answer, a-reply, Passed, pass, denots, lows, on-values, on-table, calls-values, calls-slices}
-use Rattle.lent.proofs.LendingWays.{not-zero, is-zero, held, failed, vacant, holding, freed, opened, leaves, stores-within}
+use Rattle.lent.proofs.LendingWays.{not-zero, is-zero, held, failed, vacant, holding, freed, opened, leaves, of-reply, stores-within}
 use Rattle.lent.proofs.LendingTable.{Frame, vt, OwnTable, args, vals, Tokens, Post, exits, Walk, meets}
 use Rattle.lent.proofs.milchkompass_back as outer
 use Rattle.lent.proofs.milchkompass_back.Code as code
@@ -184,7 +184,7 @@ module _ {M : Type 1} (𝓤 : URA M) (H : Heap 𝓤) (A : Atoms 𝓤) (W : Given
           within.ended (F .κt, tt) (F .table, denots session) Made (λ r. id⊢ 𝓤 _) (λ u. id⊢ 𝓤 _)
           (and-then ! (load ! (from ! (stop !)) (look ! 8 refl)) (and-then ! (load ! (from ! (stop !)) (look ! 24 refl)) (no-more !)))
           12 refl refl (λ r is-r made.
-          stores-within ! (F .s) r is-r (Ends F) 3 refl refl refl $
+          stores-within ! (F .s) (of-reply W r is-r) (Ends F) 3 refl refl refl $
           forget ! 7 refl $ forget ! 11 refl $ forget ! 13 refl $ forget ! 17 refl $ forget ! 19 refl $ forget ! 21 refl $
           forget ! 23 refl $ freed ! Env-of $ by ! (exits 𝓤 H A W back clauses shown F tt (r .answer) (r .session) (answer-is r _ is-r) made)))
           -- out of it
@@ -198,7 +198,7 @@ module _ {M : Type 1} (𝓤 : URA M) (H : Heap 𝓤) (A : Atoms 𝓤) (W : Given
           out.ended (F .κt, tt) (F .table, denots session) Made (λ r. id⊢ 𝓤 _) (λ u. id⊢ 𝓤 _)
           (and-then ! (load ! (from ! (stop !)) (look ! 8 refl)) (and-then ! (load ! (from ! (stop !)) (look ! 18 refl)) (no-more !)))
           14 refl refl (λ r is-r made.
-          stores-within ! (F .s) r is-r (Ends F) 5 refl refl refl $
+          stores-within ! (F .s) (of-reply W r is-r) (Ends F) 5 refl refl refl $
           forget ! 7 refl $ forget ! 11 refl $ forget ! 15 refl $ forget ! 17 refl $ forget ! 19 refl $ forget ! 21 refl $
           freed ! Env-of $ by ! (exits 𝓤 H A W back clauses shown F tt (r .answer) (r .session) (answer-is r _ is-r) made))))))
 

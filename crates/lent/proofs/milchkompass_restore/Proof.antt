@@ -48,7 +48,7 @@ use Rattle.navigator.proofs.restore.Symbol as core-def
 use Rattle.navigator.proofs.restore.Symbol.{name as #core}
 use Rattle.lent.proofs.Lending.{bytesTy, lentTy, of-parts, ensuring, Shut, Open, answer-is}
 use Rattle.lent.proofs.LendingCalls.{a-session, an-answer, a-reply, calls-slices}
-use Rattle.lent.proofs.LendingWays.{vacant, holding, freed, opened, stores-within}
+use Rattle.lent.proofs.LendingWays.{vacant, holding, freed, opened, of-reply, stores-within}
 use Rattle.lent.proofs.milchkompass_restore as outer
 use Rattle.lent.proofs.milchkompass_restore.Code as code
 use Rattle.lent.proofs.milchkompass_restore.Key.{name as #outer}
@@ -171,7 +171,7 @@ module _ {M : Type 1} (𝓤 : URA M) (H : Heap 𝓤) (A : Atoms 𝓤) (W : Given
           (and-then ! (load ! (from ! (stop !)) (look ! 16 refl))
           (and-then ! (load ! (from ! (stop !)) (look ! 12 refl)) (no-more !))))
           12 refl refl (λ r is-r made.
-          stores-within ! s r is-r Post 3 refl refl refl $
+          stores-within ! s (of-reply W r is-r) Post 3 refl refl refl $
           forget ! 7 refl $ forget ! 11 refl $ forget ! 13 refl $ forget ! 15 refl $ freed ! Env-of $
           by ! (exits (r .answer) (r .session) (answer-is r _ is-r) made))
 

@@ -32,7 +32,7 @@ use Rattle.calls.proofs.start_alone as alone
 use Rattle.calls.proofs.start_near as near
 use Rattle.calls.proofs.start_far as far
 use Rattle.lent.proofs.LendingCalls.{Passed, pass, denots, lows, a-session, a-word-reply, on-values, calls-values}
-use Rattle.lent.proofs.LendingWays.{word-is, held, failed, freed, stores-word}
+use Rattle.lent.proofs.LendingWays.{word-is, held, failed, freed, of-word-reply, stores-within}
 use Rattle.lent.proofs.start_lent.Proof.Callees.{a-plan, Alone, Near, Far, Known}
 use Rattle.lent.proofs.start_lent.Code.Mir as body
 use Rattle.lent.proofs.start_lent.Proof.Contexts.{Frame, tb, Env-of, At-plan, Post, exits}
@@ -66,9 +66,9 @@ module _ {M : Type 1} (𝓤 : URA M) (H : Heap 𝓤) (A : Atoms 𝓤) (W : Given
       alone.ended tt (denots plan) (λ r. (r .session ≡ aloneOf (F .s) x) × Words (r .word) (lookAt (view (aloneOf (F .s) x)))) (λ u. id⊢ 𝓤 _)
       (and-then ! (load ! (from ! (stop !)) (look ! 51 refl)) (and-then ! (load ! (from ! (stop !)) (look ! 31 refl)) (no-more !)))
       32 refl refl (λ r is-r made.
-      stores-word ! (F .s) r is-r (Post 𝓤 H A W mem run F) 21 refl refl refl $
+      stores-within ! (F .s) (of-word-reply r is-r) (Post 𝓤 H A W mem run F) 21 refl refl refl $
       forget ! 7 refl $ forget ! 29 refl $ forget ! 31 refl $ forget ! 39 refl $ forget ! 49 refl $ freed ! (Env-of l) $
-      by ! (exits 𝓤 H A W mem run F (r .word) (r .session) (word-is r _ is-r) (made .1) (ap (λ (d : Session). reply d (lookAt (view (aloneOf (F .s) x)))) (made .0) ∙ left .settles))))
+      by ! (exits 𝓤 H A W mem run F (r .word) (r .session) (word-is r is-r) (made .1) (ap (λ (d : Session). reply d (lookAt (view (aloneOf (F .s) x)))) (made .0) ∙ left .settles))))
       (λ others.
       skips ! $ exec ! C Λ (Env-of l) body.t-22 (atRet (Env-of l) (Post 𝓤 H A W mem run F)) $ forget ! 40 refl $
       assigns ! (of-opd ! (load ! (from ! (fld ! refl (stop !))) (look-in ! 30 (sub ! 7 refl (whole !))))) (from ! (stop !))
@@ -85,9 +85,9 @@ module _ {M : Type 1} (𝓤 : URA M) (H : Heap 𝓤) (A : Atoms 𝓤) (W : Given
       near.ended tt (denots plan) (λ r. (r .session ≡ nearOf (F .s) x) × Words (r .word) (lookAt (view (nearOf (F .s) x)))) (λ u. id⊢ 𝓤 _)
       (and-then ! (load ! (from ! (stop !)) (look ! 53 refl)) (and-then ! (load ! (from ! (stop !)) (look ! 31 refl)) (no-more !)))
       34 refl refl (λ r is-r made.
-      stores-word ! (F .s) r is-r (Post 𝓤 H A W mem run F) 23 refl refl refl $
+      stores-within ! (F .s) (of-word-reply r is-r) (Post 𝓤 H A W mem run F) 23 refl refl refl $
       forget ! 7 refl $ forget ! 29 refl $ forget ! 33 refl $ forget ! 39 refl $ forget ! 51 refl $ freed ! (Env-of l) $
-      by ! (exits 𝓤 H A W mem run F (r .word) (r .session) (word-is r _ is-r) (made .1) (ap (λ (d : Session). reply d (lookAt (view (nearOf (F .s) x)))) (made .0) ∙ left .1 .settles))))
+      by ! (exits 𝓤 H A W mem run F (r .word) (r .session) (word-is r is-r) (made .1) (ap (λ (d : Session). reply d (lookAt (view (nearOf (F .s) x)))) (made .0) ∙ left .1 .settles))))
       -- any number
       (λ is-far.
       skips ! $ exec ! C Λ (Env-of l) body.t-24 (atRet (Env-of l) (Post 𝓤 H A W mem run F)) $
@@ -99,6 +99,6 @@ module _ {M : Type 1} (𝓤 : URA M) (H : Heap 𝓤) (A : Atoms 𝓤) (W : Given
       far.ended tt (denots plan) (λ r. (r .session ≡ farOf (F .s) x) × Words (r .word) (lookAt (view (farOf (F .s) x)))) (λ u. id⊢ 𝓤 _)
       (and-then ! (load ! (from ! (stop !)) (look ! 39 refl)) (and-then ! (load ! (from ! (stop !)) (look ! 31 refl)) (no-more !)))
       36 refl refl (λ r is-r made.
-      stores-word ! (F .s) r is-r (Post 𝓤 H A W mem run F) 25 refl refl refl $
+      stores-within ! (F .s) (of-word-reply r is-r) (Post 𝓤 H A W mem run F) 25 refl refl refl $
       forget ! 7 refl $ forget ! 29 refl $ forget ! 35 refl $ forget ! 37 refl $ forget ! 39 refl $ freed ! (Env-of l) $
-      by ! (exits 𝓤 H A W mem run F (r .word) (r .session) (word-is r _ is-r) (made .1) (ap (λ (d : Session). reply d (lookAt (view (farOf (F .s) x)))) (made .0) ∙ left .1 .settles)))))
+      by ! (exits 𝓤 H A W mem run F (r .word) (r .session) (word-is r is-r) (made .1) (ap (λ (d : Session). reply d (lookAt (view (farOf (F .s) x)))) (made .0) ∙ left .1 .settles)))))
