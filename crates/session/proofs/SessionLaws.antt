@@ -1,6 +1,6 @@
 -- Each change of a session's list of tasks is a change of the stored array: a task changed, gone, moved to the front,
 -- or put in front.
-use Prim.Native.Nat.{ℕ, zero, suc, _-_, _<_}
+use Prim.Native.Nat.{ℕ, zero, suc, _<_}
 use mathlib.Core.Path.{_≡_, refl, _∙_, ap}
 use mathlib.Core.List.{List, [], _∷_, map}
 use native.Mathlib.Omega.{arith}
