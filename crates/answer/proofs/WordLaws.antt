@@ -1,25 +1,13 @@
 -- The answer is had back from its word, number by number.
-use Prim.Native.Nat.{ℕ, _/_, _%_}
+use Prim.Native.Nat.{ℕ}
 use mathlib.Core.Path.{_≡_}
 use native.Mathlib.Nat.{mod-eq-of-lt}
 use lib.Arith.{digits-div, digits-mod}
 use Rattle.model.specs.declared.Answer.{Answer}
-use Rattle.answer.specs.Words.{Words}
+use Rattle.answer.specs.Words.{answerIn, Words}
 
--- the answer that a word is taken apart into
-abbrev pub taken : ℕ → Answer
-taken w =
-    record {
-      refusal = w % 256;
-      screen = w / 256 % 256;
-      root = w / 256 / 256 % 256;
-      height = w / 256 / 256 / 256 % 256;
-      tasks = w / 256 / 256 / 256 / 256 % 256;
-      main = w / 256 / 256 / 256 / 256 / 256 % 256;
-    }
-
-pub taken-back : (w : ℕ) (a : Answer) → Words w a → taken w ≡ a
-taken-back w a h =
+pub answer-back : (w : ℕ) (a : Answer) → Words w a → answerIn w ≡ a
+answer-back w a h =
     let b = h .bytes in
     rw (
       h .word,

@@ -1,11 +1,10 @@
 // The one place where an answer is made.
 
 ghost use mathlib.Core.Path.{_≡_};
-ghost use Rattle.model.specs.declared.Answer.{Answer};
 ghost use Rattle.model.specs.Answers.{lookAt, refused as refusedAnswer};
 ghost use Rattle.session.specs.Stored.{view};
 ghost use Rattle.answer.specs.Seen.{Seen};
-ghost use Rattle.answer.specs.Words.{Words};
+ghost use Rattle.answer.specs.Words.{answerIn, Words};
 use model::Answer;
 use session::Session;
 
@@ -70,9 +69,9 @@ pub fn refused_word(number: u8) -> u64
     word_of(refused(number))
 }
 
-// The answer whose word this is.
+// The answer in a word.
 pub fn of_word(w: u64) -> Answer
-    ensures { λ r. ⌜ ((a : Answer) → Words w a → r ≡ a) ⌝ }
+    ensures { λ r. ⌜ r ≡ answerIn w ⌝ }
 {
     let w1 = w / 256;
     let w2 = w1 / 256;

@@ -1,7 +1,7 @@
 -- The steps of a start on a stored session, each by what the one before it gave: refused at its entry, sought, chosen,
 -- refused for want of room, planned, put.
 use Prim.Native.Nat.{ℕ, zero, suc, _≤_, _<_}
-use mathlib.Core.Path.{_≡_, refl, sym, _∙_, ap}
+use mathlib.Core.Path.{_≡_, refl, sym, _∙_, ap, subst}
 use mathlib.Core.Bool.{Bool, true, false}
 use mathlib.Core.List.{List, []}
 use native.Mathlib.Omega.{arith}
@@ -21,7 +21,8 @@ use Rattle.rules.proofs.StartLaws.{made-refused}
 use Rattle.starts.specs.declared.Sought.{Sought}
 use Rattle.starts.specs.declared.Chosen.{Chosen}
 use Rattle.starts.specs.declared.Plan.{Plan}
-use Rattle.starts.specs.Steps.{Seeks, Chooses, taskAt, Plannable, Plans, Reaches, aloneOf, nearOf, farOf}
+use Rattle.starts.specs.Steps.{Seeks, Chooses, taskAt, Plannable, planOf, Plans, Reaches, aloneOf, nearOf, farOf}
+use Rattle.starts.proofs.Planning.{planned}
 use Rattle.calls.specs.StoredCalls.{reply, entryStored, sharedRefusal, callStored, startCall}
 use Rattle.calls.proofs.Settling.{Left, settle-refused, call-refused, checks-ready, shared-ready}
 use Rattle.calls.proofs.StartSettling.{entry-left, entered-startable, made-left}
@@ -75,18 +76,22 @@ module _ (tb : List ℕ) (c : Session) (z : Sized c) (h : Ready tb c) (b w : ℕ
             room = room;
           }
 
-  module _ {p : Plan} (plans : Plans tb c b (flagsOf w) fin p) where
+      -- the plan means what the start makes
+      pub plans : y .number ≡ 0 → {p : Plan} → p ≡ planOf fin b c (taskAt c (x .index)) y → Plans tb c b (flagsOf w) fin p
+      plans room q = subst (Plans tb c b (flagsOf w) fin) (sym q) (planned z startable (plannable room) fin)
+
+  module _ {p : Plan} (means : Plans tb c b (flagsOf w) fin p) where
     made : {d : Session} → record { refusal = 0; session = d } ≡ madeStored fin tb c b (flagsOf w) → Left tb c (startCall fin b w) 0 d
     made q = made-left tb c z h b w fin e _ q
 
     pub alone-left : p .alone ≡ true → Left tb c (startCall fin b w) 0 (aloneOf c p)
-    alone-left a = made (plans .alone a)
+    alone-left a = made (means .alone a)
 
     pub near-left : p .alone ≡ false → p .near ≡ true → ((1 ≤ p .shift) × (p .shift ≤ 4)) × Left tb c (startCall fin b w) 0 (nearOf c p)
-    near-left a n = let r = plans .near a n in (r .0, made (r .1))
+    near-left a n = let r = means .near a n in (r .0, made (r .1))
 
     pub far-left : p .near ≡ false → Reaches c p × Left tb c (startCall fin b w) 0 (farOf c p)
-    far-left n = let r = plans .far n in (r .0, made (r .1))
+    far-left n = let r = means .far n in (r .0, made (r .1))
 
 -- ---- refused at its entry, by its number
 

@@ -1,7 +1,7 @@
 -- A function that takes the table, a lent session, a screen and a flag word and passes them on to `start_lent` meets its
 -- contract: a walk of its code by hand, for a start and for a finishing start. The borrow goes to `start_lent` for good, so at
 -- the exit all that is had of it is its last session.
-use mathlib.Core.Path.{_≡_, refl, sym, ap, subst}
+use mathlib.Core.Path.{_≡_, refl, sym, _∙_, ap, subst}
 use Prim.Native.Nat.{ℕ, _<_, _^_}
 use mathlib.Core.Bool.{Bool, true, false}
 use mathlib.Core.List.{[], _∷_, List, map}
@@ -45,7 +45,8 @@ use Rattle.session.specs.declared.Session.{Session}
 use Rattle.session.proofs.Session as S
 use Rattle.session.proofs.Session.Laws as S′
 use Rattle.calls.specs.StoredCalls.{callStored, startCall}
-use Rattle.answer.specs.Words.{Words}
+use Rattle.answer.specs.Words.{answerIn, Words}
+use Rattle.answer.proofs.WordLaws.{answer-back}
 use Rattle.answer.proofs.of_word as taking
 use Rattle.calls.specs.declared.Reply.{Reply}
 use Rattle.lent.proofs.Lending.{local-of, bytesTy, lentTy, Parts, WordParts, two-facts, ensuring}
@@ -218,13 +219,13 @@ module _ {M : Type 1} (𝓤 : URA M) (H : Heap 𝓤) (A : Atoms 𝓤) (at-mem : 
           (init ! 4 refl (subst (λ (vs : List Val). T (hasTy (tyInt w64) (only vs)) × WT (only vs)) (sym e) (a-long 𝓤 H A W .typed w low))) $
           rewrite ! 4 (λ (v : Val). ‵ (fat fullShare (tyInt w64) l5 0 v)) (ap only e) refl $
           calls-values ! (an-answer 𝓤 H A W) fm (Taking 𝓤 H A at-mem run) taken ((tt, tt, tt, (w, tt), (vint w64 w ∷ [], tt)), tt)
-          (on-values W (pass (a-long 𝓤 H A W) w low ∷ []) (id⊢ 𝓤 _)) taking.ended tt (w, tt) (λ r. (a : Answer) → Words w a → r ≡ a) (λ v. id⊢ 𝓤 _)
+          (on-values W (pass (a-long 𝓤 H A W) w low ∷ []) (id⊢ 𝓤 _)) taking.ended tt (w, tt) (λ r. r ≡ answerIn w) (λ v. id⊢ 𝓤 _)
           (and-then ! (load ! (from ! (stop !)) (look ! 5 refl)) (no-more !)) 14 refl refl (λ r is-r told.
           returns ! (look ! 14 refl) $ forget ! 2 refl $ forget ! 4 refl $ forget ! 6 refl $ forget ! 8 refl $ forget ! 10 refl $
           forget ! 12 refl $ forget ! 14 refl $ move ! (14 ∷ 15 ∷ []) $ free1 ! $ move ! (12 ∷ 13 ∷ []) $ free1 ! $
           move ! (10 ∷ 11 ∷ []) $ free1 ! $ move ! (8 ∷ 9 ∷ []) $ free1 ! $ move ! (6 ∷ 7 ∷ []) $ free1 ! $
           move ! (4 ∷ 5 ∷ []) $ free1 ! $ move ! (2 ∷ 3 ∷ []) $ free1 ! $ free0 ! $
-          by ! (exits g r is-r ws (told (Result .answer) words) left)))))))))))))))
+          by ! (exits g r is-r ws (told ∙ answer-back w (Result .answer) words) left)))))))))))))))
 
   module _ (W : Given 𝓤 H A) (#core #taken : Name) where
     walks : (C : Calls 𝓤 H) (Λ : Loops 𝓤 H) → FmC 𝓤 H (W .laws) C → Triple 𝓤 (C #core) Callee → Triple 𝓤 (C #taken) (Taking 𝓤 H A at-mem run)

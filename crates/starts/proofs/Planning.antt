@@ -1,12 +1,12 @@
 -- What a plan puts is what the start makes: with the marked screen still to be closed, or closed within the first two tasks.
 use Prim.Native.Nat.{ℕ, zero, suc, pred, _≤_, _<_}
-use mathlib.Core.Path.{_≡_, refl, sym, _∙_, ap}
-use mathlib.Core.Bool.{Bool, true, false}
+use mathlib.Core.Path.{_≡_, refl, sym, _∙_, ap, subst}
+use mathlib.Core.Bool.{Bool, true, false, _||_, true≢false, false≢true}
 use mathlib.Core.List.{List, [], _∷_}
 use native.Mathlib.Omega.{arith}
-use lib.Dec.{eqb, leb}
+use lib.Dec.{eqb, leb, ltb}
 use lib.ListN.{length, getD, set}
-use borrow.Author.Tests.{leb-false, lt-leb}
+use borrow.Author.Tests.{eqb-true, eqb-false, leb-false, ltb-false, lt-leb}
 use Rattle.model.specs.declared.Change.{Change}
 use Rattle.model.specs.declared.Deed.{Deed}
 use Rattle.model.specs.declared.Flags.{Flags}
@@ -21,6 +21,7 @@ use Rattle.session.specs.declared.Task.{Task}
 use Rattle.session.specs.Stored.{view, viewTask, hold, holdTask, noTask, storageBlank, blankAbove}
 use Rattle.session.proofs.Known.{Sized}
 use Rattle.session.proofs.SessionLaws.{stored}
+use Rattle.choice.specs.Shows.{indexOf}
 use Rattle.choice.specs.Startable.{Startable}
 use Rattle.choice.proofs.Tasks.{storedAt}
 use Rattle.deeds.specs.Fronted.{shiftOf, frontAfter, countAfter, mainAfter}
@@ -32,7 +33,8 @@ use Rattle.closing.proofs.Marked.{closable, closed-at, closed-gone}
 use Rattle.rules.specs.Starts.{roomRefusal}
 use Rattle.rules.proofs.StartLaws.{start-accepted}
 use Rattle.rules.proofs.Picks.{Picked, picked-carriable, picked-put, picked-sized, picked-markable, picked-finished}
-use Rattle.starts.specs.Steps.{markOf, closedIn, emptiesIn, Makes}
+use Rattle.starts.specs.declared.Chosen.{Chosen}
+use Rattle.starts.specs.Steps.{markOf, closedIn, emptiesIn, Makes, Plannable, planBy, planShift, planMark, planNext, isFar, planOf, Plans}
 
 -- ---- where a marked screen may stand
 
@@ -210,3 +212,89 @@ module _ {tb : List ℕ} {c : Session} {b : ℕ} {f : Flags} (z : Sized c) (h : 
         go (Mark.Stands zero l) e = closed-first l e ∙ row (closedIn 0 (Mark.Stands 0 l) next)
         go (Mark.Stands (suc j) l) e =
             absurd (let r = behind-low fin d p (c .n) (eqb b a) (h .some) j (ap behindOf (sym (told .mark-is) ∙ e)) .1 in omega (arith, r, none, told .shift-is))
+
+-- ---- the plan
+
+-- neither of the two reasons to reach far
+pub both : (x y : Bool) → (x || y) ≡ false → (x ≡ false) × (y ≡ false)
+both true y e = absurd (true≢false e)
+both false y e = (refl, e)
+
+-- the plan of what was read and made
+pub plan-is : (c : Session) (b : ℕ) (t : Task) (x : Chosen) (fin : Bool) {next : Task} {shift n m a : ℕ} {mark : Mark}
+    → next ≡ frontAfter b (x .deed) t → shift ≡ shiftOf (x .deed) (x .place) (c .n)
+    → n ≡ countAfter (x .deed) (c .n) → m ≡ mainAfter (x .deed) (x .place) (c .main)
+    → a ≡ top (viewTask (storedAt c 0)) → mark ≡ markOf fin (x .deed) (x .place) (eqb b a)
+    → (u v : Bool) → (ltb 4 shift || emptiesIn mark (next .height) (storedAt c 0 .height)) ≡ u → eqb shift 0 ≡ v
+    → planBy u v next (storedAt c 0) mark shift n m ≡ planOf fin b c t x
+plan-is c b t x fin next-is shift-is count-is main-is top-is mark-is u v e g =
+    rw (sym e, sym g, mark-is, top-is, next-is, shift-is, count-is, main-is)
+
+module _ {tb : List ℕ} {c : Session} {b : ℕ} {f : Flags} (z : Sized c) (h : Startable tb c b) {t : Task} {x : Chosen}
+    (ok : Plannable tb c b f t x) (fin : Bool) where
+  abbrev found : ℕ
+  found = indexOf (choose tb (view c) b f .found)
+
+  room : roomRefusal tb c b f ≡ 0
+  room = sym (ok .chosen .number) ∙ ok .room
+
+  pub picks : Picked tb c b f found (x .deed) (x .place)
+  picks = record { index = refl; deed = ok .chosen .deed; place = ok .chosen .place }
+
+  told : Told c b found (x .deed) (x .place) fin (planNext fin b c t x) (planShift fin b c t x)
+      (countAfter (x .deed) (c .n)) (mainAfter (x .deed) (x .place) (c .main)) (top (viewTask (storedAt c 0))) (planMark fin b c t x)
+  told = record {
+    next-is = ap (frontAfter b (x .deed)) (ok .task);
+    shift-is = refl;
+    count-is = refl;
+    main-is = refl;
+    top-is = refl;
+    mark-is = refl;
+  }
+
+  abbrev shift : ℕ
+  shift = planShift fin b c t x
+
+  -- where it does not reach far
+  module _ (e : isFar fin b c t x ≡ false) where
+    pub few : ltb 4 shift ≡ false
+    few = both (ltb 4 shift) _ e .0
+
+    pub stays : emptiesIn (planMark fin b c t x) (planNext fin b c t x .height) (storedAt c 0 .height) ≡ false
+    stays = both (ltb 4 shift) _ e .1
+
+  pub planned : Plans tb c b f fin (planOf fin b c t x)
+  planned = go (isFar fin b c t x) (eqb shift 0) refl refl
+    where
+      go : (u v : Bool) → isFar fin b c t x ≡ u → eqb shift 0 ≡ v
+          → Plans tb c b f fin
+          (planBy u v (planNext fin b c t x) (storedAt c 0) (planMark fin b c t x) shift
+          (countAfter (x .deed) (c .n)) (mainAfter (x .deed) (x .place) (c .main)))
+      go true v e g = record {
+        alone = λ a. absurd (false≢true a);
+        near = λ a n. absurd (false≢true n);
+        far = λ n. (
+          record {
+            few = shift-few z h room picks told;
+            blank = put-blank z h room picks told;
+            marked = put-marked z h room picks told;
+            kept = put-kept z h room picks told;
+          },
+          put-makes z h room picks told,
+        );
+      }
+      go false true e g = record {
+        alone = λ a. subst (Makes tb c b f fin) (closed-alone z h room picks told (stays e) (eqb-true shift 0 g)) (put-makes z h room picks told);
+        near = λ a n. absurd (true≢false a);
+        far = λ n. absurd (true≢false n);
+      }
+      go false false e g =
+          let some : 1 ≤ shift = let n = eqb-false shift 0 g in omega (arith, n) in
+          record {
+            alone = λ a. absurd (false≢true a);
+            near = λ a n. (
+              (some, ltb-false 4 shift (few e)),
+              subst (Makes tb c b f fin) (closed-near z h room picks told (stays e) some) (put-makes z h room picks told),
+            );
+            far = λ n. absurd (true≢false n);
+          }

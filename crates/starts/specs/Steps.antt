@@ -1,7 +1,7 @@
 -- The steps of a start on a stored session: what seeking, choosing and planning give, and the sessions that a plan puts.
 use Prim.Native.Nat.{ℕ, _≤_, _<_}
 use mathlib.Core.Path.{_≡_}
-use mathlib.Core.Bool.{Bool, true, false}
+use mathlib.Core.Bool.{Bool, true, false, _||_}
 use mathlib.Core.List.{List}
 use lib.Dec.{eqb, leb, ltb}
 use lib.ListN.{getD, set}
@@ -9,7 +9,7 @@ use Rattle.model.specs.declared.Deed.{Deed}
 use Rattle.model.specs.declared.Flags.{Flags}
 use Rattle.model.specs.declared.Mark.{Mark}
 use Rattle.model.specs.Lists.{if_then_else_, omit}
-use Rattle.model.specs.Session.{stack, mostTasks}
+use Rattle.model.specs.Session.{stack, top, mostTasks}
 use Rattle.model.specs.Search.{placeOf}
 use Rattle.model.specs.Rules.{groupOf, soughtBy, choose}
 use Rattle.model.specs.Deeds.{deedOf}
@@ -18,6 +18,7 @@ use Rattle.session.specs.declared.Session.{Session}
 use Rattle.session.specs.declared.Task.{Task}
 use Rattle.session.specs.Stored.{view, viewTask, hold, holdTask, noTask, storageBlank}
 use Rattle.choice.specs.Shows.{indexOf}
+use Rattle.deeds.specs.Fronted.{shiftOf, frontAfter, countAfter, mainAfter}
 use Rattle.deeds.specs.Rows.{shifted, withTasks}
 use Rattle.rules.specs.Starts.{roomRefusal, madeStored}
 use Rattle.starts.specs.declared.Sought.{Sought}
@@ -97,6 +98,39 @@ pub record Plannable (tb : List ℕ) (c : Session) (b : ℕ) (f : Flags) (t : Ta
   pub task : t ≡ taskAt c (indexOf (choose tb (view c) b f .found))
   pub room : x .number ≡ 0
 
+-- ---- the plan
+
+-- by whether it reaches far and, if not, whether it is alone: the front task after the deed and the one before it, the mark, how
+-- many tasks go back, n and m. Where it does not reach far, the marked screen is closed in it.
+abbrev pub planBy : Bool → Bool → Task → Task → Mark → ℕ → ℕ → ℕ → Plan
+planBy true y next front mark shift n m =
+    record { front = next; second = front; mark = mark; shift = shift; n = n; main = m; alone = false; near = false }
+planBy false true next front mark shift n m =
+    record { front = closedIn 0 mark next; second = front; mark = mark; shift = shift; n = n; main = m; alone = true; near = true }
+planBy false false next front mark shift n m =
+    record { front = next; second = closedIn 1 mark front; mark = mark; shift = shift; n = n; main = m; alone = false; near = true }
+
+-- a start of b, or a finishing one, where t is the task at the index of the task found
+module _ (finishing : Bool) (b : ℕ) (c : Session) (t : Task) (x : Chosen) where
+  abbrev pub planShift : ℕ
+  planShift = shiftOf (x .deed) (x .place) (c .n)
+
+  abbrev pub planMark : Mark
+  planMark = markOf finishing (x .deed) (x .place) (eqb b (top (viewTask (taskAt c 0))))
+
+  abbrev pub planNext : Task
+  planNext = frontAfter b (x .deed) t
+
+  -- more than four tasks go back, or closing the marked screen takes its task away
+  abbrev pub isFar : Bool
+  isFar = ltb 4 planShift || emptiesIn planMark (planNext .height) (taskAt c 0 .height)
+
+  abbrev pub planOf : Plan
+  planOf =
+      planBy isFar (eqb planShift 0) planNext (taskAt c 0) planMark planShift
+      (countAfter (x .deed) (c .n)) (mainAfter (x .deed) (x .place) (c .main))
+
+-- what a plan means: what it puts, by how far it reaches, is what the start makes
 pub record Plans (tb : List ℕ) (c : Session) (b : ℕ) (f : Flags) (finishing : Bool) (p : Plan) : Type 0 where
   pub alone : p .alone ≡ true → Makes tb c b f finishing (aloneOf c p)
   pub near : p .alone ≡ false → p .near ≡ true → ((1 ≤ p .shift) × (p .shift ≤ 4)) × Makes tb c b f finishing (nearOf c p)

@@ -8,7 +8,7 @@ ghost use Rattle.model.specs.Flags.{flagsOf};
 ghost use Rattle.session.specs.Stored.{blankAbove};
 ghost use Rattle.model.specs.declared.Mark.{Mark};
 ghost use Rattle.choice.specs.Startable.{Startable};
-ghost use Rattle.starts.specs.Steps.{taskAt, Seeks, Chooses, markOf, closedIn, emptiesIn, movedFew, aloneOf, nearOf, farOf, Plannable, Plans, Reaches};
+ghost use Rattle.starts.specs.Steps.{taskAt, Seeks, Chooses, markOf, closedIn, emptiesIn, movedFew, aloneOf, nearOf, farOf, Plannable, planOf, Reaches};
 use model::Deed;
 use model::Flags;
 use model::Found;
@@ -130,7 +130,7 @@ pub fn plan_start(
     finishing: bool,
 ) -> Plan
     requires { ⌜ Startable (now table) s b × Plannable (now table) s b (flagsOf word) t chosen ⌝ }
-    ensures { λ r. ⌜ Plans (now (table .entry)) s b (flagsOf word) finishing r ⌝ }
+    ensures { λ r. ⌜ r ≡ planOf finishing b s t chosen ⌝ }
 {
     let front = s.tasks[0];
     let deed = chosen.deed;

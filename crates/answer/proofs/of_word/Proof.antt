@@ -1,6 +1,6 @@
 -- `answer::of_word` meets its contract: the word taken apart.
+use mathlib.Core.Path.{refl}
 use borrow.Author.Needs.{needs}
-use Rattle.answer.proofs.WordLaws.{taken-back}
 use Rattle.answer.proofs.of_word.Statement.{statement}
 use Rattle.answer.proofs.of_word.Tie as tie
 
@@ -23,7 +23,7 @@ cast-t18 : tie.Need-cast-t18
 cast-t18 c = search needs
 
 returns : tie.Need-returns
-returns c a h = taken-back _ a h
+returns c = refl
 
 pub of-word-spec : {M : Type 1} → statement M
 of-word-spec = tie.close (tie.spec cast-t8 cast-t10 cast-t12 cast-t14 cast-t16 cast-t18 returns)

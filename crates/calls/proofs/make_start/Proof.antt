@@ -8,11 +8,11 @@ use Rattle.model.specs.Flags.{flagsOf}
 use Rattle.session.specs.declared.Session.{Session}
 use Rattle.session.proofs.Known.{Sized, sized}
 use Rattle.rules.specs.Starts.{startEntry}
-use Rattle.starts.specs.Steps.{Seeks, Chooses, aloneOf, nearOf, farOf, Reaches}
+use Rattle.starts.specs.Steps.{Seeks, Chooses, Plans, aloneOf, nearOf, farOf, Reaches}
 use Rattle.calls.specs.StoredCalls.{startCall, settled}
 use Rattle.calls.proofs.Settling.{Left, settle-refused}
 use Rattle.calls.proofs.StartSettling.{entry-left}
-use Rattle.calls.proofs.StartSteps.{startable, sought-inside, full-left, plannable, alone-left, near-left, far-left}
+use Rattle.calls.proofs.StartSteps.{startable, sought-inside, full-left, plannable, plans, alone-left, near-left, far-left}
 use Rattle.calls.proofs.make_start.Statement.{statement}
 use Rattle.calls.proofs.make_start.Tie as tie
 
@@ -104,6 +104,15 @@ plan-start-requires c κs =
 abbrev ofPlan : tie.After-plan-start → tie.Else1
 ofPlan c = c .before .before .before .before .before .before .before
 
+means : (c : tie.After-plan-start) → let a = ofPassed (ofPlan c) .args in Plans (a .table .now) (a .t2) (a .b) (flagsOf (a .word)) (a .finishing) (c .plan-start .result)
+means c =
+    let chosen = c .before .before .before in
+    let sought = chosen .before .before in
+    let passed = sought .before .before in
+    let start = ofPassed passed in
+    let a = start .args in
+    plans (a .table .now) (a .t2) (sizes start) (start .pre) (a .b) (a .word) (a .finishing) (enters passed) (seeks sought) (chooses chosen) (c .before .if2 .left) (c .plan-start .ensures)
+
 -- what each reach of the plan leaves
 abbrev LeftAt : tie.After-plan-start → Session → Type 0
 LeftAt c d = let a = ofPassed (ofPlan c) .args in Left (a .table .now) (a .t2) (startCall (a .finishing) (a .b) (a .word)) 0 d
@@ -113,7 +122,7 @@ alone c =
     let passed = ofPlan (c .before) in
     let start = ofPassed passed in
     let a = start .args in
-    alone-left (a .table .now) (a .t2) (sizes start) (start .pre) (a .b) (a .word) (a .finishing) (enters passed) (c .before .plan-start .ensures) (c .if3 .taken)
+    alone-left (a .table .now) (a .t2) (sizes start) (start .pre) (a .b) (a .word) (a .finishing) (enters passed) (means (c .before)) (c .if3 .taken)
 
 near : (c : tie.Then4)
     → let plan = c .before .before in
@@ -123,7 +132,7 @@ near c =
     let passed = ofPlan plan in
     let start = ofPassed passed in
     let a = start .args in
-    near-left (a .table .now) (a .t2) (sizes start) (start .pre) (a .b) (a .word) (a .finishing) (enters passed) (plan .plan-start .ensures) (c .before .if3 .left) (c .if4 .taken)
+    near-left (a .table .now) (a .t2) (sizes start) (start .pre) (a .b) (a .word) (a .finishing) (enters passed) (means plan) (c .before .if3 .left) (c .if4 .taken)
 
 far : (c : tie.Else4)
     → let plan = c .before .before in
@@ -134,7 +143,7 @@ far c =
     let passed = ofPlan plan in
     let start = ofPassed passed in
     let a = start .args in
-    far-left (a .table .now) (a .t2) (sizes start) (start .pre) (a .b) (a .word) (a .finishing) (enters passed) (plan .plan-start .ensures) (c .if4 .left)
+    far-left (a .table .now) (a .t2) (sizes start) (start .pre) (a .b) (a .word) (a .finishing) (enters passed) (means plan) (c .if4 .left)
 
 put-alone-requires : tie.Need-put-alone-requires
 put-alone-requires c κs = search needs

@@ -1,11 +1,10 @@
 -- `starts::plan_start` meets its contract, by how far the plan reaches.
-use Prim.Native.Nat.{ℕ, _≤_}
-use mathlib.Core.Path.{_≡_, refl, sym, _∙_, ap, subst}
-use mathlib.Core.Bool.{Bool, true, false, _||_, true≢false, false≢true}
-use native.Mathlib.Omega.{arith}
+use Prim.Native.Nat.{ℕ}
+use mathlib.Core.Path.{_≡_, refl, sym, _∙_, ap}
+use mathlib.Core.Bool.{Bool, true, false, _||_}
 use borrow.Author.Needs.{needs}
-use borrow.Author.Tests.{ltb-false}
-use lib.Dec.{ltb}
+use borrow.Author.Tests.{ne-eqb}
+use lib.Dec.{eqb, ltb}
 use Rattle.model.specs.Flags.{flagsOf}
 use Rattle.model.specs.Rules.{choose}
 use Rattle.session.specs.Stored.{view}
@@ -18,8 +17,8 @@ use Rattle.deeds.specs.Carriable.{Carriable}
 use Rattle.deeds.proofs.Fronts.{placed, main-low}
 use Rattle.rules.specs.Starts.{roomRefusal}
 use Rattle.rules.proofs.Picks.{Picked, picked-carriable, picked-changeable}
-use Rattle.starts.specs.Steps.{emptiesIn, Makes}
-use Rattle.starts.proofs.Planning.{Told, shift-few, put-blank, put-marked, put-kept, put-makes, front-open, second-open, closed-near, closed-alone}
+use Rattle.starts.specs.Steps.{emptiesIn, planBy, planOf}
+use Rattle.starts.proofs.Planning.{Told, front-open, second-open, both, plan-is}
 use Rattle.starts.proofs.plan_start.Statement.{statement}
 use Rattle.starts.proofs.plan_start.Tie as tie
 
@@ -92,35 +91,29 @@ told c =
       mark-is = c .before .mark-of .ensures;
     }
 
--- neither of the two reasons to reach far
-both : (x y : Bool) → (x || y) ≡ false → (x ≡ false) × (y ≡ false)
-both true y e = absurd (true≢false e)
-both false y e = (refl, e)
+-- whether the plan reaches far, by what was made
+abbrev isFarBy : tie.After-front-after → Bool
+isFarBy c =
+    ltb 4 (c .before .before .before .before .before .shift-of .result)
+    || emptiesIn (c .before .mark-of .result) (c .front-after .result .height) (storedAt (ofMade c .args .t2) 0 .height)
 
-stays : (c : tie.Else1)
-    → (ltb 4 (c .before .before .before .before .before .before .before .shift-of .result) ≡ false)
-    × (emptiesIn (c .before .before .before .mark-of .result) (c .before .before .front-after .result .height) (storedAt (ofMade (c .before .before) .args .t2) 0 .height) ≡ false)
-stays c = let r = both _ _ (c .if1 .left) in (r .0, sym (c .before .empties .ensures) ∙ r .1)
+-- the plan with these two tests
+planned : (c : tie.After-front-after) (u v : Bool) → isFarBy c ≡ u
+    → eqb (c .before .before .before .before .before .shift-of .result) 0 ≡ v
+    → let a = ofMade c .args in
+    planBy u v (c .front-after .result) (storedAt (a .t2) 0) (c .before .mark-of .result) (c .before .before .before .before .before .shift-of .result) (c .before .before .before .before .count-after .result) (c .before .before .before .main-after .result)
+    ≡ planOf (a .finishing) (a .b) (a .t2) (a .t) (a .chosen)
+planned c =
+    let a = ofMade c .args in
+    plan-is (a .t2) (a .b) (a .t) (a .chosen) (a .finishing) (c .front-after .ensures) (told c .shift-is) (told c .count-is) (told c .main-is) (told c .top-is) (told c .mark-is)
+
+stays : (c : tie.Else1) → isFarBy (c .before .before) ≡ false
+stays c = rw (c .before .empties .ensures) at (c .if1 .left)
 
 -- ---- far
 
 returns : tie.Need-returns
-returns c =
-    let made = c .before .before in
-    let start = ofMade made in
-    record {
-      alone = λ e. absurd (false≢true e);
-      near = λ e g. absurd (false≢true g);
-      far = λ e. (
-        record {
-          few = shift-few (sizes start) (start .pre .0) (room start) (picks start) (told made);
-          blank = put-blank (sizes start) (start .pre .0) (room start) (picks start) (told made);
-          marked = put-marked (sizes start) (start .pre .0) (room start) (picks start) (told made);
-          kept = put-kept (sizes start) (start .pre .0) (room start) (picks start) (told made);
-        },
-        put-makes (sizes start) (start .pre .0) (room start) (picks start) (told made),
-      );
-    }
+returns c = planned (c .before .before) true _ (rw (c .before .empties .ensures) at (c .if1 .taken)) refl
 
 -- ---- alone
 
@@ -128,22 +121,13 @@ closed-in-requires : tie.Need-closed-in-requires
 closed-in-requires c κs =
     let made = c .before .before .before in
     let start = ofMade made in
-    front-open (sizes start) (start .pre .0) (room start) (picks start) (told made) (stays (c .before) .1)
+    front-open (sizes start) (start .pre .0) (room start) (picks start) (told made) (both (ltb 4 (made .before .before .before .before .before .shift-of .result)) _ (stays (c .before)) .1)
 
 returns-2 : tie.Need-returns-2
 returns-2 c =
     let else = c .before .before in
-    let made = else .before .before in
-    let start = ofMade made in
-    let a = start .args in
-    record {
-      alone = λ e. rw (c .closed-in .ensures)
-          (subst (Makes (a .table .now) (a .t2) (a .b) (flagsOf (a .word)) (a .finishing))
-          (closed-alone (sizes start) (start .pre .0) (room start) (picks start) (told made) (stays else .1) (c .before .if2 .taken))
-          (put-makes (sizes start) (start .pre .0) (room start) (picks start) (told made)));
-      near = λ e g. absurd (true≢false e);
-      far = λ e. absurd (true≢false e);
-    }
+    rw (c .closed-in .ensures)
+    (planned (else .before .before) false true (stays else) (ap (λ (k : ℕ). eqb k 0) (c .before .if2 .taken)))
 
 -- ---- near
 
@@ -151,27 +135,12 @@ closed-in-requires-2 : tie.Need-closed-in-requires-2
 closed-in-requires-2 c κs =
     let made = c .before .before .before in
     let start = ofMade made in
-    second-open (sizes start) (start .pre .0) (room start) (picks start) (told made) (stays (c .before) .1)
+    second-open (sizes start) (start .pre .0) (room start) (picks start) (told made) (both (ltb 4 (made .before .before .before .before .before .shift-of .result)) _ (stays (c .before)) .1)
 
 returns-3 : tie.Need-returns-3
 returns-3 c =
     let else = c .before .before in
-    let made = else .before .before in
-    let start = ofMade made in
-    let a = start .args in
-    let k = made .before .before .before .before .before .shift-of .result in
-    let some : 1 ≤ k = let n : (k ≡ 0 → ⊥) = c .before .if2 .left in omega (arith, n) in
-    record {
-      alone = λ e. absurd (false≢true e);
-      near = λ e g. (
-        (some, ltb-false 4 k (stays else .0)),
-        rw (c .closed-in2 .ensures)
-            (subst (Makes (a .table .now) (a .t2) (a .b) (flagsOf (a .word)) (a .finishing))
-            (closed-near (sizes start) (start .pre .0) (room start) (picks start) (told made) (stays else .1) some)
-            (put-makes (sizes start) (start .pre .0) (room start) (picks start) (told made))),
-      );
-      far = λ e. absurd (true≢false e);
-    }
+    rw (c .closed-in2 .ensures) (planned (else .before .before) false false (stays else) (ne-eqb _ 0 (c .before .if2 .left)))
 
 pub plan-start-spec : {M : Type 1} → statement M
 plan-start-spec =

@@ -32,7 +32,7 @@ use Rattle.session.proofs.Session.Laws as S′
 use Rattle.answer.proofs.refused_word as refusing
 use Rattle.starts.specs.declared.Sought.{Sought}
 use Rattle.starts.specs.declared.Chosen.{Chosen}
-use Rattle.starts.specs.Steps.{taskAt, Seeks, Chooses, Plans}
+use Rattle.starts.specs.Steps.{taskAt, Seeks, Chooses, planOf}
 use Rattle.starts.proofs.Sought as Q
 use Rattle.starts.proofs.Sought.Laws as Q′
 use Rattle.starts.proofs.Chosen as D
@@ -43,7 +43,7 @@ use Rattle.starts.proofs.choose as choosing
 use Rattle.starts.proofs.plan_start as planning
 use Rattle.calls.specs.StoredCalls.{entryStored}
 use Rattle.calls.proofs.Settling.{settle-refused}
-use Rattle.calls.proofs.StartSteps.{entered-ready, entered, startable, sought-inside, full-left, plannable}
+use Rattle.calls.proofs.StartSteps.{entered-ready, entered, startable, sought-inside, full-left, plannable, plans}
 use Rattle.lent.proofs.LendingCalls.{Passed, pass, denots, lows, a-number, a-bool, a-session, a-long, on-values, on-table, calls-values, calls-slices}
 use Rattle.lent.proofs.LendingWays.{not-zero, is-zero, freed, leaves}
 use Rattle.lent.proofs.LendingTask.{look-task, task-is}
@@ -182,12 +182,13 @@ module _ {M : Type 1} (𝓤 : URA M) (H : Heap 𝓤) (A : Atoms 𝓤) (W : Given
       (factI 𝓤 _ (emp 𝓤)
       (may, plannable (tb F) (F .s) z h (F .b) (F .word) (F .finishing) e seeks chooses (is-zero (y .number) zero))))
       planning.ended (F .κt, tt) (F .table, denots (planned (x .index) (inside x seeks) y is-y))
-      (Plans (tb F) (F .s) (F .b) (flagsOf (F .word)) (F .finishing)) (λ r. id⊢ 𝓤 _) (λ u. id⊢ 𝓤 _)
+      (λ p. p ≡ planOf (F .finishing) (F .b) (F .s) (taskAt (F .s) (x .index)) y) (λ r. id⊢ 𝓤 _) (λ u. id⊢ 𝓤 _)
       (and-then ! (load ! (from ! (stop !)) (look ! 8 refl)) (and-then ! (load ! (from ! (stop !)) (look ! 38 refl))
       (and-then ! (load ! (from ! (stop !)) (look ! 26 refl)) (and-then ! (load ! (from ! (stop !)) (look ! 28 refl))
       (and-then ! (load ! (from ! (stop !)) (look ! 12 refl)) (and-then ! (load ! (from ! (stop !)) (look ! 14 refl))
       (and-then ! (load ! (from ! (stop !)) (look ! 16 refl)) (no-more !))))))))
-      28 refl refl (λ x′ is-x′ plans.
+      28 refl refl (λ x′ is-x′ made.
       forget ! 12 refl $ forget ! 14 refl $ forget ! 16 refl $ forget ! 20 refl $ forget ! 26 refl $ forget ! 28 refl $ forget ! 38 refl $
       forget ! 40 refl $
-      walk-put 𝓤 H A W mem run F is C Λ fm known l none x′ is-x′ plans)))))
+      walk-put 𝓤 H A W mem run F is C Λ fm known l none x′ is-x′
+      (plans (tb F) (F .s) z h (F .b) (F .word) (F .finishing) e seeks chooses (is-zero (y .number) zero) made))))))
