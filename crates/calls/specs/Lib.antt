@@ -1,4 +1,2 @@
 pub mod StoredCalls
-pub mod Restores
-pub mod StoredSaves
 pub mod StoredHistories

@@ -38,8 +38,8 @@ use Rattle.session.proofs.Session as S
 use Rattle.session.proofs.Session.Laws as S′
 use Rattle.calls.proofs.Reply as R
 use Rattle.calls.proofs.Reply.Laws as R′
-use Rattle.calls.proofs.WordReply as G
-use Rattle.calls.proofs.WordReply.Laws as G′
+use Rattle.start_calls.proofs.WordReply as G
+use Rattle.start_calls.proofs.WordReply.Laws as G′
 use Rattle.lent.proofs.Lending.{found}
 
 -- ---- values that own nothing: the machine value, at the MIR's type

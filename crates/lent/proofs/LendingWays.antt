@@ -34,9 +34,9 @@ use Rattle.session.proofs.Session.Laws as S′
 use Rattle.calls.specs.declared.Reply.{Reply}
 use Rattle.calls.proofs.Reply as R
 use Rattle.calls.proofs.Reply.Laws as R′
-use Rattle.calls.specs.declared.WordReply.{WordReply}
-use Rattle.calls.proofs.WordReply as G
-use Rattle.calls.proofs.WordReply.Laws as G′
+use Rattle.start_calls.specs.declared.WordReply.{WordReply}
+use Rattle.start_calls.proofs.WordReply as G
+use Rattle.start_calls.proofs.WordReply.Laws as G′
 use Rattle.lent.proofs.Lending.{session-is, answer-is, LocalsOf, Shut, Open, stored, found}
 
 -- ---- what a call by value returned: a session, and an answer or its word

@@ -6,8 +6,8 @@ ghost use mathlib.Core.Path.{_≡_};
 ghost use Rattle.model.specs.Calls.{Call};
 ghost use Rattle.answer.specs.Words.{Words};
 ghost use Rattle.calls.specs.StoredCalls.{callStored, startCall};
-ghost use Rattle.calls.specs.StoredSaves.{saved, saveStored};
-use calls::SaveReply;
+ghost use Rattle.image_calls.specs.StoredSaves.{saved, saveStored};
+use image_calls::SaveReply;
 use model::Answer;
 use session::Session;
 
@@ -52,16 +52,16 @@ fn start_lent(table: &[u8], s: &mut Session, b: u8, word: u32, finishing: bool) 
     }
     let plan = starts::plan_start(table, *s, t, chosen, b, word, finishing);
     if plan.alone {
-        let reply = calls::start_alone(*s, plan);
+        let reply = start_calls::start_alone(*s, plan);
         *s = reply.session;
         return reply.word;
     }
     if plan.near {
-        let reply = calls::start_near(*s, plan);
+        let reply = start_calls::start_near(*s, plan);
         *s = reply.session;
         return reply.word;
     }
-    let reply = calls::start_far(*s, plan);
+    let reply = start_calls::start_far(*s, plan);
     *s = reply.session;
     reply.word
 }

@@ -5,10 +5,10 @@ ghost use mathlib.Core.Path.{_≡_};
 ghost use lib.ListN.{take};
 ghost use Rattle.model.specs.Calls.{Call};
 ghost use Rattle.calls.specs.StoredCalls.{sharedRefusal, refusalStored, entryStored, callStored, KeepsSound};
-ghost use Rattle.calls.specs.Restores.{AcceptsImages, BringsBack, SavesAgain};
-ghost use Rattle.calls.specs.StoredSaves.{saved, saveStored, BroughtBack, NoOtherHas};
+ghost use Rattle.image_calls.specs.Restores.{AcceptsImages, BringsBack, SavesAgain};
+ghost use Rattle.image_calls.specs.StoredSaves.{saved, saveStored, BroughtBack, NoOtherHas};
 use calls::Reply;
-use calls::SaveReply;
+use image_calls::SaveReply;
 use session::Session;
 
 // The checks that every call begins with: 1, 2, 20, or 0 where none applies.
@@ -57,7 +57,7 @@ pub fn start_refusal(table: &[u8], s: Session, b: u8, word: u32) -> u8
     if number != 0 {
         return number;
     }
-    calls::entry_refusal(table, s.n, b, word)
+    start_calls::entry_refusal(table, s.n, b, word)
 }
 
 // Start of b with a flag word.
@@ -69,7 +69,7 @@ pub fn start(table: &[u8], s: Session, b: u8, word: u32) -> Reply
     if number != 0 {
         return calls::refuse(s, number);
     }
-    calls::start(table, s, b, word)
+    start_calls::start(table, s, b, word)
 }
 
 // Finishing start of b with a flag word: the caller closes itself.
@@ -81,7 +81,7 @@ pub fn finish_start(table: &[u8], s: Session, b: u8, word: u32) -> Reply
     if number != 0 {
         return calls::refuse(s, number);
     }
-    calls::finish_start(table, s, b, word)
+    start_calls::finish_start(table, s, b, word)
 }
 
 // The refusal of a Back: 1, 2, 20, 21, or 0.
@@ -116,7 +116,7 @@ pub fn restore(table: &[u8], s: Session, image: &[u8]) -> Reply
     ensures saves { λ r. ⌜ SavesAgain (now (image .entry)) r ⌝ }
 {
     let number = shared_refusal(table, s);
-    calls::restore(table, s, image, number)
+    image_calls::restore(table, s, image, number)
 }
 
 // Save writes the session's image at the start of the buffer and leaves the rest; a refused one writes nothing.
@@ -127,7 +127,7 @@ pub fn save(table: &[u8], s: Session, out: &mut [u8]) -> SaveReply
 {
     let number = shared_refusal(table, s);
     if number != 0 {
-        return calls::refuse_save(number);
+        return image_calls::refuse_save(number);
     }
-    calls::save(table, s, out)
+    image_calls::save(table, s, out)
 }

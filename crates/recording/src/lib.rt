@@ -34,11 +34,11 @@ fn after_record(table: &[u8], s: Session, kind: u8, b: u8, word: u32, image: &[u
 {
     match kind {
         1 => calls::launch(table, s).session,
-        2 => calls::start(table, s, b, word).session,
-        3 => calls::finish_start(table, s, b, word).session,
+        2 => start_calls::start(table, s, b, word).session,
+        3 => start_calls::finish_start(table, s, b, word).session,
         4 => calls::back(table, s).session,
         5 => calls::look(table, s).session,
-        6 => calls::restore(table, s, image, 0).session,
+        6 => image_calls::restore(table, s, image, 0).session,
         _ => s,
     }
 }

@@ -52,13 +52,13 @@ use Rattle.starts.proofs.choose.Symbol as choosing-def
 use Rattle.starts.proofs.plan_start.Met as planning-thm
 use Rattle.starts.proofs.plan_start.Symbol as planning-def
 use Rattle.calls.specs.StoredCalls.{entryStored}
-use Rattle.calls.proofs.StartSteps.{entry-refused}
-use Rattle.calls.proofs.start_alone.Met as alone-thm
-use Rattle.calls.proofs.start_alone.Symbol as alone-def
-use Rattle.calls.proofs.start_near.Met as near-thm
-use Rattle.calls.proofs.start_near.Symbol as near-def
-use Rattle.calls.proofs.start_far.Met as far-thm
-use Rattle.calls.proofs.start_far.Symbol as far-def
+use Rattle.start_calls.proofs.StartSteps.{entry-refused}
+use Rattle.start_calls.proofs.start_alone.Met as alone-thm
+use Rattle.start_calls.proofs.start_alone.Symbol as alone-def
+use Rattle.start_calls.proofs.start_near.Met as near-thm
+use Rattle.start_calls.proofs.start_near.Symbol as near-def
+use Rattle.start_calls.proofs.start_far.Met as far-thm
+use Rattle.start_calls.proofs.start_far.Symbol as far-def
 use Rattle.navigator.proofs.start_refusal as numbering
 use Rattle.navigator.proofs.start_refusal.Met as numbering-thm
 use Rattle.navigator.proofs.start_refusal.Symbol as numbering-def
@@ -208,9 +208,9 @@ start-lent-spec 𝓤 H 𝓜 𝓖 𝓡 =
       plans = cited 𝓤 H (Planning 𝓤 H (𝓖 .A) (𝓜 .mem) (𝓡 .run)) 𝓜 𝓡 code.env planning-def.name planning-def.routine
           code.calls-starts·plan-start (planning-thm.met 𝓤 H 𝓜 𝓖 𝓡);
       alones = cited 𝓤 H (Alone 𝓤 H (𝓖 .A) (𝓜 .mem) (𝓡 .run)) 𝓜 𝓡 code.env alone-def.name alone-def.routine
-          code.calls-calls·start-alone (alone-thm.met 𝓤 H 𝓜 𝓖 𝓡);
+          code.calls-start-calls·start-alone (alone-thm.met 𝓤 H 𝓜 𝓖 𝓡);
       nears = cited 𝓤 H (Near 𝓤 H (𝓖 .A) (𝓜 .mem) (𝓡 .run)) 𝓜 𝓡 code.env near-def.name near-def.routine
-          code.calls-calls·start-near (near-thm.met 𝓤 H 𝓜 𝓖 𝓡);
+          code.calls-start-calls·start-near (near-thm.met 𝓤 H 𝓜 𝓖 𝓡);
       fars = cited 𝓤 H (Far 𝓤 H (𝓖 .A) (𝓜 .mem) (𝓡 .run)) 𝓜 𝓡 code.env far-def.name far-def.routine
-          code.calls-calls·start-far (far-thm.met 𝓤 H 𝓜 𝓖 𝓡);
+          code.calls-start-calls·start-far (far-thm.met 𝓤 H 𝓜 𝓖 𝓡);
     }))

@@ -1,6 +1,6 @@
 -- `navigator::restore` meets its contract: what `calls::restore` gives with the refusal of the shared checks.
 use borrow.Author.Needs.{needs}
-use Rattle.calls.proofs.RestoreLaws.{restore-gives, all-bytes}
+use Rattle.image_calls.proofs.RestoreLaws.{restore-gives, all-bytes}
 use Rattle.navigator.proofs.restore.Statement.{statement}
 use Rattle.navigator.proofs.restore.Tie as tie
 

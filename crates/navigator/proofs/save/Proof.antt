@@ -3,7 +3,7 @@ use mathlib.Core.Path.{sym, _∙_}
 use borrow.Author.Needs.{needs}
 use Rattle.session.proofs.Known.{sized}
 use Rattle.calls.proofs.Settling.{shared-ready}
-use Rattle.calls.proofs.Saving.{save-refused, save-gives}
+use Rattle.image_calls.proofs.Saving.{save-refused, save-gives}
 use Rattle.navigator.proofs.save.Statement.{statement}
 use Rattle.navigator.proofs.save.Tie as tie
 

@@ -2,7 +2,7 @@
 use mathlib.Core.Path.{sym, _∙_}
 use borrow.Author.Needs.{needs}
 use Rattle.calls.proofs.Settling.{shared-ready}
-use Rattle.calls.proofs.StartSteps.{entry-shared, entry-own}
+use Rattle.start_calls.proofs.StartSteps.{entry-shared, entry-own}
 use Rattle.navigator.proofs.start_refusal.Statement.{statement}
 use Rattle.navigator.proofs.start_refusal.Tie as tie
 

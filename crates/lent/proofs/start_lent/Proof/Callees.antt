@@ -40,12 +40,12 @@ use Rattle.starts.proofs.choose as choosing
 use Rattle.starts.proofs.choose.Symbol as choosing-def
 use Rattle.starts.proofs.plan_start as planning
 use Rattle.starts.proofs.plan_start.Symbol as planning-def
-use Rattle.calls.proofs.start_alone as alone
-use Rattle.calls.proofs.start_alone.Symbol as alone-def
-use Rattle.calls.proofs.start_near as near
-use Rattle.calls.proofs.start_near.Symbol as near-def
-use Rattle.calls.proofs.start_far as far
-use Rattle.calls.proofs.start_far.Symbol as far-def
+use Rattle.start_calls.proofs.start_alone as alone
+use Rattle.start_calls.proofs.start_alone.Symbol as alone-def
+use Rattle.start_calls.proofs.start_near as near
+use Rattle.start_calls.proofs.start_near.Symbol as near-def
+use Rattle.start_calls.proofs.start_far as far
+use Rattle.start_calls.proofs.start_far.Symbol as far-def
 use Rattle.lent.proofs.LendingCalls.{Value, of-width, of-struct}
 
 -- ---- the values

@@ -43,7 +43,7 @@ use Rattle.starts.proofs.choose as choosing
 use Rattle.starts.proofs.plan_start as planning
 use Rattle.calls.specs.StoredCalls.{entryStored}
 use Rattle.calls.proofs.Settling.{settle-refused}
-use Rattle.calls.proofs.StartSteps.{entered-ready, entered, startable, sought-inside, full-left, plannable, plans}
+use Rattle.start_calls.proofs.StartSteps.{entered-ready, entered, startable, sought-inside, full-left, plannable, plans}
 use Rattle.lent.proofs.LendingCalls.{Passed, pass, denots, lows, a-number, a-bool, a-session, a-long, on-values, on-table, calls-values, calls-slices}
 use Rattle.lent.proofs.LendingWays.{not-zero, is-zero, freed, leaves}
 use Rattle.lent.proofs.LendingTask.{look-task, task-is}

@@ -36,7 +36,7 @@ use Rattle.starts.proofs.Plan.Laws as P′
 use Rattle.answer.specs.Words.{Words}
 use Rattle.calls.specs.declared.Reply.{Reply}
 use Rattle.calls.specs.StoredCalls.{reply, callStored, startCall}
-use Rattle.calls.proofs.WordReply.Laws as G′
+use Rattle.start_calls.proofs.WordReply.Laws as G′
 use Rattle.lent.proofs.Lending.{bytesTy, lentTy, of-word-parts, ensuring, Shut, Open}
 use Rattle.lent.proofs.LendingCalls.{a-long}
 use Rattle.lent.proofs.LendingWays.{vacant, holding}

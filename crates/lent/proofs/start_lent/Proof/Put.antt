@@ -27,10 +27,10 @@ use Rattle.starts.specs.Steps.{Plans, aloneOf, nearOf, farOf}
 use Rattle.starts.proofs.Plan as P
 use Rattle.starts.proofs.Plan.Laws as P′
 use Rattle.calls.specs.StoredCalls.{reply, entryStored}
-use Rattle.calls.proofs.StartSteps.{entered-ready, entered, alone-left, near-left, far-left}
-use Rattle.calls.proofs.start_alone as alone
-use Rattle.calls.proofs.start_near as near
-use Rattle.calls.proofs.start_far as far
+use Rattle.start_calls.proofs.StartSteps.{entered-ready, entered, alone-left, near-left, far-left}
+use Rattle.start_calls.proofs.start_alone as alone
+use Rattle.start_calls.proofs.start_near as near
+use Rattle.start_calls.proofs.start_far as far
 use Rattle.lent.proofs.LendingCalls.{Passed, pass, denots, lows, a-session, a-word-reply, on-values, calls-values}
 use Rattle.lent.proofs.LendingWays.{word-is, held, failed, freed, of-word-reply, stores-within}
 use Rattle.lent.proofs.start_lent.Proof.Callees.{a-plan, Alone, Near, Far, Known}

@@ -1,0 +1,3 @@
+pub mod RestoreSettling
+pub mod RestoreLaws
+pub mod Saving

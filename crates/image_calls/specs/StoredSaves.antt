@@ -1,0 +1,36 @@
+-- Save on stored sessions: what the program gives, refused or not, and what the bytes are that it wrote.
+use Prim.Native.Nat.{ℕ}
+use mathlib.Core.Path.{_≡_}
+use mathlib.Core.Bool.{true}
+use mathlib.Core.List.{List}
+use lib.ListN.{length}
+use Rattle.model.specs.Lists.{All}
+use Rattle.model.specs.Refusals.{refusal}
+use Rattle.model.specs.Session.{mostTasks, mostHeight}
+use Rattle.model.specs.Answers.{lookAt}
+use Rattle.model.specs.Image.{image}
+use Rattle.model.specs.Calls.{restore, checksIn, Saved, saveChecks, settleSave}
+use Rattle.session.specs.declared.Session.{Session}
+use Rattle.session.specs.Stored.{view, soundStored}
+use Rattle.image_calls.specs.declared.SaveReply.{SaveReply}
+use Rattle.calls.specs.StoredCalls.{reply, callStored}
+
+-- what a save gave: its reply, and the buffer as it left it
+abbrev pub saved : SaveReply → List ℕ → Saved
+saved r buffer = record { refusal = r .refusal; length = r .length; buffer = buffer }
+
+-- "The checks go in the order 1, 2, 20, then those named for the call."
+unfoldable pub saveStored : List ℕ → Session → List ℕ → Saved
+saveStored tb c buffer = settleSave (refusal (checksIn tb (soundStored tb c) (saveChecks (view c) buffer))) (view c) buffer
+
+-- "Restore .. brings that session back", from whatever sound session is present
+abbrev pub BroughtBack : List ℕ → Session → List ℕ → Type 0
+BroughtBack tb c bytes = (t : Session) → soundStored tb t ≡ true → callStored tb t (restore bytes) ≡ reply c (lookAt (view c))
+
+-- 16 tasks of 32 screens, as the types say
+abbrev pub Whole : Session → Type 0
+Whole c = (length (c .tasks) ≡ mostTasks) × All (λ t. length (t .screens) ≡ mostHeight) (c .tasks)
+
+-- "Save writes a session's only image": every sound session with these bytes for an image is this one
+abbrev pub NoOtherHas : List ℕ → Session → List ℕ → Type 0
+NoOtherHas tb c bytes = (t : Session) → Whole t → soundStored tb t ≡ true → image (view t) ≡ bytes → t ≡ c

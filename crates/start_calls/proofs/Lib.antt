@@ -1,0 +1,2 @@
+pub mod StartSettling
+pub mod StartSteps
