@@ -49,9 +49,9 @@ use Rattle.answer.specs.Words.{answerIn, Words}
 use Rattle.answer.proofs.WordLaws.{answer-back}
 use Rattle.answer.proofs.of_word as taking
 use Rattle.calls.specs.declared.Reply.{Reply}
-use Rattle.lent.proofs.Lending.{local-of, bytesTy, lentTy, Parts, WordParts, two-facts, ensuring}
-use Rattle.lent.proofs.LendingCalls.{pass, a-long, an-answer, on-values, calls-values}
-use Rattle.lent.proofs.start_lent as core
+use Rattle.lent_start.proofs.Lending.{local-of, bytesTy, lentTy, Parts, WordParts, two-facts, ensuring}
+use Rattle.lent_start.proofs.LendingCalls.{pass, a-long, an-answer, on-values, calls-values}
+use Rattle.lent_start.proofs.start_lent as core
 use Rattle.lent.proofs.milchkompass_start as outer
 
 -- the last operand of the call

@@ -4,8 +4,7 @@
 
 ghost use mathlib.Core.Path.{_≡_};
 ghost use Rattle.model.specs.Calls.{Call};
-ghost use Rattle.answer.specs.Words.{Words};
-ghost use Rattle.calls.specs.StoredCalls.{callStored, startCall};
+ghost use Rattle.calls.specs.StoredCalls.{callStored};
 ghost use Rattle.image_calls.specs.StoredSaves.{saved, saveStored};
 use image_calls::SaveReply;
 use model::Answer;
@@ -33,46 +32,13 @@ pub extern "C" fn milchkompass_launch(table: &[u8], s: &mut Session) -> Answer
     reply.answer
 }
 
-// A start, or a finishing start, over the session that is lent; its answer as one word.
-fn start_lent(table: &[u8], s: &mut Session, b: u8, word: u32, finishing: bool) -> u64
-    ensures answers { λ r. ⌜ Words r (callStored (now (table .entry)) (now (s .entry)) (startCall finishing b word) .answer) ⌝ }
-    ensures stores { λ _. ⌜ now (s .exit) ≡ callStored (now (table .entry)) (now (s .entry)) (startCall finishing b word) .session ⌝ }
-{
-    let number = navigator::start_refusal(table, *s, b, word);
-    if number != 0 {
-        return answer::refused_word(number);
-    }
-    let f = flags::read(word);
-    let sought = starts::seek(table, *s, b, f);
-    let i = sought.index;
-    let t = s.tasks[i];
-    let chosen = starts::choose(table, *s, t, sought, b, f);
-    if chosen.number != 0 {
-        return answer::refused_word(chosen.number);
-    }
-    let plan = starts::plan_start(table, *s, t, chosen, b, word, finishing);
-    if plan.alone {
-        let reply = start_calls::start_alone(*s, plan);
-        *s = reply.session;
-        return reply.word;
-    }
-    if plan.near {
-        let reply = start_calls::start_near(*s, plan);
-        *s = reply.session;
-        return reply.word;
-    }
-    let reply = start_calls::start_far(*s, plan);
-    *s = reply.session;
-    reply.word
-}
-
 // Start of b with a flag word.
 #[no_mangle]
 pub extern "C" fn milchkompass_start(table: &[u8], s: &mut Session, b: u8, word: u32) -> Answer
     ensures answers { λ r. ⌜ r ≡ callStored (now (table .entry)) (now (s .entry)) (Call.start b word) .answer ⌝ }
     ensures stores { λ _. ⌜ now (s .exit) ≡ callStored (now (table .entry)) (now (s .entry)) (Call.start b word) .session ⌝ }
 {
-    answer::of_word(start_lent(table, s, b, word, false))
+    answer::of_word(lent_start::start_lent(table, s, b, word, false))
 }
 
 // Finishing start of b with a flag word: the caller closes itself.
@@ -86,7 +52,7 @@ pub extern "C" fn milchkompass_finish_start(
     ensures answers { λ r. ⌜ r ≡ callStored (now (table .entry)) (now (s .entry)) (Call.finishingStart b word) .answer ⌝ }
     ensures stores { λ _. ⌜ now (s .exit) ≡ callStored (now (table .entry)) (now (s .entry)) (Call.finishingStart b word) .session ⌝ }
 {
-    answer::of_word(start_lent(table, s, b, word, true))
+    answer::of_word(lent_start::start_lent(table, s, b, word, true))
 }
 
 // Back.

@@ -59,9 +59,9 @@ use Rattle.calls.proofs.back_out.Symbol as out-def
 use Rattle.navigator.proofs.back_refusal as numbering
 use Rattle.navigator.proofs.back_refusal.Met as numbering-thm
 use Rattle.navigator.proofs.back_refusal.Symbol as numbering-def
-use Rattle.lent.proofs.Lending.{bytesTy, lentTy, of-parts, Open, answer-is}
-use Rattle.lent.proofs.LendingCalls.{a-number, a-bool, a-session, an-answer, a-reply, Passed, pass, denots, lows, on-values, on-table, calls-values, calls-slices}
-use Rattle.lent.proofs.LendingWays.{not-zero, is-zero, held, failed, vacant, holding, freed, opened, leaves, of-reply, stores-within}
+use Rattle.lent_start.proofs.Lending.{bytesTy, lentTy, of-parts, Open, answer-is}
+use Rattle.lent_start.proofs.LendingCalls.{a-number, a-bool, a-session, an-answer, a-reply, Passed, pass, denots, lows, on-values, on-table, calls-values, calls-slices}
+use Rattle.lent_start.proofs.LendingWays.{not-zero, is-zero, held, failed, vacant, holding, freed, opened, leaves, of-reply, stores-within}
 use Rattle.lent.proofs.LendingTable.{Frame, vt, OwnTable, args, vals, Tokens, Post, exits, Walk, meets}
 use Rattle.lent.proofs.milchkompass_back as outer
 use Rattle.lent.proofs.milchkompass_back.Code as code

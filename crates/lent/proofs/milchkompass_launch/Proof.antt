@@ -6,7 +6,7 @@ use Rattle.model.specs.Calls.{launch}
 use Rattle.navigator.proofs.launch.Met as core-thm
 use Rattle.navigator.proofs.launch.Symbol as core-def
 use Rattle.navigator.proofs.launch.Symbol.{name as #core}
-use Rattle.lent.proofs.Lending.{of-parts}
+use Rattle.lent_start.proofs.Lending.{of-parts}
 use Rattle.lent.proofs.LendingAlone.{Core, meets}
 use Rattle.lent.proofs.milchkompass_launch as outer
 use Rattle.lent.proofs.milchkompass_launch.Code as code

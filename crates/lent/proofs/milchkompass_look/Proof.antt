@@ -6,7 +6,7 @@ use Rattle.model.specs.Calls.{look}
 use Rattle.navigator.proofs.look.Met as core-thm
 use Rattle.navigator.proofs.look.Symbol as core-def
 use Rattle.navigator.proofs.look.Symbol.{name as #core}
-use Rattle.lent.proofs.Lending.{of-parts}
+use Rattle.lent_start.proofs.Lending.{of-parts}
 use Rattle.lent.proofs.LendingAlone.{Core, meets}
 use Rattle.lent.proofs.milchkompass_look as outer
 use Rattle.lent.proofs.milchkompass_look.Code as code

@@ -4,9 +4,9 @@ use base.Logic.{id⊢}
 use contract.Running.{givenOf, tables, tablesOf}
 use denote.Triple.Spec.{tripleOf}
 use denote.Triple.Table.{entered, cited}
-use Rattle.lent.proofs.start_lent.Met as core-thm
-use Rattle.lent.proofs.start_lent.Symbol as core-def
-use Rattle.lent.proofs.start_lent.Symbol.{name as #core}
+use Rattle.lent_start.proofs.start_lent.Met as core-thm
+use Rattle.lent_start.proofs.start_lent.Symbol as core-def
+use Rattle.lent_start.proofs.start_lent.Symbol.{name as #core}
 use Rattle.answer.proofs.of_word.Met as taking-thm
 use Rattle.answer.proofs.of_word.Symbol as taking-def
 use Rattle.answer.proofs.of_word.Symbol.{name as #taken}
@@ -23,7 +23,7 @@ milchkompass-start-spec 𝓤 H 𝓜 𝓖 𝓡 =
     (tables 𝓤 H 𝓜 𝓡 code.env .C) (tables 𝓤 H 𝓜 𝓡 code.env .Λ) #outer code.function (code.unfolded 𝓤 H 𝓜 𝓡)
     (meets 𝓤 H (𝓖 .A) (𝓜 .mem) (𝓡 .run) false (outer.clauses 𝓤 H (𝓖 .A) (𝓜 .mem) (𝓡 .run)) (λ κs a g r s. id⊢ 𝓤 _)
     (givenOf 𝓤 H 𝓜 𝓖) #core #taken (tablesOf 𝓤 H 𝓜 (tables 𝓤 H 𝓜 𝓡 code.env))
-    (cited 𝓤 H (Core 𝓤 H (𝓖 .A) (𝓜 .mem) (𝓡 .run)) 𝓜 𝓡 code.env #core core-def.routine code.calls-lent·start-lent
+    (cited 𝓤 H (Core 𝓤 H (𝓖 .A) (𝓜 .mem) (𝓡 .run)) 𝓜 𝓡 code.env #core core-def.routine code.calls-lent-start·start-lent
     (core-thm.met 𝓤 H 𝓜 𝓖 𝓡))
     (cited 𝓤 H (Taking 𝓤 H (𝓖 .A) (𝓜 .mem) (𝓡 .run)) 𝓜 𝓡 code.env #taken taking-def.routine code.calls-answer·of-word
     (taking-thm.met 𝓤 H 𝓜 𝓖 𝓡)))

@@ -40,7 +40,7 @@ use Rattle.calls.proofs.Reply as R
 use Rattle.calls.proofs.Reply.Laws as R′
 use Rattle.start_calls.proofs.WordReply as G
 use Rattle.start_calls.proofs.WordReply.Laws as G′
-use Rattle.lent.proofs.Lending.{found}
+use Rattle.lent_start.proofs.Lending.{found}
 
 -- ---- values that own nothing: the machine value, at the MIR's type
 

@@ -44,13 +44,13 @@ use Rattle.starts.proofs.plan_start as planning
 use Rattle.calls.specs.StoredCalls.{entryStored}
 use Rattle.calls.proofs.Settling.{settle-refused}
 use Rattle.start_calls.proofs.StartSteps.{entered-ready, entered, startable, sought-inside, full-left, plannable, plans}
-use Rattle.lent.proofs.LendingCalls.{Passed, pass, denots, lows, a-number, a-bool, a-session, a-long, on-values, on-table, calls-values, calls-slices}
-use Rattle.lent.proofs.LendingWays.{not-zero, is-zero, freed, leaves}
-use Rattle.lent.proofs.LendingTask.{look-task, task-is}
-use Rattle.lent.proofs.start_lent.Proof.Callees.{a-word, flags-read, Reading, a-task, a-sought, a-chosen, a-plan, number-is, Refusing, Seeking, Choosing, Planning, Known}
-use Rattle.lent.proofs.start_lent.Code.Mir as body
-use Rattle.lent.proofs.start_lent.Proof.Contexts.{Frame, tb, vt, Env-of, At-start, Post, exits}
-use Rattle.lent.proofs.start_lent.Proof.Put.{walk-put}
+use Rattle.lent_start.proofs.LendingCalls.{Passed, pass, denots, lows, a-number, a-bool, a-session, a-long, on-values, on-table, calls-values, calls-slices}
+use Rattle.lent_start.proofs.LendingWays.{not-zero, is-zero, freed, leaves}
+use Rattle.lent_start.proofs.LendingTask.{look-task, task-is}
+use Rattle.lent_start.proofs.start_lent.Proof.Callees.{a-word, flags-read, Reading, a-task, a-sought, a-chosen, a-plan, number-is, Refusing, Seeking, Choosing, Planning, Known}
+use Rattle.lent_start.proofs.start_lent.Code.Mir as body
+use Rattle.lent_start.proofs.start_lent.Proof.Contexts.{Frame, tb, vt, Env-of, At-start, Post, exits}
+use Rattle.lent_start.proofs.start_lent.Proof.Put.{walk-put}
 
 -- an index of a task, and the way to it in bytes, fit
 below : (i : ℕ) → i < 16 → (i < 2 ^ 64) × (i * 34 < 2 ^ 64)

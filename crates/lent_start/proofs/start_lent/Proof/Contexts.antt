@@ -1,4 +1,4 @@
--- What the walk of `lent::start_lent` is about: its parameters, its locals, the contexts that it passes, and how it ends.
+-- What the walk of `lent_start::start_lent` is about: its parameters, its locals, the contexts that it passes, and how it ends.
 use mathlib.Core.Path.{_≡_, refl}
 use Prim.Native.Nat.{ℕ, _<_, _^_}
 use mathlib.Core.Bool.{Bool}
@@ -37,10 +37,10 @@ use Rattle.answer.specs.Words.{Words}
 use Rattle.calls.specs.declared.Reply.{Reply}
 use Rattle.calls.specs.StoredCalls.{reply, callStored, startCall}
 use Rattle.start_calls.proofs.WordReply.Laws as G′
-use Rattle.lent.proofs.Lending.{bytesTy, lentTy, of-word-parts, ensuring, Shut, Open}
-use Rattle.lent.proofs.LendingCalls.{a-long}
-use Rattle.lent.proofs.LendingWays.{vacant, holding}
-use Rattle.lent.proofs.start_lent as outer
+use Rattle.lent_start.proofs.Lending.{bytesTy, lentTy, of-word-parts, ensuring, Shut, Open}
+use Rattle.lent_start.proofs.LendingCalls.{a-long}
+use Rattle.lent_start.proofs.LendingWays.{vacant, holding}
+use Rattle.lent_start.proofs.start_lent as outer
 
 -- the lifetimes, and the shares of them, of the table and the session; and what is passed. The session s lies at p, o.
 pub record Frame : Type 0 where

@@ -31,11 +31,11 @@ use Rattle.start_calls.proofs.StartSteps.{entered-ready, entered, alone-left, n
 use Rattle.start_calls.proofs.start_alone as alone
 use Rattle.start_calls.proofs.start_near as near
 use Rattle.start_calls.proofs.start_far as far
-use Rattle.lent.proofs.LendingCalls.{Passed, pass, denots, lows, a-session, a-word-reply, on-values, calls-values}
-use Rattle.lent.proofs.LendingWays.{word-is, held, failed, freed, of-word-reply, stores-within}
-use Rattle.lent.proofs.start_lent.Proof.Callees.{a-plan, Alone, Near, Far, Known}
-use Rattle.lent.proofs.start_lent.Code.Mir as body
-use Rattle.lent.proofs.start_lent.Proof.Contexts.{Frame, tb, Env-of, At-plan, Post, exits}
+use Rattle.lent_start.proofs.LendingCalls.{Passed, pass, denots, lows, a-session, a-word-reply, on-values, calls-values}
+use Rattle.lent_start.proofs.LendingWays.{word-is, held, failed, freed, of-word-reply, stores-within}
+use Rattle.lent_start.proofs.start_lent.Proof.Callees.{a-plan, Alone, Near, Far, Known}
+use Rattle.lent_start.proofs.start_lent.Code.Mir as body
+use Rattle.lent_start.proofs.start_lent.Proof.Contexts.{Frame, tb, Env-of, At-plan, Post, exits}
 
 module _ {M : Type 1} (𝓤 : URA M) (H : Heap 𝓤) (A : Atoms 𝓤) (W : Given 𝓤 H A) (mem : Memory → SProp 𝓤) (run : Routine → Fun 𝓤)
     (F : Frame) (is : Is S.the-row (F .s) (S′.lowered (F .s) ∷ []))

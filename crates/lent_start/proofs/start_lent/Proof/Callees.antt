@@ -1,4 +1,4 @@
--- What the walk of `lent::start_lent` knows of the functions that it calls: their contracts, and the values that they take and
+-- What the walk of `lent_start::start_lent` knows of the functions that it calls: their contracts, and the values that they take and
 -- give.
 use mathlib.Core.Path.{refl}
 use mathlib.Core.List.{[], _∷_, List}
@@ -46,7 +46,7 @@ use Rattle.start_calls.proofs.start_near as near
 use Rattle.start_calls.proofs.start_near.Symbol as near-def
 use Rattle.start_calls.proofs.start_far as far
 use Rattle.start_calls.proofs.start_far.Symbol as far-def
-use Rattle.lent.proofs.LendingCalls.{Value, of-width, of-struct}
+use Rattle.lent_start.proofs.LendingCalls.{Value, of-width, of-struct}
 
 -- ---- the values
 

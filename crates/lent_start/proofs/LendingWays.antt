@@ -37,7 +37,7 @@ use Rattle.calls.proofs.Reply.Laws as R′
 use Rattle.start_calls.specs.declared.WordReply.{WordReply}
 use Rattle.start_calls.proofs.WordReply as G
 use Rattle.start_calls.proofs.WordReply.Laws as G′
-use Rattle.lent.proofs.Lending.{session-is, answer-is, LocalsOf, Shut, Open, stored, found}
+use Rattle.lent_start.proofs.Lending.{session-is, answer-is, LocalsOf, Shut, Open, stored, found}
 
 -- ---- what a call by value returned: a session, and an answer or its word
 

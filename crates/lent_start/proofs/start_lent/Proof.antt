@@ -1,4 +1,4 @@
--- `lent::start_lent` meets its contract: a walk of its code by hand. Its number decides whether it is refused at its entry;
+-- `lent_start::start_lent` meets its contract: a walk of its code by hand. Its number decides whether it is refused at its entry;
 -- Proof/Choose.antt has the way from there to the plan, and Proof/Put.antt what the plan puts. Proof/Contexts.antt has the locals and
 -- the contexts. All that the proof knows of the functions called is their contracts.
 mod Callees
@@ -62,16 +62,16 @@ use Rattle.start_calls.proofs.start_far.Symbol as far-def
 use Rattle.navigator.proofs.start_refusal as numbering
 use Rattle.navigator.proofs.start_refusal.Met as numbering-thm
 use Rattle.navigator.proofs.start_refusal.Symbol as numbering-def
-use Rattle.lent.proofs.LendingCalls.{Passed, pass, denots, lows, a-number, a-session, a-long, on-values, on-table, calls-values, calls-slices}
-use Rattle.lent.proofs.LendingWays.{not-zero, is-zero, freed, opened, leaves}
-use Rattle.lent.proofs.start_lent.Proof.Callees.{a-word, Refusing, Numbering, Reading, Seeking, Choosing, Planning, Alone, Near, Far, Known}
-use Rattle.lent.proofs.start_lent as outer
-use Rattle.lent.proofs.start_lent.Code as code
-use Rattle.lent.proofs.start_lent.Code.Mir as body
-use Rattle.lent.proofs.start_lent.Key.{name as #outer}
-use Rattle.lent.proofs.start_lent.Proof.Contexts.{Frame, stayed, tb, vt, args, vals, Env-of, At-start, Post, exits}
-use Rattle.lent.proofs.start_lent.Proof.Choose.{walk-choose}
-use Rattle.lent.proofs.start_lent.Statement as stated
+use Rattle.lent_start.proofs.LendingCalls.{Passed, pass, denots, lows, a-number, a-session, a-long, on-values, on-table, calls-values, calls-slices}
+use Rattle.lent_start.proofs.LendingWays.{not-zero, is-zero, freed, opened, leaves}
+use Rattle.lent_start.proofs.start_lent.Proof.Callees.{a-word, Refusing, Numbering, Reading, Seeking, Choosing, Planning, Alone, Near, Far, Known}
+use Rattle.lent_start.proofs.start_lent as outer
+use Rattle.lent_start.proofs.start_lent.Code as code
+use Rattle.lent_start.proofs.start_lent.Code.Mir as body
+use Rattle.lent_start.proofs.start_lent.Key.{name as #outer}
+use Rattle.lent_start.proofs.start_lent.Proof.Contexts.{Frame, stayed, tb, vt, args, vals, Env-of, At-start, Post, exits}
+use Rattle.lent_start.proofs.start_lent.Proof.Choose.{walk-choose}
+use Rattle.lent_start.proofs.start_lent.Statement as stated
 
 module _ {M : Type 1} (𝓤 : URA M) (H : Heap 𝓤) (A : Atoms 𝓤) (W : Given 𝓤 H A) (mem : Memory → SProp 𝓤) (run : Routine → Fun 𝓤)
     (F : Frame) (is : Is S.the-row (F .s) (S′.lowered (F .s) ∷ []))

@@ -1,0 +1,4 @@
+pub mod Lending
+pub mod LendingCalls
+pub mod LendingTask
+pub mod LendingWays
