@@ -56,7 +56,7 @@ pub fn start_alone(s: Session, plan: Plan) -> WordReply
     requires { ⌜ Seen (aloneOf s plan) ⌝ }
     ensures { λ r. ⌜ (r .session ≡ aloneOf s plan) × Words (r .word) (lookAt (view (aloneOf s plan))) ⌝ }
 {
-    accept_word(starts::put_alone(s, plan))
+    accept_word(start_puts::put_alone(s, plan))
 }
 
 // one to four tasks gone back,
@@ -64,7 +64,7 @@ pub fn start_near(s: Session, plan: Plan) -> WordReply
     requires { ⌜ Seen (nearOf s plan) × ((1 ≤ plan .shift) × (plan .shift ≤ 4)) ⌝ }
     ensures { λ r. ⌜ (r .session ≡ nearOf s plan) × Words (r .word) (lookAt (view (nearOf s plan))) ⌝ }
 {
-    accept_word(starts::put_near(s, plan))
+    accept_word(start_puts::put_near(s, plan))
 }
 
 // or any number, and the marked screen closed.
@@ -72,7 +72,7 @@ pub fn start_far(s: Session, plan: Plan) -> WordReply
     requires { ⌜ Seen (farOf s plan) × Reaches s plan ⌝ }
     ensures { λ r. ⌜ (r .session ≡ farOf s plan) × Words (r .word) (lookAt (view (farOf s plan))) ⌝ }
 {
-    accept_word(starts::put_far(s, plan))
+    accept_word(start_puts::put_far(s, plan))
 }
 
 // A start of b with a flag word, or a finishing start, where the screen that was in front then closes, if it still stands.
@@ -94,12 +94,12 @@ fn make_start(table: &[u8], s: Session, b: u8, word: u32, finishing: bool) -> Re
     }
     let plan = starts::plan_start(table, s, t, chosen, b, word, finishing);
     if plan.alone {
-        return calls::accept(starts::put_alone(s, plan));
+        return calls::accept(start_puts::put_alone(s, plan));
     }
     if plan.near {
-        return calls::accept(starts::put_near(s, plan));
+        return calls::accept(start_puts::put_near(s, plan));
     }
-    calls::accept(starts::put_far(s, plan))
+    calls::accept(start_puts::put_far(s, plan))
 }
 
 // Start of b with a flag word.

@@ -19,7 +19,7 @@ use Rattle.session.specs.declared.Task.{Task}
 use Rattle.session.specs.Stored.{view, viewTask, hold, holdTask, noTask, storageBlank}
 use Rattle.choice.specs.Shows.{indexOf}
 use Rattle.deeds.specs.Fronted.{shiftOf, frontAfter, countAfter, mainAfter}
-use Rattle.deeds.specs.Rows.{shifted, withTasks}
+use Rattle.deeds.specs.Rows.{shifted}
 use Rattle.rules.specs.Starts.{roomRefusal, madeStored}
 use Rattle.starts.specs.declared.Sought.{Sought}
 use Rattle.starts.specs.declared.Chosen.{Chosen}
@@ -72,14 +72,6 @@ putOf c p = record { tasks = shifted (p .front) (p .shift) (c .tasks); n = p .n;
 
 abbrev pub farOf : Session → Plan → Session
 farOf c p = hold (closeAt (p .mark) (view (putOf c p)))
-
--- the place i gets the task before it, where so many tasks go back
-abbrev pub movedIf : Bool → ℕ → ℕ → Session → Session
-movedIf true i j c = withTasks c (set (c .tasks) i (taskAt c j))
-movedIf false i j c = c
-
-abbrev pub movedFew : Session → ℕ → Session
-movedFew c k = movedIf (ltb 1 k) 2 1 (movedIf (ltb 2 k) 3 2 (movedIf (ltb 3 k) 4 3 c))
 
 -- what the plan that reaches far relies on
 pub record Reaches (c : Session) (p : Plan) : Type 0 where

@@ -1,4 +1,4 @@
--- `starts::put_near` meets its contract.
+-- `start_puts::put_near` meets its contract.
 use mathlib.Core.Path.{_∙_, ap}
 use native.Mathlib.Omega.{arith}
 use borrow.Author.Needs.{needs}
@@ -7,9 +7,9 @@ use mathlib.Core.List.{List}
 use Rattle.session.specs.declared.Session.{Session}
 use Rattle.session.specs.declared.Task.{Task}
 use Rattle.session.proofs.Known.{sized}
-use Rattle.starts.proofs.Moves.{few-put}
-use Rattle.starts.proofs.put_near.Statement.{statement}
-use Rattle.starts.proofs.put_near.Tie as tie
+use Rattle.start_puts.proofs.Moves.{few-put}
+use Rattle.start_puts.proofs.put_near.Statement.{statement}
+use Rattle.start_puts.proofs.put_near.Tie as tie
 
 moved-few-requires : tie.Need-moved-few-requires
 moved-few-requires c κs = search needs

@@ -1,13 +1,13 @@
--- `starts::moved_few` meets its contract, test by test.
+-- `start_puts::moved_few` meets its contract, test by test.
 use mathlib.Core.Path.{_≡_, refl}
 use mathlib.Core.Logic.{⊎-elim}
 use borrow.Author.Needs.{needs}
 use borrow.Author.Tests.{lt-ltb, le-ltb}
 use lib.Dec.{ltb}
-use Rattle.starts.specs.Steps.{movedIf}
-use Rattle.starts.proofs.Moves.{moved-by, stayed-by}
-use Rattle.starts.proofs.moved_few.Statement.{statement}
-use Rattle.starts.proofs.moved_few.Tie as tie
+use Rattle.start_puts.specs.Moved.{movedIf}
+use Rattle.start_puts.proofs.Moves.{moved-by, stayed-by}
+use Rattle.start_puts.proofs.moved_few.Statement.{statement}
+use Rattle.start_puts.proofs.moved_few.Tie as tie
 
 element-copy-out-x : tie.Need-element-copy-out-x
 element-copy-out-x c = search needs

@@ -8,7 +8,8 @@ use lib.ListN.{length, set}
 use Rattle.session.specs.declared.Session.{Session}
 use Rattle.session.specs.declared.Task.{Task}
 use Rattle.deeds.specs.Rows.{shifted, withTasks}
-use Rattle.starts.specs.Steps.{taskAt, movedIf, movedFew}
+use Rattle.starts.specs.Steps.{taskAt}
+use Rattle.start_puts.specs.Moved.{movedIf, movedFew}
 
 -- a test and what it did to a session
 pub moved-by : (t : Bool) (i j : ℕ) (c : Session) {d : Session} {e : Session} → c ≡ e → t ≡ true → d ≡ withTasks c (set (c .tasks) i (taskAt c j)) → d ≡ movedIf t i j e

@@ -1,4 +1,4 @@
--- `starts::put_far` meets its contract: the tasks that go back, then the marked screen.
+-- `start_puts::put_far` meets its contract: the tasks that go back, then the marked screen.
 use mathlib.Core.Path.{_≡_, _∙_, sym, ap, subst}
 use borrow.Author.Needs.{needs}
 use Rattle.model.specs.declared.Mark.{Mark}
@@ -6,9 +6,9 @@ use Rattle.model.specs.Deeds.{close}
 use Rattle.model.specs.Marks.{closeAt, Stands}
 use Rattle.session.specs.declared.Session.{Session}
 use Rattle.session.specs.Stored.{view, hold}
 use Rattle.starts.specs.Steps.{putOf}
-use Rattle.starts.proofs.put_far.Statement.{statement}
-use Rattle.starts.proofs.put_far.Tie as tie
+use Rattle.start_puts.proofs.put_far.Statement.{statement}
+use Rattle.start_puts.proofs.put_far.Tie as tie
 
 cast-put-front : tie.Need-cast-put-front
 cast-put-front c = search needs
