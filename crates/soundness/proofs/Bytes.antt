@@ -18,7 +18,7 @@ use Rattle.session.proofs.Task.Laws as T′
 use Rattle.session.proofs.Session as S
 use Rattle.session.proofs.Session.Laws as S′
 use Rattle.session.proofs.Known.{screens-32}
-use Rattle.soundness.specs.Tests.{total, noSum}
+use Rattle.places.specs.PlaceTests.{total, noSum}
 use Rattle.soundness.proofs.Sums.{total-most}
 
 -- the sum of the screens is below the number that no sum is

@@ -1,93 +1,28 @@
--- Soundness of what is stored, in the terms in which the code tests it: the screens as they are stored, bottom first,
--- and each test of the code by itself.
+-- Soundness of a stored session, in the terms in which the code tests it: each test of the code by itself.
 use Prim.Native.Nat.{ℕ, pred, _≤_, _<_}
-use mathlib.Core.Path.{_≡_, refl, sym, _∙_, ap}
-use mathlib.Core.Bool.{Bool, true, false, not, _&&_}
-use mathlib.Core.List.{List, [], _∷_, map, reverse, reverse-reverse}
+use mathlib.Core.Path.{_≡_, sym, _∙_}
+use mathlib.Core.Bool.{Bool, true, false, _&&_}
+use mathlib.Core.List.{List, map}
 use native.Mathlib.Omega.{arith}
 use lib.Dec.{leb, ltb, eqb}
-use lib.ListN.{length, getD, take, drop, length-take, length-map, List·getD-map}
-use lib.Seq.{getD-take, length-take-le, take-suc}
+use lib.ListN.{length, take, drop, length-take, length-map, List·getD-map}
 use borrow.Author.Tests.{eqb-true, ne-eqb}
-use Rattle.model.specs.Lists.{all, pairwise, All, if_then_else_}
-use Rattle.model.specs.Table.{sizeOf, isSingleInstance, rootsOnce}
+use Rattle.model.specs.Lists.{all, pairwise, if_then_else_}
+use Rattle.model.specs.Table.{sizeOf, rootsOnce}
 use Rattle.model.specs.Session.{mostTasks, mostHeight, taskSound, rootsDiffer, mainSound, sound}
-use Rattle.model.proofs.Logic.{Decides, and-decides, leb-decides, ltb-decides, self-decides, false-decides, all-decides, same-test, and-left, and-right, All-map}
-use Rattle.model.proofs.Sound.{TaskSound, Plain, task-decides}
-use Rattle.model.proofs.Walks.{all-reverse, all-map, all-both, all-cong, all-true, pairwise-map}
+use Rattle.model.proofs.Logic.{Decides, and-decides, leb-decides, ltb-decides, self-decides, all-decides, same-test, and-left, and-right, All-map}
+use Rattle.model.proofs.Sound.{task-decides}
+use Rattle.model.proofs.Walks.{all-map, all-both, all-cong, all-true, pairwise-map}
 use Rattle.session.specs.declared.Task.{Task}
 use Rattle.session.specs.declared.Session.{Session}
 use Rattle.session.specs.Stored.{noTask, viewTask, view, root, rootsOf, blankAbove, isBlank, storageBlank, soundStored}
-use Rattle.session.proofs.Known.{Screens32}
-use Rattle.session.proofs.TaskLaws.{view-height}
-use Rattle.soundness.specs.Tests.{total, noSum, otherRoot, plainScreen, usedSound, usedSum, storedTaskSound, rootsKnown, mayBeRoots, mainRootSound}
+use Rattle.places.specs.PlaceTests.{total, noSum, usedSound, usedSum}
+use Rattle.soundness.specs.Tests.{otherRoot, storedTaskSound, rootsKnown, mayBeRoots, mainRootSound}
 use Rattle.soundness.proofs.Sums.{total-zero, used-sum-decides}
 
 -- ---- a task
 
-pub record TaskFits (tb : List ℕ) (t : Task) : Type 0 where
-  pub known : t .root < sizeOf tb
-  pub filled : 1 ≤ t .height
-  pub low : t .height ≤ mostHeight
-  pub lone : isSingleInstance tb (t .root) ≡ true → (t .height ≡ 1) × (getD (t .screens) 0 0 ≡ t .root)
-  pub plain : isSingleInstance tb (t .root) ≡ false → all (plainScreen tb) (take (t .height) (t .screens)) ≡ true
-
 module _ (tb : List ℕ) where
-  -- the two tests of a screen, over the screens in either order
-  plain-decides : (xs : List ℕ) → Decides (all (plainScreen tb) xs) (All (λ x. x < sizeOf tb) (reverse xs) × All (Plain tb) (reverse xs))
-  unfolding plainScreen
-  plain-decides xs = rw (← all-reverse (plainScreen tb) xs, ← all-both (λ x. ltb x (sizeOf tb)) (λ x. not (isSingleInstance tb x)) (reverse xs))
-      (and-decides (all-decides (λ x. ltb-decides x (sizeOf tb)) (reverse xs)) (all-decides (λ x. false-decides (isSingleInstance tb x)) (reverse xs)))
-
-  module _ (t : Task) (size : Screens32 t) where
-    abbrev xs : List ℕ
-    xs = take (t .height) (t .screens)
-
-    alone-in : t .height ≤ mostHeight → reverse xs ≡ t .root ∷ [] → (t .height ≡ 1) × (getD (t .screens) 0 0 ≡ t .root)
-    alone-in low e =
-        let f : xs ≡ t .root ∷ [] = sym (reverse-reverse xs) ∙ ap reverse e in
-        let h : t .height ≡ 1 = sym (length-take-le (t .height) (t .screens) (omega arith)) ∙ ap length f in
-        (h, sym (getD-take (t .height) (t .screens) 0 0 (omega arith)) ∙ ap (λ (l : List ℕ). getD l 0 0) f)
-
-    alone-out : (t .height ≡ 1) × (getD (t .screens) 0 0 ≡ t .root) → reverse xs ≡ t .root ∷ []
-    alone-out h =
-        let f : take 1 (t .screens) ≡ getD (t .screens) 0 0 ∷ [] = take-suc (t .screens) 0 0 (omega arith) in
-        rw (h .0, f, h .1)
-
-    fits-in : t .height ≤ mostHeight → TaskSound tb (viewTask t) → TaskFits tb t
-    unfolding viewTask
-    fits-in low k =
-        record {
-          known = k .known;
-          filled = omega (arith, k .filled, view-height t (omega arith));
-          low = low;
-          lone = λ a. alone-in low (k .lone a);
-          plain = λ a. plain-decides xs .shows (k .below, k .plain a);
-        }
-
-    fits-out : TaskFits tb t → TaskSound tb (viewTask t)
-    unfolding viewTask
-    fits-out f =
-        let l = view-height t (omega (arith, f .low)) in
-        record {
-          filled = omega (arith, f .filled);
-          low = omega (arith, f .low);
-          known = f .known;
-          below = go (isSingleInstance tb (t .root)) refl;
-          lone = λ a. alone-out (f .lone a);
-          plain = λ a. plain-decides xs .holds (f .plain a) .1;
-        }
-      where
-        go : (b : Bool) → isSingleInstance tb (t .root) ≡ b → All (λ x. x < sizeOf tb) (reverse xs)
-        go true a = rw (alone-out (f .lone a)) (f .known, tt)
-        go false a = plain-decides xs .holds (f .plain a) .0
-
-    pub task-fits : Decides (usedSound tb t) (TaskFits tb t)
-    unfolding usedSound
-    task-fits =
-        let d = and-decides (leb-decides (t .height) mostHeight) (task-decides tb (viewTask t)) in
-        record { holds = λ h. let r = d .holds h in fits-in (r .0) (r .1); shows = λ f. d .shows (f .low, fits-out f) }
-
   -- the sum up to the height is that of all screens exactly where the task is sound and 0 stands beyond
   pub used-stored : (t : Task) → total (t .screens) < noSum → eqb (usedSum tb t) (total (t .screens)) ≡ storedTaskSound tb t
   unfolding usedSum usedSound storedTaskSound blankAbove

@@ -1,38 +1,17 @@
--- Sums of bytes: as a loop makes them, and what equal sums say of what stands beyond a place.
+-- Sums of bytes: their most, and what equal sums say of what stands beyond a place.
 use Prim.Native.Nat.{ℕ, zero, suc, _+_, _*_, _≤_, _<_, zero-le, suc-le-suc}
 use mathlib.Core.Path.{_≡_, refl, sym, _∙_, ap}
 use mathlib.Core.Bool.{Bool, true, false, _&&_, false≢true}
 use mathlib.Core.List.{List, [], _∷_}
 use native.Mathlib.Nat.{mul-suc}
-use native.Mathlib.Numerals.{add-one}
 use native.Mathlib.Omega.{arith}
 use lib.Dec.{eqb}
-use lib.ListN.{length, getD, take, drop, drop-of-length-le}
-use lib.Seq.{drop-cons, getD-take, length-take-le}
+use lib.ListN.{length, getD, take, drop}
 use borrow.Author.Tests.{eq-eqb, eqb-true}
 use Rattle.model.specs.Lists.{all, if_then_else_}
 use Rattle.model.proofs.Logic.{Decides}
 use Rattle.model.proofs.Walks.{sum-zero}
-use Rattle.soundness.specs.Tests.{total, noSum}
-
--- ---- a turn of a loop, and its end
-
-module _ (l : List ℕ) (i : ℕ) where
-  pub total-step : i < length l → total (drop i l) ≡ getD l i 0 + total (drop (i + 1) l)
-  total-step h = rw (add-one i, drop-cons l i 0 h)
-
-  pub total-end : length l ≤ i → total (drop i l) ≡ 0
-  total-end h = rw (drop-of-length-le l h)
-
--- the same over the first n elements
-module _ (l : List ℕ) (n : ℕ) (fits : n ≤ length l) (i : ℕ) where
-  pub total-take-step : i < n → total (drop i (take n l)) ≡ getD l i 0 + total (drop (i + 1) (take n l))
-  total-take-step h = total-step (take n l) i (omega (arith, length-take-le n l fits)) ∙ rw (getD-take n l i 0 h)
-
-  pub total-take-end : n ≤ i → total (drop i (take n l)) ≡ 0
-  total-take-end h = total-end (take n l) i (omega (arith, length-take-le n l fits))
-
--- ---- what a sum says
+use Rattle.places.specs.PlaceTests.{total, noSum}
 
 total-split : (h : ℕ) (l : List ℕ) → total (take h l) + total (drop h l) ≡ total l
 total-split zero l = omega arith

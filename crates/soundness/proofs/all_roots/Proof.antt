@@ -7,7 +7,7 @@ use lib.ListN.{length, getD, drop}
 use borrow.Author.Needs.{needs}
 use Rattle.model.specs.Lists.{all}
 use Rattle.model.proofs.Walks.{all-step, all-end}
-use Rattle.soundness.specs.Tests.{isRoot}
+use Rattle.places.specs.PlaceTests.{isRoot}
 use Rattle.soundness.proofs.all_roots.Statement.{statement}
 use Rattle.soundness.proofs.all_roots.Tie as tie
 

@@ -1,9 +1,9 @@
--- `soundness::place_root` meets its contract, by its one test.
+-- `places::place_root` meets its contract, by its one test.
 use mathlib.Core.Path.{sym, _∙_}
 use borrow.Author.Tests.{eq-eqb, ne-eqb}
 use borrow.Author.Needs.{needs}
-use Rattle.soundness.proofs.place_root.Statement.{statement}
-use Rattle.soundness.proofs.place_root.Tie as tie
+use Rattle.places.proofs.place_root.Statement.{statement}
+use Rattle.places.proofs.place_root.Tie as tie
 
 expected-sum-requires : tie.Need-expected-sum-requires
 expected-sum-requires c κs = search needs

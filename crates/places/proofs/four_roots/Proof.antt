@@ -1,8 +1,8 @@
--- `soundness::four_roots` meets its contract, place by place.
+-- `places::four_roots` meets its contract, place by place.
 use borrow.Author.Needs.{needs}
-use Rattle.soundness.specs.Tests.{placeRoot}
-use Rattle.soundness.proofs.four_roots.Statement.{statement}
-use Rattle.soundness.proofs.four_roots.Tie as tie
+use Rattle.places.specs.PlaceTests.{placeRoot}
+use Rattle.places.proofs.four_roots.Statement.{statement}
+use Rattle.places.proofs.four_roots.Tie as tie
 
 place-root-requires : tie.Need-place-root-requires
 place-root-requires c κs = search needs

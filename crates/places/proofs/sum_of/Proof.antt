@@ -6,10 +6,10 @@ use lib.ListN.{length, getD, drop}
 use mir.Syntax.{w8}
 use mir.Val.{Fits}
 use borrow.Author.Needs.{needs}
-use Rattle.soundness.specs.Tests.{total}
-use Rattle.soundness.proofs.Sums.{total-step, total-end}
-use Rattle.soundness.proofs.sum_of.Statement.{statement}
-use Rattle.soundness.proofs.sum_of.Tie as tie
+use Rattle.places.specs.PlaceTests.{total}
+use Rattle.places.proofs.Adding.{total-step, total-end}
+use Rattle.places.proofs.sum_of.Statement.{statement}
+use Rattle.places.proofs.sum_of.Tie as tie
 
 abbrev Inv-loop : tie.InvT-loop
 Inv-loop t sum₀ i₀ sum i = (i ≤ 32) × ((sum ≤ 255 * i) × (total (t .screens) ≡ sum + total (drop i (t .screens))))

@@ -8,9 +8,9 @@ use lib.ListN.{length}
 use borrow.Author.Needs.{needs}
 use Rattle.model.specs.Lists.{all}
 use Rattle.session.specs.Stored.{isBlank}
-use Rattle.soundness.proofs.Fours.{rests, fours-begin, fours-step, fours-end}
-use Rattle.soundness.proofs.blank_four.Statement.{statement}
-use Rattle.soundness.proofs.blank_four.Tie as tie
+use Rattle.places.proofs.Fours.{rests, fours-begin, fours-step, fours-end}
+use Rattle.places.proofs.blank_four.Statement.{statement}
+use Rattle.places.proofs.blank_four.Tie as tie
 
 abbrev Inv-loop : tie.InvT-loop
 Inv-loop a b c d zero₀ i₀ zero i = (i ≤ 32) × (all isBlank (a ∷ b ∷ c ∷ d ∷ []) ≡ (zero && rests i a b c d))

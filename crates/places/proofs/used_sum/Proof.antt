@@ -13,10 +13,10 @@ use Rattle.model.specs.Table.{isSingleInstance}
 use Rattle.model.proofs.Logic.{refuted, same-test, contradiction}
 use Rattle.model.proofs.Tables.{good-shaped}
 use Rattle.session.proofs.TaskLaws.{view-screen}
-use Rattle.soundness.specs.Tests.{total, noSum, plainSum, usedSum}
-use Rattle.soundness.proofs.Fits.{task-fits}
-use Rattle.soundness.proofs.used_sum.Statement.{statement}
-use Rattle.soundness.proofs.used_sum.Tie as tie
+use Rattle.places.specs.PlaceTests.{total, noSum, plainSum, usedSum}
+use Rattle.places.proofs.TaskFits.{task-fits}
+use Rattle.places.proofs.used_sum.Statement.{statement}
+use Rattle.places.proofs.used_sum.Tie as tie
 
 size-requires : tie.Need-size-requires
 size-requires c κs = let g = good-shaped (c .before .args .table .now) (c .before .pre) in omega arith

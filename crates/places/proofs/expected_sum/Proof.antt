@@ -1,10 +1,10 @@
--- `soundness::expected_sum` meets its contract, by its tests.
+-- `places::expected_sum` meets its contract, by its tests.
 use native.Mathlib.Omega.{arith}
 use borrow.Author.Tests.{eq-eqb, ne-eqb}
 use borrow.Author.Needs.{needs}
-use Rattle.soundness.specs.Tests.{expectedSum}
-use Rattle.soundness.proofs.expected_sum.Statement.{statement}
-use Rattle.soundness.proofs.expected_sum.Tie as tie
+use Rattle.places.specs.PlaceTests.{expectedSum}
+use Rattle.places.proofs.expected_sum.Statement.{statement}
+use Rattle.places.proofs.expected_sum.Tie as tie
 
 used-sum-requires : tie.Need-used-sum-requires
 used-sum-requires c κs = search needs

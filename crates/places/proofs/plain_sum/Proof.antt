@@ -13,10 +13,10 @@ use Rattle.model.specs.Lists.{all}
 use Rattle.model.specs.Table.{sizeOf, modeOf, isSingleInstance}
 use Rattle.model.proofs.Tables.{good-shaped}
 use Rattle.model.proofs.Walks.{all-take-fail, all-take-next, all-take-end}
-use Rattle.soundness.specs.Tests.{total, plainScreen, plainSum}
-use Rattle.soundness.proofs.Sums.{total-take-step, total-take-end}
-use Rattle.soundness.proofs.plain_sum.Statement.{statement}
-use Rattle.soundness.proofs.plain_sum.Tie as tie
+use Rattle.places.specs.PlaceTests.{total, plainScreen, plainSum}
+use Rattle.places.proofs.Adding.{total-take-step, total-take-end}
+use Rattle.places.proofs.plain_sum.Statement.{statement}
+use Rattle.places.proofs.plain_sum.Tie as tie
 
 abbrev Inv-loop : tie.InvT-loop
 Inv-loop table h t size sum₀ i₀ sum i =
