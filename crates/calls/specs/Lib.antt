@@ -1,2 +1,1 @@
 pub mod StoredCalls
-pub mod StoredHistories

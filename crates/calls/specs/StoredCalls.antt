@@ -9,6 +9,7 @@ use Rattle.model.specs.Table.{tableRefusal}
 use Rattle.model.specs.Session.{State}
 use Rattle.model.specs.Answers.{lookAt, refused}
 use Rattle.model.specs.Calls.{Call, start, finishingStart, checksIn, ownChecks, done}
+use Rattle.model.specs.Histories.{Machine}
 use Rattle.session.specs.declared.Session.{Session}
 use Rattle.session.specs.Stored.{view, hold, soundStored}
 use Rattle.rules.specs.Starts.{startEntry}
@@ -36,6 +37,10 @@ entryStored tb c b w = refusal (checksIn tb (soundStored tb c) (startEntry tb (c
 
 unfoldable pub callStored : List ℕ → Session → Call → Reply
 callStored tb c k = settleStored (refusalStored tb c k) c (done tb (view c) k)
+
+-- the program's calls under the table tb, one after the other (document 01, "Lists in demand 3")
+abbrev pub byProgram : List ℕ → Machine Session Call Answer
+byProgram tb = record { next = λ c k. callStored tb c k .session; answer = λ c k. callStored tb c k .answer }
 
 -- a finishing start, or a start
 abbrev pub startCall : Bool → ℕ → ℕ → Call

@@ -6,12 +6,14 @@ use native.Mathlib.Omega.{arith}
 use lib.ListN.{replicate-append-replicate}
 use Rattle.model.specs.declared.Answer.{Answer}
 use Rattle.model.specs.Table.{tableRefusal}
-use Rattle.model.specs.Session.{State, count}
+use Rattle.model.specs.Session.{State, count, screensIn}
 use Rattle.model.specs.Answers.{Outcome, lookAt}
-use Rattle.model.specs.Calls.{Call, back, look, backed}
-use Rattle.model.specs.Histories.{after, answers}
+use Rattle.model.specs.Calls.{Call, back, look, backed, call}
+use Rattle.model.specs.Histories.{after, answers, byRules}
 use Rattle.model.proofs.Sound.{Sound}
 use Rattle.model.proofs.Close.{backed-sound}
+use Rattle.model.proofs.HistoryLaws.{after-append, answers-append}
+use Rattle.model.proofs.Backs.{look-gives, back-gives, back-screens, back-tells}
 use Rattle.session.specs.declared.Session.{Session}
 use Rattle.session.specs.Stored.{view, hold, Ready}
 use Rattle.session.proofs.Known.{Sized}
@@ -20,8 +22,7 @@ use Rattle.answer.specs.Seen.{Seen}
 use Rattle.answer.proofs.LookLaws.{sound-seen}
 use Rattle.closing.specs.Closable.{Closable}
 use Rattle.closing.proofs.Closed.{back-closable}
-use Rattle.difference.specs.Apart.{lookThenBacks, screensIn}
-use Rattle.difference.proofs.Backs.{after-last, answers-last, look-gives, back-gives, back-screens, back-tells}
+use Rattle.difference.specs.Apart.{lookThenBacks}
 
 -- ---- one session
 
@@ -29,14 +30,25 @@ use Rattle.difference.proofs.Backs.{after-last, answers-last, look-give
 pub record Reached (tb : List ℕ) (s : State ℕ) (k : ℕ) (before : List Answer) (c : Session) : Type 0 where
   pub stored : hold (view c) ≡ c
   pub sound : Sound tb (view c)
-  pub left : after tb s (lookThenBacks k) ≡ view c
-  pub answered : answers tb s (lookThenBacks k) ≡ before ++ lookAt (view c) ∷ []
+  pub left : after (byRules tb) s (lookThenBacks k) ≡ view c
+  pub answered : answers (byRules tb) s (lookThenBacks k) ≡ before ++ lookAt (view c) ∷ []
 
 view-back : (c d : Session) → d ≡ hold (backed (view c)) → view d ≡ backed (view c)
 view-back c d e = ap view e ∙ view-hold (backed (view c))
 
 one-more : (k : ℕ) → lookThenBacks (k + 1) ≡ lookThenBacks k ++ back ∷ []
 one-more k = ap (λ (cs : List Call). look ∷ cs) (sym (replicate-append-replicate k 1 back))
+
+-- a Back behind a list
+module _ (tb : List ℕ) (s : State ℕ) (cs : List Call) where
+  after-back : after (byRules tb) s (cs ++ back ∷ []) ≡ call tb (after (byRules tb) s cs) back .session
+  unfolding after
+  after-back = after-append (byRules tb) cs (back ∷ []) s
+
+  answers-back : answers (byRules tb) s (cs ++ back ∷ [])
+      ≡ answers (byRules tb) s cs ++ call tb (after (byRules tb) s cs) back .answer ∷ []
+  unfolding answers
+  answers-back = answers-append (byRules tb) cs (back ∷ []) s
 
 module _ (tb : List ℕ) (ok : tableRefusal tb ≡ 0) where
   pub reached-look : (c : Session) → Sized c → Ready tb c → Reached tb (view c) 0 [] c
@@ -58,8 +70,8 @@ module _ (tb : List ℕ) (ok : tableRefusal tb ≡ 0) where
       record {
         stored = ap hold v ∙ sym e;
         sound = rw v (backed-sound tb (view c) (r .sound));
-        left = rw (one-more k, after-last tb back s (lookThenBacks k), r .left, g) (sym v);
-        answered = rw (one-more k, answers-last tb back s (lookThenBacks k), r .left, r .answered, g, v);
+        left = rw (one-more k, after-back tb s (lookThenBacks k), r .left, g) (sym v);
+        answered = rw (one-more k, answers-back tb s (lookThenBacks k), r .left, r .answered, g, v);
       }
 
   reached-ready : {s : State ℕ} {k : ℕ} {before : List Answer} {c : Session} → Reached tb s k before c → Ready tb c

@@ -9,17 +9,16 @@ use native.Mathlib.Omega.{arith}
 use lib.ListN.{replicate}
 use Rattle.model.specs.declared.Answer.{Answer}
 use Rattle.model.specs.Lists.{All}
-use Rattle.model.specs.Session.{State}
+use Rattle.model.specs.Session.{State, screensIn}
 use Rattle.model.specs.Answers.{lookAt}
 use Rattle.model.specs.Calls.{back}
-use Rattle.model.specs.Histories.{answers, IsLater}
-use Rattle.model.specs.Promises.{AnswerAlike}
+use Rattle.model.specs.Histories.{answers, IsLater, AnswerAlike, byRules}
 use Rattle.model.proofs.Sound.{Sound}
+use Rattle.model.proofs.Backs.{screens-most, empty-both}
 use Rattle.session.specs.declared.Session.{Session}
 use Rattle.session.specs.Stored.{view}
 use Rattle.difference.specs.declared.Difference.{Difference}
-use Rattle.difference.specs.Apart.{lookThenBacks, screensIn, FirstApart}
-use Rattle.difference.proofs.Backs.{screens-most, empty-both}
+use Rattle.difference.specs.Apart.{lookThenBacks, FirstApart}
 use Rattle.difference.proofs.Reached.{Both, reached-count}
 
 backs-later : (k : ℕ) → All IsLater (replicate k back)
@@ -33,7 +32,7 @@ last-same (x ∷ xs) a b e = last-same xs a b (tail-eq-of-cons-eq e)
 -- the four clauses of the contract
 abbrev pub Told : List ℕ → State ℕ → State ℕ → Difference → Type 0
 Told tb s t d =
-    FirstApart tb s t d × (((d .found ≡ false) ↔ (s ≡ t)) × (((d .found ≡ false) ↔ AnswerAlike tb s t) × (d .backs ≤ 512)))
+    FirstApart tb s t d × (((d .found ≡ false) ↔ (s ≡ t)) × (((d .found ≡ false) ↔ AnswerAlike (byRules tb) s t) × (d .backs ≤ 512)))
 
 module _ {tb : List ℕ} {s t : State ℕ} {k : ℕ} {c d : Session} (r : Both tb s t k c d) where
   pub backs-most : Sound tb s → k ≤ 512
@@ -44,10 +43,10 @@ module _ {tb : List ℕ} {s t : State ℕ} {k : ℕ} {c d : Session} (r : Both t
     abbrev pub here : Bool → Difference
     here agreed = record { found = not agreed; backs = k; first = a; second = b }
 
-    reached-first : answers tb s (lookThenBacks k) ≡ r .before ++ a ∷ []
+    reached-first : answers (byRules tb) s (lookThenBacks k) ≡ r .before ++ a ∷ []
     reached-first = rw p (r .one .answered)
 
-    reached-second : answers tb t (lookThenBacks k) ≡ r .before ++ b ∷ []
+    reached-second : answers (byRules tb) t (lookThenBacks k) ≡ r .before ++ b ∷ []
     reached-second = rw q (r .other .answered)
 
     told-same : a ≡ b → c .n ≡ 0 → Told tb s t (here true)
@@ -64,12 +63,12 @@ module _ {tb : List ℕ} {s t : State ℕ} {k : ℕ} {c d : Session} (r : Both t
             differ = λ x. absurd (false≢true x);
             emptied = λ x. (omega arith, (p ∙ ap lookAt (f .0), q ∙ ap lookAt (f .1)));
           },
-          ((λ x. same, λ x. refl), ((λ x cs l. ap (λ (u : State ℕ). answers tb u cs) same, λ x. refl), backs-most h)),
+          ((λ x. same, λ x. refl), ((λ x cs l. ap (λ (u : State ℕ). answers (byRules tb) u cs) same, λ x. refl), backs-most h)),
         )
 
     told-apart : (a ≡ b → ⊥) → Told tb s t (here false)
     told-apart n =
-        let other : answers tb s (lookThenBacks k) ≡ answers tb t (lookThenBacks k) → ⊥ =
+        let other : answers (byRules tb) s (lookThenBacks k) ≡ answers (byRules tb) t (lookThenBacks k) → ⊥ =
         λ e. n (last-same (r .before) a b (sym reached-first ∙ e ∙ reached-second)) in (
           record {
             before = r .before;
@@ -79,7 +78,7 @@ module _ {tb : List ℕ} {s t : State ℕ} {k : ℕ} {c d : Session} (r : Both t
             emptied = λ x. absurd (true≢false x);
           },
           (
-            (λ x. absurd (true≢false x), λ e. absurd (other (ap (λ (u : State ℕ). answers tb u (lookThenBacks k)) e))),
+            (λ x. absurd (true≢false x), λ e. absurd (other (ap (λ (u : State ℕ). answers (byRules tb) u (lookThenBacks k)) e))),
             ((λ x. absurd (true≢false x), λ f. absurd (other (f (lookThenBacks k) (tt, backs-later k)))), backs-most h),
           ),
         )

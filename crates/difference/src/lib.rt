@@ -4,7 +4,7 @@ ghost use Prim.Native.Nat.{_≤_};
 ghost use mathlib.Core.Path.{_≡_};
 ghost use mathlib.Core.Logic.{_↔_};
 ghost use mathlib.Core.Bool.{true, false};
-ghost use Rattle.model.specs.Promises.{AnswerAlike};
+ghost use Rattle.model.specs.Histories.{AnswerAlike, byRules};
 ghost use Rattle.session.specs.Stored.{view, Ready};
 ghost use Rattle.difference.specs.Apart.{FirstApart};
 use model::Answer;
@@ -35,7 +35,7 @@ pub fn first_difference(table: &[u8], first: Session, second: Session) -> Differ
     requires { ⌜ Ready (now table) first × Ready (now table) second ⌝ }
     ensures apart { λ r. ⌜ FirstApart (now (table .entry)) (view first) (view second) r ⌝ }
     ensures same { λ r. ⌜ (r .found ≡ false) ↔ (view first ≡ view second) ⌝ }
-    ensures alike { λ r. ⌜ (r .found ≡ false) ↔ AnswerAlike (now (table .entry)) (view first) (view second) ⌝ }
+    ensures alike { λ r. ⌜ (r .found ≡ false) ↔ AnswerAlike (byRules (now (table .entry))) (view first) (view second) ⌝ }
     ensures bound { λ r. ⌜ r .backs ≤ 512 ⌝ }
 {
     let mut s = first;

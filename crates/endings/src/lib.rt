@@ -7,7 +7,7 @@ ghost use mathlib.Core.Bool.{true, false};
 ghost use lib.ListN.{length};
 ghost use Rattle.model.specs.Table.{tableRefusal};
 ghost use Rattle.model.specs.Player.{decimal, tableIn};
-ghost use Rattle.model.specs.Promises.{AnswerAlike};
+ghost use Rattle.model.specs.Histories.{AnswerAlike, byRules};
 ghost use Rattle.model.specs.Written.{written};
 ghost use Rattle.session.specs.Stored.{hold, Ready};
 ghost use Rattle.difference.specs.Apart.{FirstApart};
@@ -65,7 +65,7 @@ pub fn compare(first: &[u8], second: &[u8]) -> Difference
     requires { ⌜ (tableRefusal (tableIn (now first)) ≡ 0) × (tableIn (now first) ≡ tableIn (now second)) ⌝ }
     ensures apart { λ r. ⌜ FirstApart (tableIn (now (first .entry))) (endingOf (now (first .entry))) (endingOf (now (second .entry))) r ⌝ }
     ensures same { λ r. ⌜ (r .found ≡ false) ↔ (endingOf (now (first .entry)) ≡ endingOf (now (second .entry))) ⌝ }
-    ensures alike { λ r. ⌜ (r .found ≡ false) ↔ AnswerAlike (tableIn (now (first .entry))) (endingOf (now (first .entry))) (endingOf (now (second .entry))) ⌝ }
+    ensures alike { λ r. ⌜ (r .found ≡ false) ↔ AnswerAlike (byRules (tableIn (now (first .entry)))) (endingOf (now (first .entry))) (endingOf (now (second .entry))) ⌝ }
     ensures bound { λ r. ⌜ r .backs ≤ 512 ⌝ }
 {
     let end = table_end(first);

@@ -10,7 +10,7 @@ use Rattle.model.specs.Session.{State}
 use Rattle.model.specs.Image.{image, imageChecks, sessionIn}
 use Rattle.model.specs.Answers.{lookAt}
 use Rattle.model.specs.Calls.{restore, ownChecks, done}
-use Rattle.model.specs.Promises.{IsByte}
+use Rattle.model.specs.Histories.{IsByte}
 use Rattle.model.proofs.ImageLaws.{images-exact, accepts-exactly}
 use Rattle.session.specs.declared.Session.{Session}
 use Rattle.session.specs.Stored.{view, hold, Ready}

@@ -1,6 +1,6 @@
 -- Save on a stored session, by what its checks said; and what the bytes are that it wrote.
 use Prim.Native.Nat.{ℕ, zero, suc, _≤_, _<_}
-use mathlib.Core.Path.{_≡_, refl, sym, _∙_, ap}
+use mathlib.Core.Path.{_≡_, refl, _∙_, ap}
 use mathlib.Core.Bool.{true}
 use mathlib.Core.List.{List, []}
 use native.Mathlib.Omega.{arith}
@@ -15,7 +15,7 @@ use Rattle.model.proofs.RefusalLaws.{refusal-applies, refusal-passes, refusal-a
 use Rattle.model.proofs.Sound.{sound-decides}
 use Rattle.model.proofs.ImageLaws.{images-exact, image-injective}
 use Rattle.session.specs.declared.Session.{Session}
-use Rattle.session.specs.Stored.{view, hold, soundStored, Ready}
+use Rattle.session.specs.Stored.{view, soundStored, Ready}
 use Rattle.session.proofs.Known.{Sized}
 use Rattle.session.proofs.StoredLaws.{held, sound-blank, sound-view}
 use Rattle.image_calls.specs.declared.SaveReply.{SaveReply}
@@ -54,22 +54,19 @@ module _ (tb : List ℕ) (c : Session) (d : List ℕ) where
 
   -- ---- the image that it writes
 
-  module _ (h : Ready tb c) (z : Sized c) where
-    -- the image brings its session back
-    brings-back : BroughtBack tb c (image (view c))
-    unfolding ownChecks done
-    brings-back t e =
-        let s = sound-decides tb (view c) .shows (sound-view tb c (h .sound)) in
-        let k = images-exact tb .accepts (view c) s in
-        let v = images-exact tb .bringsBack (view c) s in
-        call-settled tb t (restore (image (view c))) (record { good = h .good; sound = e })
-        ∙ rw (k, v) (ap (λ (o : Session). reply o (lookAt (view c))) (held c z (sound-blank tb c (h .sound))))
+  -- the image brings its session back
+  brings-back : Ready tb c → Sized c → BroughtBack tb c (image (view c))
+  unfolding ownChecks done
+  brings-back h z t e =
+      let s = sound-decides tb (view c) .shows (sound-view tb c (h .sound)) in
+      let k = images-exact tb .accepts (view c) s in
+      let v = images-exact tb .bringsBack (view c) s in
+      call-settled tb t (restore (image (view c))) (record { good = h .good; sound = e })
+      ∙ rw (k, v) (ap (λ (o : Session). reply o (lookAt (view c))) (held c z (sound-blank tb c (h .sound))))
 
-    -- and is no other's
-    no-other-has : NoOtherHas tb c (image (view c))
-    no-other-has t w e i =
-        let v = image-injective tb (view t) (view c) (sound-view tb t e) (sound-view tb c (h .sound)) i in
-        sym (held t (record { tasks = w .0; each = w .1 }) (sound-blank tb t e)) ∙ ap hold v ∙ held c z (sound-blank tb c (h .sound))
+  -- and is no other's
+  no-other-has : Ready tb c → NoOtherHas tb c (image (view c))
+  no-other-has h t e i = image-injective tb (view t) (view c) (sound-view tb t e) (sound-view tb c (h .sound)) i
 
   module _ (z : Sized c) (r : SaveReply) (d′ : List ℕ) (e : saved r d′ ≡ saveStored tb c d) where
     -- an accepted save wrote the image of a sound session
@@ -92,6 +89,6 @@ module _ (tb : List ℕ) (c : Session) (d : List ℕ) where
       e,
       (
         λ f. let a = accepted f in rw (a .1) (brings-back (a .0) z),
-        λ f. let a = accepted f in rw (a .1) (no-other-has (a .0) z),
+        λ f. let a = accepted f in rw (a .1) (no-other-has (a .0)),
       ),
     )

@@ -3,10 +3,7 @@ use Prim.Native.Nat.{ℕ}
 use mathlib.Core.Path.{_≡_}
 use mathlib.Core.Bool.{true}
 use mathlib.Core.List.{List}
-use lib.ListN.{length}
-use Rattle.model.specs.Lists.{All}
 use Rattle.model.specs.Refusals.{refusal}
-use Rattle.model.specs.Session.{mostTasks, mostHeight}
 use Rattle.model.specs.Answers.{lookAt}
 use Rattle.model.specs.Image.{image}
 use Rattle.model.specs.Calls.{restore, checksIn, Saved, saveChecks, settleSave}
@@ -27,10 +24,6 @@ saveStored tb c buffer = settleSave (refusal (checksIn tb (soundStored tb c) (sa
 abbrev pub BroughtBack : List ℕ → Session → List ℕ → Type 0
 BroughtBack tb c bytes = (t : Session) → soundStored tb t ≡ true → callStored tb t (restore bytes) ≡ reply c (lookAt (view c))
 
--- 16 tasks of 32 screens, as the types say
-abbrev pub Whole : Session → Type 0
-Whole c = (length (c .tasks) ≡ mostTasks) × All (λ t. length (t .screens) ≡ mostHeight) (c .tasks)
-
 -- "Save writes a session's only image": every sound session with these bytes for an image is this one
 abbrev pub NoOtherHas : List ℕ → Session → List ℕ → Type 0
-NoOtherHas tb c bytes = (t : Session) → Whole t → soundStored tb t ≡ true → image (view t) ≡ bytes → t ≡ c
+NoOtherHas tb c bytes = (t : Session) → soundStored tb t ≡ true → image (view t) ≡ bytes → view t ≡ view c

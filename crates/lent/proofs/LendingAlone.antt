@@ -27,10 +27,12 @@ use denote.Triple.Spec.{Meets, tripleOf}
 use denote.Triple.Clauses.{Clauses, atExit, closing}
 use Rattle.model.specs.Calls.{Call}
 use Rattle.model.proofs.Answer.Laws as N′
+use Rattle.session.specs.declared.Session.{Session}
+use Rattle.session.proofs.Known.{Sized}
 use Rattle.session.proofs.Session as S
 use Rattle.session.proofs.Session.Laws as S′
 use Rattle.calls.specs.declared.Reply.{Reply}
-use Rattle.calls.specs.StoredCalls.{callStored, KeepsSound}
+use Rattle.calls.specs.StoredCalls.{callStored}
 use Rattle.calls.proofs.Reply.Laws as R′
 use Rattle.navigator.proofs.launch as core
 use Rattle.lent_start.proofs.Lending.{local-of, bytesTy, lentTy, stored, Open, answer-is}
@@ -52,27 +54,29 @@ function #core = record {
       (seq (call #core (copy (place 1 []) ∷ copy (place 4 []) ∷ []) (place 3 [])) (stored 3));
 }
 
-module _ {M : Type 1} (𝓤 : URA M) (H : Heap 𝓤) (A : Atoms 𝓤) (does : Call) where
+-- Rest is what its contract says besides what it gives
+module _ {M : Type 1} (𝓤 : URA M) (H : Heap 𝓤) (A : Atoms 𝓤) (does : Call) (Rest : List ℕ → Session → Reply → SProp 𝓤) where
   abbrev coreClauses : Clauses 𝓤 core.ended
   coreClauses κs a = record {
     ghost = Unit {0};
     requires = λ _. emp 𝓤;
     ensures = λ _ r _.
-        sep 𝓤 (fact 𝓤 (r ≡ callStored (now (a .0)) (a .1 .0) does)) (fact 𝓤 (KeepsSound (now (a .0)) (a .1 .0) (r .session)));
+        sep 𝓤 (fact 𝓤 (r ≡ callStored (now (a .0)) (a .1 .0) does)) (Rest (now (a .0)) (a .1 .0) r);
   }
 
   -- the contract of `navigator`'s function
   abbrev pub Core : Contract 𝓤
   Core = tripleOf 𝓤 H A core.signature (closing 𝓤 H A core.ended coreClauses)
 
--- clauses are those of the function here; they follow from what the reply is
-module _ {M : Type 1} (𝓤 : URA M) (H : Heap 𝓤) (A : Atoms 𝓤) (does : Call) (clauses : Clauses 𝓤 outer.ended)
+-- clauses are those of the function here; they follow from what the reply is, and from the lengths of the session's arrays
+module _ {M : Type 1} (𝓤 : URA M) (H : Heap 𝓤) (A : Atoms 𝓤) (does : Call) (Rest : List ℕ → Session → Reply → SProp 𝓤)
+    (clauses : Clauses 𝓤 outer.ended)
     (shown : (κs : Lfts 2) (a : Args outer.signature κs) (g : clauses κs a .ghost) (r : Reply)
-    → r ≡ callStored (now (a .0)) (now (a .1 .0)) does
+    → r ≡ callStored (now (a .0)) (now (a .1 .0)) does → Sized (now (a .1 .0))
     → ent 𝓤 (emp 𝓤) (clauses κs a .ensures g (r .answer) (atExit outer.ended κs a (tt, (r .session, tt)))))
     (W : Given 𝓤 H A) (#core : Name) where
   abbrev Known : Calls 𝓤 H → Type 1
-  Known C = Triple 𝓤 (C #core) (Core 𝓤 H A does)
+  Known C = Triple 𝓤 (C #core) (Core 𝓤 H A does Rest)
 
   module _ (F : Frame) (g : clauses (T.lfts F) (args F) .ghost) (is : Is S.the-row (F .s) (S′.lowered (F .s) ∷ []))
       (C : Calls 𝓤 H) (Λ : Loops 𝓤 H) (fm : FmC 𝓤 H (W .laws) C) (known : Known C) (l0 l1 l2 l3 l4 : ℕ) where
@@ -96,15 +100,15 @@ module _ {M : Type 1} (𝓤 : URA M) (H : Heap 𝓤) (A : Atoms 𝓤) (does : Ca
     walk-body =
         assigns ! (of-opd ! (load ! (from ! (hop ! (look ! 10 refl) (stop !))) (look-raw ! 2 refl))) (from ! (stop !))
         (init ! 14 refl (a-session 𝓤 H A W .typed (F .s) is)) $
-        calls-slices ! (a-reply 𝓤 H A W) fm (Core 𝓤 H A does) known
+        calls-slices ! (a-reply 𝓤 H A W) fm (Core 𝓤 H A does Rest) known
         (((F .κt, tt), (F .qt, tt), tt, (F .table, denots session), (vt F ∷ [], lows session)), tt)
         (on-table W session (F .κt) (F .qt) (F .table) (id⊢ 𝓤 _))
-        core.ended (F .κt, tt) (F .table, denots session) Made (λ r. fst∗ 𝓤 (fact 𝓤 (Made r)) (fact 𝓤 _)) (λ u. id⊢ 𝓤 _)
+        core.ended (F .κt, tt) (F .table, denots session) Made (λ r. fst∗ 𝓤 (fact 𝓤 (Made r)) (Rest (now (F .table)) (F .s) r)) (λ u. id⊢ 𝓤 _)
         (and-then ! (load ! (from ! (stop !)) (look ! 8 refl)) (and-then ! (load ! (from ! (stop !)) (look ! 14 refl)) (no-more !)))
         10 refl refl (λ r is-r made.
         stores-within ! (F .s) (of-reply W r is-r) Ends 1 refl refl refl $
         forget ! 7 refl $ forget ! 11 refl $ forget ! 13 refl $ freed ! Env-of $
-        by ! (T.exits 𝓤 H A W does clauses shown F g (r .answer) (r .session) (answer-is r _ is-r) made))
+        by ! (T.exits 𝓤 H A W does clauses shown F g (r .answer) (r .session) (answer-is r _ is-r) is made))
 
   walk : Walk 𝓤 H A W does clauses shown (function #core) Known
   walk F g C Λ fm known pt =

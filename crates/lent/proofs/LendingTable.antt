@@ -32,6 +32,8 @@ use Rattle.model.proofs.Answer as N
 use Rattle.model.proofs.Answer.Laws as N′
 use Rattle.session.specs.declared.Session.{Session}
 use Rattle.session.proofs.Session as S
+use Rattle.session.proofs.Session.Laws as S′
+use Rattle.session.proofs.Known.{Sized, sized}
 use Rattle.calls.specs.declared.Reply.{Reply}
 use Rattle.calls.specs.StoredCalls.{reply, callStored}
 use Rattle.lent_start.proofs.Lending.{ensuring, Shut}
@@ -80,23 +82,24 @@ module _ {M : Type 1} (𝓤 : URA M) (F : Frame) where
 abbrev stayed : Stays (outer.ended .signature .params) (outer.ended .kept)
 stayed = (stay-none-slice (0 ∷ []) tt (plain (λ _. u8)) yes, (stay-ref (1 ∷ []) tt (plain (λ _. S.the-row)), tt))
 
--- clauses are those of the function; they follow from what the reply is
+-- clauses are those of the function; they follow from what the reply is, and from the lengths of the session's arrays
 module _ {M : Type 1} (𝓤 : URA M) (H : Heap 𝓤) (A : Atoms 𝓤) (W : Given 𝓤 H A) (does : Call) (clauses : Clauses 𝓤 outer.ended)
     (shown : (κs : Lfts 2) (a : Args outer.signature κs) (g : clauses κs a .ghost) (r : Reply)
-    → r ≡ callStored (now (a .0)) (now (a .1 .0)) does
+    → r ≡ callStored (now (a .0)) (now (a .1 .0)) does → Sized (now (a .1 .0))
     → ent 𝓤 (emp 𝓤) (clauses κs a .ensures g (r .answer) (atExit outer.ended κs a (tt, (r .session, tt))))) where
   module _ (F : Frame) (g : clauses (lfts F) (args F) .ghost) where
     abbrev pub Post : Val → SProp 𝓤
     Post = walkOf 𝓤 H A outer.ended stayed clauses .post ((lfts F, (F .qt, (F .qs, tt)), tt, args F, vals F), g)
 
-    pub exits : (a : Answer) (s′ : Session) → Is N.the-row a (N′.lowered a ∷ []) → reply s′ a ≡ callStored (now (F .table)) (F .s) does
+    pub exits : (a : Answer) (s′ : Session) → Is N.the-row a (N′.lowered a ∷ []) → Is S.the-row (F .s) (S′.lowered (F .s) ∷ [])
+        → reply s′ a ≡ callStored (now (F .table)) (F .s) does
         → ent 𝓤 (⋆ 𝓤 H A (Left 𝓤 F s′)) (Post (N′.lowered a))
-    exits a s′ is e =
+    exits a s′ is is-s e =
         qed W (Left 𝓤 F s′) ∵
         suffices ! _
         (ends-at 𝓤 H A outer.ended stayed clauses W ((lfts F, (F .qt, (F .qs, tt)), tt, args F, vals F), g)
         (N′.lowered a) a (tt, (s′, tt)) (tt, (tt, tt))) $
-        ensuring ! (shown (lfts F) (args F) g (reply s′ a) e) $
+        ensuring ! (shown (lfts F) (args F) g (reply s′ a) e (sized (F .s) _ is-s)) $
         -- the tokens
         move ! (3 ∷ []) $ split ! $ move ! (4 ∷ 1 ∷ []) $ join ! $ move ! (1 ∷ 0 ∷ []) $ join ! $ frame ! $
         -- the parameters

@@ -1,3 +1,4 @@
+pub mod LendingFacts
 pub mod LendingAlone
 pub mod LendingOn
 pub mod LendingTable

@@ -3,18 +3,23 @@
 // Back or a start are told by functions by value. Each way has a store of its own, so that no more is written than changes.
 
 ghost use mathlib.Core.Path.{_≡_};
+ghost use lib.ListN.{take};
 ghost use Rattle.model.specs.Calls.{Call};
-ghost use Rattle.calls.specs.StoredCalls.{callStored};
-ghost use Rattle.image_calls.specs.StoredSaves.{saved, saveStored};
+ghost use Rattle.calls.specs.StoredCalls.{reply, callStored};
+ghost use Rattle.image_calls.specs.Restores.{AcceptsImages, BringsBack, SavesAgain};
+ghost use Rattle.image_calls.specs.StoredSaves.{saved, saveStored, BroughtBack, NoOtherHas};
+ghost use Rattle.navigator.specs.Promise3.{KeepsPromise3};
 use image_calls::SaveReply;
 use model::Answer;
 use session::Session;
 
-// Look: the answer of the session as it is.
+// Look: the answer of the session as it is, which stays.
 #[no_mangle]
 pub extern "C" fn milchkompass_look(table: &[u8], s: &mut Session) -> Answer
     ensures answers { λ r. ⌜ r ≡ callStored (now (table .entry)) (now (s .entry)) Call.look .answer ⌝ }
     ensures stores { λ _. ⌜ now (s .exit) ≡ callStored (now (table .entry)) (now (s .entry)) Call.look .session ⌝ }
+    ensures stays { λ _. ⌜ now (s .exit) ≡ now (s .entry) ⌝ }
+    ensures promise { λ _. ⌜ KeepsPromise3 (now (table .entry)) ⌝ }
 {
     let reply = navigator::look(table, *s);
     *s = reply.session;
@@ -26,6 +31,7 @@ pub extern "C" fn milchkompass_look(table: &[u8], s: &mut Session) -> Answer
 pub extern "C" fn milchkompass_launch(table: &[u8], s: &mut Session) -> Answer
     ensures answers { λ r. ⌜ r ≡ callStored (now (table .entry)) (now (s .entry)) Call.launch .answer ⌝ }
     ensures stores { λ _. ⌜ now (s .exit) ≡ callStored (now (table .entry)) (now (s .entry)) Call.launch .session ⌝ }
+    ensures promise { λ _. ⌜ KeepsPromise3 (now (table .entry)) ⌝ }
 {
     let reply = navigator::launch(table, *s);
     *s = reply.session;
@@ -37,6 +43,7 @@ pub extern "C" fn milchkompass_launch(table: &[u8], s: &mut Session) -> Answer
 pub extern "C" fn milchkompass_start(table: &[u8], s: &mut Session, b: u8, word: u32) -> Answer
     ensures answers { λ r. ⌜ r ≡ callStored (now (table .entry)) (now (s .entry)) (Call.start b word) .answer ⌝ }
     ensures stores { λ _. ⌜ now (s .exit) ≡ callStored (now (table .entry)) (now (s .entry)) (Call.start b word) .session ⌝ }
+    ensures promise { λ _. ⌜ KeepsPromise3 (now (table .entry)) ⌝ }
 {
     answer::of_word(lent_start::start_lent(table, s, b, word, false))
 }
@@ -51,6 +58,7 @@ pub extern "C" fn milchkompass_finish_start(
 ) -> Answer
     ensures answers { λ r. ⌜ r ≡ callStored (now (table .entry)) (now (s .entry)) (Call.finishingStart b word) .answer ⌝ }
     ensures stores { λ _. ⌜ now (s .exit) ≡ callStored (now (table .entry)) (now (s .entry)) (Call.finishingStart b word) .session ⌝ }
+    ensures promise { λ _. ⌜ KeepsPromise3 (now (table .entry)) ⌝ }
 {
     answer::of_word(lent_start::start_lent(table, s, b, word, true))
 }
@@ -60,6 +68,7 @@ pub extern "C" fn milchkompass_finish_start(
 pub extern "C" fn milchkompass_back(table: &[u8], s: &mut Session) -> Answer
     ensures answers { λ r. ⌜ r ≡ callStored (now (table .entry)) (now (s .entry)) Call.back .answer ⌝ }
     ensures stores { λ _. ⌜ now (s .exit) ≡ callStored (now (table .entry)) (now (s .entry)) Call.back .session ⌝ }
+    ensures promise { λ _. ⌜ KeepsPromise3 (now (table .entry)) ⌝ }
 {
     let number = navigator::back_refusal(table, *s);
     if number != 0 {
@@ -80,6 +89,10 @@ pub extern "C" fn milchkompass_back(table: &[u8], s: &mut Session) -> Answer
 pub extern "C" fn milchkompass_restore(table: &[u8], s: &mut Session, image: &[u8]) -> Answer
     ensures answers { λ r. ⌜ r ≡ callStored (now (table .entry)) (now (s .entry)) (Call.restore (now (image .entry))) .answer ⌝ }
     ensures stores { λ _. ⌜ now (s .exit) ≡ callStored (now (table .entry)) (now (s .entry)) (Call.restore (now (image .entry))) .session ⌝ }
+    ensures accepts { λ r. ⌜ AcceptsImages (now (table .entry)) (now (s .entry)) (now (image .entry)) (reply (now (s .exit)) r) ⌝ }
+    ensures brings { λ r. ⌜ BringsBack (now (table .entry)) (now (s .entry)) (now (image .entry)) (reply (now (s .exit)) r) ⌝ }
+    ensures saves { λ r. ⌜ SavesAgain (now (image .entry)) (reply (now (s .exit)) r) ⌝ }
+    ensures promise { λ _. ⌜ KeepsPromise3 (now (table .entry)) ⌝ }
 {
     let reply = navigator::restore(table, *s, image);
     *s = reply.session;
@@ -89,7 +102,10 @@ pub extern "C" fn milchkompass_restore(table: &[u8], s: &mut Session, image: &[u
 // Save: the session's image at the start of the buffer; the rest of the buffer, or all of it where save is refused, stays.
 #[no_mangle]
 pub extern "C" fn milchkompass_save(table: &[u8], s: Session, out: &mut [u8]) -> SaveReply
-    ensures { λ r. ⌜ saved r (now (out .exit)) ≡ saveStored (now (table .entry)) s (now (out .entry)) ⌝ }
+    ensures gives { λ r. ⌜ saved r (now (out .exit)) ≡ saveStored (now (table .entry)) s (now (out .entry)) ⌝ }
+    ensures restores { λ r. ⌜ (r .refusal ≡ 0 → BroughtBack (now (table .entry)) s (take (r .length) (now (out .exit)))) ⌝ }
+    ensures only { λ r. ⌜ (r .refusal ≡ 0 → NoOtherHas (now (table .entry)) s (take (r .length) (now (out .exit)))) ⌝ }
+    ensures promise { λ _. ⌜ KeepsPromise3 (now (table .entry)) ⌝ }
 {
     navigator::save(table, s, out)
 }

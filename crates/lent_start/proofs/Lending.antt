@@ -64,14 +64,7 @@ two-facts 𝓤 φ ψ x y =
     via 𝓤 (sep 𝓤 (emp 𝓤) (fact 𝓤 ψ)) (via 𝓤 (fact 𝓤 ψ) (factI 𝓤 ψ (emp 𝓤) y) (emp∗ 𝓤 (fact 𝓤 ψ)))
     (monoL 𝓤 (fact 𝓤 ψ) (factI 𝓤 φ (emp 𝓤) x))
 
--- the two facts that a contract here asks for, of the parts of the right reply
-abbrev pub Parts : {M : Type 1} (𝓤 : URA M) → Reply → Answer → Session → SProp 𝓤
-Parts 𝓤 x r s = sep 𝓤 (fact 𝓤 (r ≡ x .answer)) (fact 𝓤 (s ≡ x .session))
-
-pub of-parts : {M : Type 1} (𝓤 : URA M) {r x : Reply} → r ≡ x → ent 𝓤 (emp 𝓤) (Parts 𝓤 x (r .answer) (r .session))
-of-parts 𝓤 {r} {x} e = two-facts 𝓤 _ _ (ap (λ (y : Reply). y .answer) e) (ap (λ (y : Reply). y .session) e)
-
--- the same, with the answer as one word
+-- the two facts that a contract here asks for, of the parts of the right reply: its answer as one word, and its session
 abbrev pub WordParts : {M : Type 1} (𝓤 : URA M) → Reply → ℕ → Session → SProp 𝓤
 WordParts 𝓤 x w s′ = sep 𝓤 (fact 𝓤 (Words w (x .answer))) (fact 𝓤 (s′ ≡ x .session))
 

@@ -14,8 +14,9 @@ use Rattle.model.specs.Lists.{if_then_else_, All}
 use Rattle.model.specs.Refusals.{refusal}
 use Rattle.model.specs.Table.{sizeOf, mostScreens, tableShaped, tableChecks, tableRefusal}
 use Rattle.model.specs.Session.{Stack, State, stack, height, count, mostTasks, mostHeight, sound}
-use Rattle.model.specs.Image.{bodyOf, trailer, image, bodyIn, trailerIn, lengthIn, countIn, mainIn, imageShaped, Reading, unreadable, readAs, readMore, readTasks, isReadable, tasksRead, imageReadable, sessionIn, imageChecks}
-use Rattle.model.specs.Promises.{IsByte, ImagesExact}
+use Rattle.model.specs.Image.{bodyOf, trailer, image, longestImage, bodyIn, trailerIn, lengthIn, countIn, mainIn, imageShaped, Reading, unreadable, readAs, readMore, readTasks, isReadable, tasksRead, imageReadable, sessionIn, imageChecks}
+use Rattle.model.specs.Histories.{IsByte}
+use Rattle.model.specs.Promises.{ImagesExact}
 use Rattle.model.proofs.Logic.{and-decides, leb-decides, eqb-decides, and-right, All-map}
 use Rattle.model.proofs.ListLaws.{All-append, All-drop}
 use Rattle.model.proofs.Sound.{TaskSound, Sound, sound-decides}
@@ -217,7 +218,7 @@ body-short tb [] h = omega arith
 body-short tb (t ∷ ts) h = simp length-append (omega (arith, h .0 .low, body-short tb ts (h .1)))
 
 -- 16 tasks of 32 screens, each with a root and a height, and six bytes more
-pub image-short : (tb : List ℕ) (s : State ℕ) → Sound tb s → length (image s) ≤ 550
+pub image-short : (tb : List ℕ) (s : State ℕ) → Sound tb s → length (image s) ≤ longestImage
 image-short tb s h = omega (arith, image-length s, body-short tb (s .tasks) (h .each), h .few)
 
 few-screens : (tb : List ℕ) → tableRefusal tb ≡ 0 → sizeOf tb ≤ mostScreens

@@ -11,7 +11,7 @@ use Rattle.model.specs.Session.{State, fresh, sound}
 use Rattle.model.specs.Answers.{settle}
 use Rattle.model.specs.Image.{imageShaped, imageReadable, imageChecks, sessionIn}
 use Rattle.model.specs.Calls.{Call, launch, start, finishingStart, back, look, restore, launched, ownChecks, done, refusalOf, call}
-use Rattle.model.specs.Histories.{after}
+use Rattle.model.specs.Histories.{after, byRules}
 use Rattle.model.proofs.Logic.{and-left}
 use Rattle.model.proofs.RefusalLaws.{refusal-skip, checks-own}
 use Rattle.model.proofs.Sound.{Sound, sound-decides}
@@ -84,7 +84,7 @@ module _ (tb : List ℕ) (ok : tableRefusal tb ≡ 0) where
       go (suc k) e = h
 
   -- and every list of calls does
-  pub after-sound : (s : State ℕ) → Sound tb s → (cs : List Call) → Sound tb (after tb s cs)
+  pub after-sound : (s : State ℕ) → Sound tb s → (cs : List Call) → Sound tb (after (byRules tb) s cs)
   unfolding after
   after-sound s h [] = h
   after-sound s h (c ∷ cs) = after-sound (call tb s c .session) (call-sound s h c) cs

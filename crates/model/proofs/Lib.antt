@@ -15,6 +15,8 @@ pub mod MarkStands
 pub mod Start
 pub mod Finish
 pub mod Keeps
+pub mod HistoryLaws
+pub mod Backs
 pub mod ImageLaws
 pub mod Same
 pub mod Promise3

@@ -1,5 +1,5 @@
--- Promise 3: the lifelong rules hold after every list of calls; and two lists leave equal images exactly when every list of
--- later calls gets equal answers after both. A session after a list is sound, so its image and its answers each determine it.
+-- Promise 3 of sound sessions under document 01's rules: the lifelong rules hold of each, and two have equal images exactly when
+-- every list of later calls gets equal answers from both. Its image and its answers each determine a sound session.
 use Prim.Native.Nat.{ℕ}
 use mathlib.Core.Path.{_≡_, refl, ap}
 use mathlib.Core.Logic.{_↔_}
@@ -7,14 +7,12 @@ use mathlib.Core.Bool.{Bool, true, false}
 use mathlib.Core.List.{List, [], _∷_}
 use Rattle.model.specs.Lists.{All}
 use Rattle.model.specs.Table.{isSingleInstance, tableRefusal}
-use Rattle.model.specs.Session.{Stack, State, fresh}
+use Rattle.model.specs.Session.{Stack, State}
 use Rattle.model.specs.Image.{image}
-use Rattle.model.specs.Calls.{Call}
-use Rattle.model.specs.Histories.{after, answers}
-use Rattle.model.specs.Promises.{Lifelong, AnswerAlike, Promise3}
+use Rattle.model.specs.Histories.{answers, AnswerAlike, byRules}
+use Rattle.model.specs.Promises.{Lifelong}
 use Rattle.model.proofs.Logic.{contradiction, All-map}
 use Rattle.model.proofs.Sound.{TaskSound, Sound}
-use Rattle.model.proofs.Keeps.{fresh-sound, after-sound}
 use Rattle.model.proofs.ImageLaws.{image-injective}
 use Rattle.model.proofs.Same.{answer-look-alike, same}
 
@@ -40,21 +38,8 @@ sound-lifelong tb s h =
 -- ---- images and answers
 
 -- sound sessions have equal images exactly when they answer alike
-pub images-tell : (tb : List ℕ) → tableRefusal tb ≡ 0 → (s t : State ℕ) → Sound tb s → Sound tb t → (image s ≡ image t) ↔ AnswerAlike tb s t
+pub images-tell : (tb : List ℕ) → tableRefusal tb ≡ 0 → (s t : State ℕ) → Sound tb s → Sound tb t → (image s ≡ image t) ↔ AnswerAlike (byRules tb) s t
 images-tell tb ok s t h k = (
-  λ e cs l. ap (λ (u : State ℕ). answers tb u cs) (image-injective tb s t h k e),
+  λ e cs l. ap (λ (u : State ℕ). answers (byRules tb) u cs) (image-injective tb s t h k e),
   λ a. ap image (same tb ok s t h k (answer-look-alike tb s t a)),
 )
-
--- ---- the promise
-
-reached-sound : (tb : List ℕ) → tableRefusal tb ≡ 0 → (cs : List Call) → Sound tb (after tb fresh cs)
-reached-sound tb ok cs = after-sound tb ok fresh (fresh-sound tb) cs
-
-pub promise3 : Promise3
-promise3 =
-    record {
-      lifelong = λ tb ok cs. sound-lifelong tb (after tb fresh cs) (reached-sound tb ok cs);
-      imagesTell = λ tb ok cs ds.
-          images-tell tb ok (after tb fresh cs) (after tb fresh ds) (reached-sound tb ok cs) (reached-sound tb ok ds);
-    }

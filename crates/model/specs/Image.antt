@@ -24,6 +24,10 @@ trailer l n m = l / 256 ∷ l % 256 ∷ n ∷ m ∷ closing
 unfoldable pub image : State ℕ → List ℕ
 image s = bodyOf (s .tasks) ++ trailer (length (bodyOf (s .tasks))) (count s) (s .main)
 
+-- as long as an image of 16 tasks of 32 screens, which no sound session's image passes
+abbrev pub longestImage : ℕ
+longestImage = mostTasks * (2 + mostHeight) + 6
+
 -- an image taken apart: what precedes the last six bytes, and those six
 abbrev pub bodyIn : List ℕ → List ℕ
 bodyIn bytes = take (length bytes - 6) bytes

@@ -1,7 +1,7 @@
 -- Document 01, "Session": tasks, limits, soundness.
 -- A task is here a `Stack` and a session a `State`; `Task` and `Session` are the structs that store them.
 -- What stands in a task may be of any kind A: screens are numbers, and a finishing start puts marked ones there.
-use Prim.Native.Nat.{ℕ, pred}
+use Prim.Native.Nat.{ℕ, pred, _+_}
 use mathlib.Core.Bool.{Bool, false, not, _&&_, _||_}
 use mathlib.Core.List.{List, [], _∷_}
 use lib.Dec.{leb, ltb, eqb}
@@ -58,6 +58,11 @@ top t = getD (t .screens) 0 0
 -- "A is the front screen."
 abbrev pub frontScreen : State ℕ → ℕ
 frontScreen s = top (front s)
+
+-- how many screens stand in these tasks
+unfoldable pub screensIn : List (Stack ℕ) → ℕ
+screensIn [] = 0
+screensIn (t ∷ ts) = height t + screensIn ts
 
 -- "Fresh means empty and sound: n = 0, m = 0."
 abbrev pub fresh : State ℕ

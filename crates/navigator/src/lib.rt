@@ -1,5 +1,6 @@
 // The calls of document 01, by value, for any caller. Any table, session and image bytes: each call ends, and its contract
-// says what it gives. The checks that all calls share are made here; below them nothing is checked again.
+// says what it gives. The checks that all calls share are made here; below them nothing is checked again. What holds over
+// whole lists of these calls is promise 3 (specs/Promise3), which each of their contracts cites.
 
 ghost use mathlib.Core.Path.{_≡_};
 ghost use lib.ListN.{take};
@@ -7,6 +8,7 @@ ghost use Rattle.model.specs.Calls.{Call};
 ghost use Rattle.calls.specs.StoredCalls.{sharedRefusal, refusalStored, entryStored, callStored, KeepsSound};
 ghost use Rattle.image_calls.specs.Restores.{AcceptsImages, BringsBack, SavesAgain};
 ghost use Rattle.image_calls.specs.StoredSaves.{saved, saveStored, BroughtBack, NoOtherHas};
+ghost use Rattle.navigator.specs.Promise3.{KeepsPromise3};
 use calls::Reply;
 use image_calls::SaveReply;
 use session::Session;
@@ -28,7 +30,9 @@ fn shared_refusal(table: &[u8], s: Session) -> u8
 // Look changes nothing.
 pub fn look(table: &[u8], s: Session) -> Reply
     ensures gives { λ r. ⌜ r ≡ callStored (now (table .entry)) s Call.look ⌝ }
+    ensures stays { λ r. ⌜ r .session ≡ s ⌝ }
     ensures keeps { λ r. ⌜ KeepsSound (now (table .entry)) s (r .session) ⌝ }
+    ensures promise { λ _. ⌜ KeepsPromise3 (now (table .entry)) ⌝ }
 {
     let number = shared_refusal(table, s);
     if number != 0 {
@@ -41,6 +45,7 @@ pub fn look(table: &[u8], s: Session) -> Reply
 pub fn launch(table: &[u8], s: Session) -> Reply
     ensures gives { λ r. ⌜ r ≡ callStored (now (table .entry)) s Call.launch ⌝ }
     ensures keeps { λ r. ⌜ KeepsSound (now (table .entry)) s (r .session) ⌝ }
+    ensures promise { λ _. ⌜ KeepsPromise3 (now (table .entry)) ⌝ }
 {
     let number = shared_refusal(table, s);
     if number != 0 {
@@ -64,6 +69,7 @@ pub fn start_refusal(table: &[u8], s: Session, b: u8, word: u32) -> u8
 pub fn start(table: &[u8], s: Session, b: u8, word: u32) -> Reply
     ensures gives { λ r. ⌜ r ≡ callStored (now (table .entry)) s (Call.start b word) ⌝ }
     ensures keeps { λ r. ⌜ KeepsSound (now (table .entry)) s (r .session) ⌝ }
+    ensures promise { λ _. ⌜ KeepsPromise3 (now (table .entry)) ⌝ }
 {
     let number = shared_refusal(table, s);
     if number != 0 {
@@ -76,6 +82,7 @@ pub fn start(table: &[u8], s: Session, b: u8, word: u32) -> Reply
 pub fn finish_start(table: &[u8], s: Session, b: u8, word: u32) -> Reply
     ensures gives { λ r. ⌜ r ≡ callStored (now (table .entry)) s (Call.finishingStart b word) ⌝ }
     ensures keeps { λ r. ⌜ KeepsSound (now (table .entry)) s (r .session) ⌝ }
+    ensures promise { λ _. ⌜ KeepsPromise3 (now (table .entry)) ⌝ }
 {
     let number = shared_refusal(table, s);
     if number != 0 {
@@ -99,6 +106,7 @@ pub fn back_refusal(table: &[u8], s: Session) -> u8
 pub fn back(table: &[u8], s: Session) -> Reply
     ensures gives { λ r. ⌜ r ≡ callStored (now (table .entry)) s Call.back ⌝ }
     ensures keeps { λ r. ⌜ KeepsSound (now (table .entry)) s (r .session) ⌝ }
+    ensures promise { λ _. ⌜ KeepsPromise3 (now (table .entry)) ⌝ }
 {
     let number = shared_refusal(table, s);
     if number != 0 {
@@ -114,6 +122,7 @@ pub fn restore(table: &[u8], s: Session, image: &[u8]) -> Reply
     ensures accepts { λ r. ⌜ AcceptsImages (now (table .entry)) s (now (image .entry)) r ⌝ }
     ensures brings { λ r. ⌜ BringsBack (now (table .entry)) s (now (image .entry)) r ⌝ }
     ensures saves { λ r. ⌜ SavesAgain (now (image .entry)) r ⌝ }
+    ensures promise { λ _. ⌜ KeepsPromise3 (now (table .entry)) ⌝ }
 {
     let number = shared_refusal(table, s);
     image_calls::restore(table, s, image, number)
@@ -124,6 +133,7 @@ pub fn save(table: &[u8], s: Session, out: &mut [u8]) -> SaveReply
     ensures gives { λ r. ⌜ saved r (now (out .exit)) ≡ saveStored (now (table .entry)) s (now (out .entry)) ⌝ }
     ensures restores { λ r. ⌜ (r .refusal ≡ 0 → BroughtBack (now (table .entry)) s (take (r .length) (now (out .exit)))) ⌝ }
     ensures only { λ r. ⌜ (r .refusal ≡ 0 → NoOtherHas (now (table .entry)) s (take (r .length) (now (out .exit)))) ⌝ }
+    ensures promise { λ _. ⌜ KeepsPromise3 (now (table .entry)) ⌝ }
 {
     let number = shared_refusal(table, s);
     if number != 0 {

@@ -1,26 +1,28 @@
--- Where a list of calls ends: by document 01's rules, by the program's calls, and as it is stored.
+-- Where a list of calls ends: by document 01's rules, on the program, and as it is stored.
 use Prim.Native.Nat.{ℕ, zero, suc, _≤_}
 use mathlib.Core.Path.{_≡_, refl, sym, _∙_, ap}
 use mathlib.Core.Logic.{_↔_, Iff·trans}
-use mathlib.Core.Bool.{true}
+use mathlib.Core.Bool.{Bool, true}
 use mathlib.Core.List.{List}
 use native.Mathlib.Omega.{arith}
 use lib.ListN.{length}
 use borrow.Author.Tests.{ne-eqb}
 use Rattle.model.specs.Table.{tableRefusal}
 use Rattle.model.specs.Session.{fresh}
-use Rattle.model.specs.Image.{image}
+use Rattle.model.specs.Image.{image, longestImage}
 use Rattle.model.specs.Promises.{Lifelong}
 use Rattle.model.proofs.Sound.{Sound}
 use Rattle.model.proofs.Keeps.{fresh-sound, after-sound}
 use Rattle.model.proofs.ImageLaws.{image-short}
-use Rattle.model.proofs.Promise3.{sound-lifelong, promise3}
+use Rattle.model.proofs.Promise3.{sound-lifelong, images-tell}
 use Rattle.session.specs.declared.Session.{Session}
 use Rattle.session.specs.Stored.{freshSession, view, hold, storageBlank, soundStored}
 use Rattle.session.proofs.StoredLaws.{fresh-held, view-hold, hold-sound, sound-blank, sound-view}
 use Rattle.calls.proofs.HistoryLaws.{alike-held, after-fresh, answers-fresh}
+use Rattle.navigator.specs.Promise3.{reached}
+use Rattle.navigator.proofs.Promise3Laws.{saved-held}
 use Rattle.recording.specs.CallBytes.{callsIn}
-use Rattle.recording.specs.Replay.{ending, replayed, SameImage, EndAlike, EndAlikeStored, ReplayPromise}
+use Rattle.recording.specs.Replay.{ending, replayed, EveryList, EndAlike, TellsImages}
 use Rattle.recording.proofs.EveryList.{every-list}
 
 pub fresh-stored : (tb : List ℕ) → soundStored tb freshSession ≡ true
@@ -34,21 +36,35 @@ module _ (tb : List ℕ) (ok : tableRefusal tb ≡ 0) where
   unfolding replayed
   replayed-good bytes = rw ok
 
-  -- the image of the session after a list
-  pub replayed-image : (bytes : List ℕ) → image (view (replayed tb bytes)) ≡ image (ending tb bytes)
-  replayed-image bytes = ap image (ap view (replayed-good bytes) ∙ view-hold (ending tb bytes))
+  pub replayed-reached : (bytes : List ℕ) → replayed tb bytes ≡ reached tb (callsIn bytes)
+  replayed-reached bytes = replayed-good bytes ∙ sym (after-fresh tb ok (callsIn bytes))
 
   -- ---- two lists
 
-  module _ (first second : List ℕ) where
-    -- equal images, equal answers by the rules, equal answers by the calls: each exactly where the others are
-    pub images-alike : SameImage tb first second ↔ EndAlike tb first second
-    images-alike = promise3 .imagesTell tb ok (callsIn first) (callsIn second)
+  module _ (first second : List ℕ) (alike : Bool)
+      (tells : (alike ≡ true) ↔ (image (view (replayed tb first)) ≡ image (view (replayed tb second)))) where
+    tells-endings : (alike ≡ true) ↔ (image (ending tb first) ≡ image (ending tb second))
+    tells-endings =
+        rw (replayed-good first, replayed-good second, view-hold (ending tb first), view-hold (ending tb second)) at tells
 
-    pub alike-stored : EndAlike tb first second ↔ EndAlikeStored tb first second
-    alike-stored =
+    -- what tells whether the images are equal tells so of what save writes, and of the answers
+    pub tells-images : TellsImages tb first second alike
+    tells-images buffer buffer′ long long′ =
+        rw (
+          replayed-good first,
+          replayed-good second,
+          saved-held tb ok (ending tb first) (ending-sound first) buffer long,
+          saved-held tb ok (ending tb second) (ending-sound second) buffer′ long′,
+        ) tells-endings
+
+    pub tells-alike : (alike ≡ true) ↔ EndAlike tb first second
+    tells-alike =
+        let v = ending tb first in
+        let w = ending tb second in
         rw (replayed-good first, replayed-good second)
-        (alike-held tb ok (ending tb first) (ending tb second) (ending-sound first) (ending-sound second))
+        (Iff·trans tells-endings
+        (Iff·trans (images-tell tb ok v w (ending-sound first) (ending-sound second))
+        (alike-held tb ok v w (ending-sound first) (ending-sound second))))
 
 pub replayed-refused : (tb : List ℕ) → (tableRefusal tb ≡ 0 → ⊥) → (bytes : List ℕ) → replayed tb bytes ≡ freshSession
 unfolding replayed
@@ -67,25 +83,18 @@ module _ (tb : List ℕ) (c : Session) (e : soundStored tb c ≡ true) where
   pub stored-lifelong : Lifelong tb (view c)
   stored-lifelong = sound-lifelong tb (view c) (sound-view tb c e)
 
-  pub stored-short : (storageBlank c ≡ true) × (length (image (view c)) ≤ 550)
+  pub stored-short : (storageBlank c ≡ true) × (length (image (view c)) ≤ longestImage)
   stored-short = (sound-blank tb c e, image-short tb (view c) (sound-view tb c e))
 
--- ---- the promise
+-- ---- every list
 
-pub replay-promise : ReplayPromise
-replay-promise =
-    record {
-      everyList = λ ks h.
-          let (bytes, small, alike) = every-list ks h in (
-            bytes,
-            small,
-            λ tb ok. (
-              replayed-good tb ok bytes ∙ ap hold (alike tb fresh .0) ∙ sym (after-fresh tb ok ks),
-              answers-fresh tb ok (callsIn bytes) ∙ alike tb fresh .1 ∙ sym (answers-fresh tb ok ks),
-            ),
-          );
-      lifelong = λ tb bytes. stored-lifelong tb (replayed tb bytes) (replayed-sound tb bytes);
-      imagesTell = λ tb ok first second.
-          rw (replayed-image tb ok first, replayed-image tb ok second)
-          (Iff·trans (images-alike tb ok first second) (alike-stored tb ok first second));
-    }
+pub every : EveryList
+every ks h =
+    let (bytes, small, alike) = every-list ks h in (
+      bytes,
+      small,
+      λ tb ok. (
+        replayed-good tb ok bytes ∙ ap hold (alike tb fresh .0) ∙ sym (after-fresh tb ok ks),
+        answers-fresh tb ok (callsIn bytes) ∙ alike tb fresh .1 ∙ sym (answers-fresh tb ok ks),
+      ),
+    )

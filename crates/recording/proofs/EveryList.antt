@@ -16,11 +16,10 @@ use Rattle.model.specs.Session.{State, sound}
 use Rattle.model.specs.Answers.{Outcome, settle}
 use Rattle.model.specs.Image.{trailerIn, lengthIn, imageShaped}
 use Rattle.model.specs.Calls.{Call, launch, start, finishingStart, back, look, restore, ownChecks, done, refusalOf, call}
-use Rattle.model.specs.Histories.{after, answers}
-use Rattle.model.specs.Promises.{IsByte}
+use Rattle.model.specs.Histories.{after, answers, IsByte, wordCount, IsWord, Passable, byRules}
 use Rattle.model.proofs.Logic.{and-decides, leb-decides, eqb-decides, self-decides, refuted, if-elim, All-at, All-map}
 use Rattle.model.proofs.ListLaws.{All-drop, All-to-map}
-use Rattle.recording.specs.CallBytes.{callsIn, writtenAs, wordCount, IsWord, Passable, Writable}
+use Rattle.recording.specs.CallBytes.{callsIn, writtenAs, Writable}
 use Rattle.recording.proofs.Writing.{read-back, written-bytes}
 
 -- ---- images that are too long
@@ -90,7 +89,7 @@ shortened-alike tb s (restore bytes) h =
 
 -- the same session after both lists, and the same answers along them, from any session under any table
 abbrev pub ListAlike : List Call → List Call → Type 0
-ListAlike cs ds = (tb : List ℕ) (s : State ℕ) → (after tb s cs ≡ after tb s ds) × (answers tb s cs ≡ answers tb s ds)
+ListAlike cs ds = (tb : List ℕ) (s : State ℕ) → (after (byRules tb) s cs ≡ after (byRules tb) s ds) × (answers (byRules tb) s cs ≡ answers (byRules tb) s ds)
 
 shortened-list : (cs : List Call) → All Passable cs → ListAlike (map shortened cs) cs
 unfolding after answers
@@ -98,8 +97,8 @@ shortened-list [] h tb s = (refl, refl)
 shortened-list (c ∷ cs) h tb s =
     let e = shortened-alike tb s c (h .0) in
     let k = shortened-list cs (h .1) tb (call tb s c .session) in (
-      ap (λ (o : Outcome). after tb (o .session) (map shortened cs)) e ∙ k .0,
-      ap (λ (o : Outcome). o .answer ∷ answers tb (o .session) (map shortened cs)) e ∙ ap (λ (l : List Answer). call tb s c .answer ∷ l) (k .1),
+      ap (λ (o : Outcome). after (byRules tb) (o .session) (map shortened cs)) e ∙ k .0,
+      ap (λ (o : Outcome). o .answer ∷ answers (byRules tb) (o .session) (map shortened cs)) e ∙ ap (λ (l : List Answer). call tb s c .answer ∷ l) (k .1),
     )
 
 -- bytes that are read as such a list

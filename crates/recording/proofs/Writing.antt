@@ -8,9 +8,9 @@ use lib.Seq.{take-at, drop-at}
 use Rattle.model.specs.Lists.{All}
 use Rattle.model.specs.Calls.{Call, launch, start, finishingStart, back, look, restore}
 use Rattle.model.specs.Player.{requestOf, wordOf}
-use Rattle.model.specs.Promises.{IsByte}
+use Rattle.model.specs.Histories.{IsByte, IsWord, Passable}
 use Rattle.model.proofs.ListLaws.{All-append}
-use Rattle.recording.specs.CallBytes.{imageLength, callOf, callsBehind, callsIn, header, bytesOf, writtenAs, IsWord, Passable, Writable}
+use Rattle.recording.specs.CallBytes.{imageLength, callOf, callsBehind, callsIn, header, bytesOf, writtenAs, Writable}
 use Rattle.recording.proofs.Reading.{calls-whole}
 
 word-back : (w : ℕ) → wordOf (w / 0x1000000) (w / 0x10000 % 0x100) (w / 0x100 % 0x100) (w % 0x100) ≡ w

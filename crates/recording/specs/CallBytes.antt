@@ -1,13 +1,13 @@
 -- A list of calls as bytes. Kinds 1 to 5 are the player's records (document 01, "Player"); kind 6 is a restore, whose word is
 -- the length of an image, and the image's bytes follow. Every byte string reads as some list of calls.
-use Prim.Native.Nat.{ℕ, zero, suc, _/_, _%_, _<_}
+use Prim.Native.Nat.{ℕ, zero, suc, _/_, _%_}
 use mathlib.Core.List.{List, [], _∷_, _++_}
 use lib.Dec.{leb, eqb}
 use lib.ListN.{length, take}
-use Rattle.model.specs.Lists.{if_then_else_, All}
+use Rattle.model.specs.Lists.{if_then_else_}
 use Rattle.model.specs.Calls.{Call, launch, start, finishingStart, back, look, restore}
 use Rattle.model.specs.Player.{Request, unplayable, asks, requestOf, wordOf}
-use Rattle.model.specs.Promises.{IsByte}
+use Rattle.model.specs.Histories.{IsWord}
 
 -- ---- bytes to calls
 
@@ -66,24 +66,6 @@ bytesOf (restore bytes) = header restoreKind 0 (length bytes) ++ bytes
 unfoldable pub writtenAs : List Call → List ℕ
 writtenAs [] = []
 writtenAs (c ∷ cs) = bytesOf c ++ writtenAs cs
-
--- ---- which calls
-
--- how many words of 32 bits there are
-abbrev pub wordCount : ℕ
-wordCount = 0x100000000
-
-abbrev pub IsWord : ℕ → Type 0
-IsWord w = w < wordCount
-
--- "with any screen, flag word or image bytes": what a caller of the program can pass
-abbrev pub Passable : Call → Type 0
-Passable launch = Unit {0}
-Passable (start b w) = IsByte b × IsWord w
-Passable (finishingStart b w) = IsByte b × IsWord w
-Passable back = Unit {0}
-Passable look = Unit {0}
-Passable (restore bytes) = All IsByte bytes
 
 -- an image whose length is a word
 abbrev pub Writable : Call → Type 0

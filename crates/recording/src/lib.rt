@@ -5,16 +5,16 @@ ghost use Prim.Native.Nat.{_≤_};
 ghost use mathlib.Core.Path.{_≡_};
 ghost use mathlib.Core.Logic.{_↔_};
 ghost use mathlib.Core.Bool.{true, false};
-ghost use mathlib.Core.List.{[], _∷_};
 ghost use lib.ListN.{length};
-ghost use Rattle.model.specs.Lists.{All, Pairwise};
-ghost use Rattle.model.specs.Table.{isSingleInstance, rootsOnce, tableRefusal};
-ghost use Rattle.model.specs.Session.{height};
-ghost use Rattle.model.specs.Image.{image};
-ghost use Rattle.session.specs.Stored.{freshSession, view, storageBlank, soundStored, Ready};
-ghost use Rattle.calls.specs.StoredHistories.{afterStored};
+ghost use Rattle.model.specs.Table.{tableRefusal};
+ghost use Rattle.model.specs.Image.{image, longestImage};
+ghost use Rattle.model.specs.Histories.{after};
+ghost use Rattle.model.specs.Promises.{Lifelong};
+ghost use Rattle.session.specs.Stored.{view, storageBlank, soundStored, Ready};
+ghost use Rattle.calls.specs.StoredCalls.{byProgram};
+ghost use Rattle.navigator.specs.Promise3.{reached, KeepsPromise3};
 ghost use Rattle.recording.specs.CallBytes.{imageLength, callOf, callsIn};
-ghost use Rattle.recording.specs.Replay.{replayed, SameImage, EndAlike, EndAlikeStored};
+ghost use Rattle.recording.specs.Replay.{replayed, EveryList, EndAlike, TellsImages};
 use session::Session;
 
 // How many bytes of an image follow a record.
@@ -30,7 +30,7 @@ fn image_length(kind: u8, word: u32) -> usize
 // The session after the call of one whole record, with the image that follows it. An unknown kind is no call.
 fn after_record(table: &[u8], s: Session, kind: u8, b: u8, word: u32, image: &[u8]) -> Session
     requires { ⌜ Ready (now table) s ⌝ }
-    ensures { λ r. ⌜ r ≡ afterStored (now (table .entry)) s (callOf kind b word (now (image .entry))) ⌝ }
+    ensures { λ r. ⌜ r ≡ after (byProgram (now (table .entry))) s (callOf kind b word (now (image .entry))) ⌝ }
 {
     match kind {
         1 => calls::launch(table, s).session,
@@ -46,7 +46,7 @@ fn after_record(table: &[u8], s: Session, kind: u8, b: u8, word: u32, image: &[u
 // The session after a list of calls, made one after the other.
 fn after_calls(table: &[u8], begun: Session, calls: &[u8]) -> Session
     requires { ⌜ Ready (now table) begun ⌝ }
-    ensures { λ r. ⌜ r ≡ afterStored (now (table .entry)) begun (callsIn (now (calls .entry))) ⌝ }
+    ensures { λ r. ⌜ r ≡ after (byProgram (now (table .entry))) begun (callsIn (now (calls .entry))) ⌝ }
 {
     let mut s = begun;
     let mut p: usize = 0;
@@ -72,16 +72,16 @@ pub struct Replayed {
     pub session: Session,
 }
 
-// Makes a whole list of calls, from a fresh session. In that session each task has a screen, a single-instance screen is
-// alone in its task, and no single-task or single-instance screen is the root of two tasks.
+// Makes a whole list of calls, from a fresh session. In the session after it each task has a screen, a single-instance screen
+// is alone in its task, and no single-task or single-instance screen is the root of two tasks. Every list can be given so.
 pub fn replay(table: &[u8], calls: &[u8]) -> Replayed
     ensures refusal { λ r. ⌜ r .refusal ≡ tableRefusal (now (table .entry)) ⌝ }
     ensures session { λ r. ⌜ r .session ≡ replayed (now (table .entry)) (now (calls .entry)) ⌝ }
-    ensures called { λ r. ⌜ (tableRefusal (now (table .entry)) ≡ 0 → r .session ≡ afterStored (now (table .entry)) freshSession (callsIn (now (calls .entry)))) ⌝ }
+    ensures called { λ r. ⌜ (tableRefusal (now (table .entry)) ≡ 0 → r .session ≡ reached (now (table .entry)) (callsIn (now (calls .entry)))) ⌝ }
     ensures sound { λ r. ⌜ soundStored (now (table .entry)) (r .session) ≡ true ⌝ }
-    ensures screens { λ r. ⌜ All (λ t. 1 ≤ height t) (view (r .session) .tasks) ⌝ }
-    ensures instances { λ r. ⌜ All (λ t. All (λ x. isSingleInstance (now (table .entry)) x ≡ true → t .screens ≡ x ∷ []) (t .screens)) (view (r .session) .tasks) ⌝ }
-    ensures roots { λ r. ⌜ Pairwise (λ t u. rootsOnce (now (table .entry)) (t .root) ≡ true → t .root ≡ u .root → ⊥) (view (r .session) .tasks) ⌝ }
+    ensures lifelong { λ r. ⌜ Lifelong (now (table .entry)) (view (r .session)) ⌝ }
+    ensures every { λ _. ⌜ EveryList ⌝ }
+    ensures promise { λ _. ⌜ KeepsPromise3 (now (table .entry)) ⌝ }
 {
     let fresh = Session::fresh();
     let number = table::refusal(table);
@@ -99,8 +99,8 @@ pub fn replay(table: &[u8], calls: &[u8]) -> Replayed
 
 // Two sessions have equal images: the same length and the same bytes. No image of a sound session is longer than 550 bytes.
 fn same_image(s: Session, t: Session) -> bool
-    requires { ⌜ (storageBlank s ≡ true) × (length (image (view s)) ≤ 550) ⌝ }
-    requires { ⌜ (storageBlank t ≡ true) × (length (image (view t)) ≤ 550) ⌝ }
+    requires { ⌜ (storageBlank s ≡ true) × (length (image (view s)) ≤ longestImage) ⌝ }
+    requires { ⌜ (storageBlank t ≡ true) × (length (image (view t)) ≤ longestImage) ⌝ }
     ensures { λ r. ⌜ (r ≡ true) ↔ (image (view s) ≡ image (view t)) ⌝ }
 {
     let mut a = [0u8; 550];
@@ -121,10 +121,10 @@ pub struct Ending {
 // sessions are equal.
 pub fn same_ending(table: &[u8], first: &[u8], second: &[u8]) -> Ending
     ensures refusal { λ r. ⌜ r .refusal ≡ tableRefusal (now (table .entry)) ⌝ }
-    ensures images { λ r. ⌜ (tableRefusal (now (table .entry)) ≡ 0 → ((r .alike ≡ true) ↔ SameImage (now (table .entry)) (now (first .entry)) (now (second .entry)))) ⌝ }
+    ensures images { λ r. ⌜ (tableRefusal (now (table .entry)) ≡ 0 → TellsImages (now (table .entry)) (now (first .entry)) (now (second .entry)) (r .alike)) ⌝ }
     ensures alike { λ r. ⌜ (tableRefusal (now (table .entry)) ≡ 0 → ((r .alike ≡ true) ↔ EndAlike (now (table .entry)) (now (first .entry)) (now (second .entry)))) ⌝ }
-    ensures called { λ r. ⌜ (tableRefusal (now (table .entry)) ≡ 0 → ((r .alike ≡ true) ↔ EndAlikeStored (now (table .entry)) (now (first .entry)) (now (second .entry)))) ⌝ }
     ensures refused { λ r. ⌜ ((tableRefusal (now (table .entry)) ≡ 0 → ⊥) → r .alike ≡ false) ⌝ }
+    ensures promise { λ _. ⌜ KeepsPromise3 (now (table .entry)) ⌝ }
 {
     let one = replay(table, first);
     if one.refusal != 0 {

@@ -8,12 +8,12 @@ use native.Mathlib.Nat.{zero-add}
 use lib.Dec.{eqb}
 use borrow.Author.Needs.{needs}
 use borrow.Author.Tests.{eqb-true, eqb-false}
+use Rattle.model.specs.Session.{screensIn}
 use Rattle.model.specs.Answers.{lookAt}
 use Rattle.model.specs.Calls.{backed}
 use Rattle.session.specs.Stored.{view}
 use Rattle.session.proofs.Known.{sized}
 use Rattle.session.proofs.StoredLaws.{sound-view}
-use Rattle.difference.specs.Apart.{screensIn}
 use Rattle.difference.proofs.Reached.{Both, reached-look, reached-closable, reached-seen, reached-fewer, both-count, both-back}
 use Rattle.difference.proofs.Told.{backs-most, told}
 use Rattle.difference.proofs.first_difference.Statement.{statement}

@@ -37,6 +37,7 @@ use Rattle.model.specs.Answers.{refused}
 use Rattle.model.proofs.Answer.Laws as N′
 use Rattle.session.specs.declared.Session.{Session}
 use Rattle.session.specs.Stored.{noTask}
+use Rattle.session.proofs.Known.{Sized}
 use Rattle.session.proofs.Session as S
 use Rattle.session.proofs.Session.Laws as S′
 use Rattle.answer.proofs.refused as refusing
@@ -59,9 +60,10 @@ use Rattle.calls.proofs.back_out.Symbol as out-def
 use Rattle.navigator.proofs.back_refusal as numbering
 use Rattle.navigator.proofs.back_refusal.Met as numbering-thm
 use Rattle.navigator.proofs.back_refusal.Symbol as numbering-def
-use Rattle.lent_start.proofs.Lending.{bytesTy, lentTy, of-parts, Open, answer-is}
+use Rattle.lent_start.proofs.Lending.{bytesTy, lentTy, Open, answer-is}
 use Rattle.lent_start.proofs.LendingCalls.{a-number, a-bool, a-session, an-answer, a-reply, Passed, pass, denots, lows, on-values, on-table, calls-values, calls-slices}
 use Rattle.lent_start.proofs.LendingWays.{not-zero, is-zero, held, failed, vacant, holding, freed, opened, leaves, of-reply, stores-within}
+use Rattle.lent.proofs.LendingFacts.{promised, of-reply-and}
 use Rattle.lent.proofs.LendingTable.{Frame, vt, OwnTable, args, vals, Tokens, Post, exits, Walk, meets}
 use Rattle.lent.proofs.milchkompass_back as outer
 use Rattle.lent.proofs.milchkompass_back.Code as code
@@ -103,9 +105,9 @@ module _ {M : Type 1} (𝓤 : URA M) (H : Heap 𝓤) (A : Atoms 𝓤) (W : Given
   clauses = outer.clauses 𝓤 H A at-mem run
 
   abbrev shown : (κs : Lfts 2) (a : Args outer.signature κs) (g : clauses κs a .ghost) (r : Reply)
-      → r ≡ callStored (now (a .0)) (now (a .1 .0)) back
+      → r ≡ callStored (now (a .0)) (now (a .1 .0)) back → Sized (now (a .1 .0))
       → ent 𝓤 (emp 𝓤) (clauses κs a .ensures g (r .answer) (atExit outer.ended κs a (tt, (r .session, tt))))
-  shown κs a g r e = of-parts 𝓤 e
+  shown κs a g r e z = of-reply-and 𝓤 e (promised 𝓤 (now (a .0)))
 
   abbrev Ends : Frame → Val → SProp 𝓤
   Ends F = Post 𝓤 H A W back clauses shown F tt
@@ -162,7 +164,7 @@ module _ {M : Type 1} (𝓤 : URA M) (H : Heap 𝓤) (A : Atoms 𝓤) (W : Given
           (and-then ! (load ! (from ! (stop !)) (look ! 13 refl)) (no-more !)) 6 refl refl (λ a is-a told.
           leaves ! (F .s) (F .s) is (Ends F) refl $
           forget ! 7 refl $ forget ! 11 refl $ forget ! 17 refl $ forget ! 19 refl $ freed ! Env-of $
-          by ! (exits 𝓤 H A W back clauses shown F tt a (F .s) is-a (ap (reply (F .s)) told ∙ sym (call-numbered (now (F .table)) (F .s) back n numbered (not-zero n no))))))
+          by ! (exits 𝓤 H A W back clauses shown F tt a (F .s) is-a is (ap (reply (F .s)) told ∙ sym (call-numbered (now (F .table)) (F .s) back n numbered (not-zero n no))))))
           -- accepted
           (λ zero.
           let none : refusalStored (now (F .table)) (F .s) back ≡ 0 = sym numbered ∙ is-zero n zero in
@@ -186,7 +188,7 @@ module _ {M : Type 1} (𝓤 : URA M) (H : Heap 𝓤) (A : Atoms 𝓤) (W : Given
           12 refl refl (λ r is-r made.
           stores-within ! (F .s) (of-reply W r is-r) (Ends F) 3 refl refl refl $
           forget ! 7 refl $ forget ! 11 refl $ forget ! 13 refl $ forget ! 17 refl $ forget ! 19 refl $ forget ! 21 refl $
-          forget ! 23 refl $ freed ! Env-of $ by ! (exits 𝓤 H A W back clauses shown F tt (r .answer) (r .session) (answer-is r _ is-r) made)))
+          forget ! 23 refl $ freed ! Env-of $ by ! (exits 𝓤 H A W back clauses shown F tt (r .answer) (r .session) (answer-is r _ is-r) is made)))
           -- out of it
           (λ one.
           skips ! $ exec ! C Λ Env-of body.t-8 (atRet Env-of (Ends F)) $
@@ -200,7 +202,7 @@ module _ {M : Type 1} (𝓤 : URA M) (H : Heap 𝓤) (A : Atoms 𝓤) (W : Given
           14 refl refl (λ r is-r made.
           stores-within ! (F .s) (of-reply W r is-r) (Ends F) 5 refl refl refl $
           forget ! 7 refl $ forget ! 11 refl $ forget ! 15 refl $ forget ! 17 refl $ forget ! 19 refl $ forget ! 21 refl $
-          freed ! Env-of $ by ! (exits 𝓤 H A W back clauses shown F tt (r .answer) (r .session) (answer-is r _ is-r) made))))))
+          freed ! Env-of $ by ! (exits 𝓤 H A W back clauses shown F tt (r .answer) (r .session) (answer-is r _ is-r) is made))))))
 
   walk : Walk 𝓤 H A W back clauses shown code.function (Known 𝓤 H A at-mem run)
   walk F g C Λ fm known pt =

@@ -2,7 +2,8 @@
 use mathlib.Core.Path.{sym, _∙_}
 use borrow.Author.Needs.{needs}
 use Rattle.model.specs.Calls.{back}
-use Rattle.calls.proofs.Settling.{shared-ready, call-refused, call-gives}
+use Rattle.calls.proofs.Settling.{shared-ready, call-refused}
+use Rattle.navigator.proofs.Promised.{call-promised}
 use Rattle.navigator.proofs.back.Statement.{statement}
 use Rattle.navigator.proofs.back.Tie as tie
 
@@ -16,7 +17,7 @@ returns : tie.Need-returns
 returns c =
     let a = c .before .before .before .before .args in
     let k = c .before .before .shared-refusal in
-    call-gives (a .table .now) (a .s) back (c .refuse .result)
+    call-promised (a .table .now) (a .s) (c .refuse .result) back
     (c .refuse .ensures ∙ sym (call-refused (a .table .now) (a .s) back (k .result) (sym (k .ensures)) (c .before .if1 .taken)))
 
 back-requires : tie.Need-back-requires
@@ -27,7 +28,7 @@ back-requires c κs =
 returns-2 : tie.Need-returns-2
 returns-2 c =
     let a = c .before .before .before .before .args in
-    call-gives (a .table .now) (a .s) back (c .back .result) (c .back .ensures)
+    call-promised (a .table .now) (a .s) (c .back .result) back (c .back .ensures)
 
 pub back-spec : {M : Type 1} → statement M
 back-spec = tie.close (tie.spec shared-refusal-requires refuse-requires returns back-requires returns-2)

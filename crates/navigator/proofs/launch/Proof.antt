@@ -2,7 +2,8 @@
 use mathlib.Core.Path.{sym, _∙_}
 use borrow.Author.Needs.{needs}
 use Rattle.model.specs.Calls.{launch}
-use Rattle.calls.proofs.Settling.{shared-ready, call-refused, call-gives}
+use Rattle.calls.proofs.Settling.{shared-ready, call-refused}
+use Rattle.navigator.proofs.Promised.{call-promised}
 use Rattle.navigator.proofs.launch.Statement.{statement}
 use Rattle.navigator.proofs.launch.Tie as tie
 
@@ -16,7 +17,7 @@ returns : tie.Need-returns
 returns c =
     let a = c .before .before .before .before .args in
     let k = c .before .before .shared-refusal in
-    call-gives (a .table .now) (a .s) launch (c .refuse .result)
+    call-promised (a .table .now) (a .s) (c .refuse .result) launch
     (c .refuse .ensures ∙ sym (call-refused (a .table .now) (a .s) launch (k .result) (sym (k .ensures)) (c .before .if1 .taken)))
 
 launch-requires : tie.Need-launch-requires
@@ -27,7 +28,7 @@ launch-requires c κs =
 returns-2 : tie.Need-returns-2
 returns-2 c =
     let a = c .before .before .before .before .args in
-    call-gives (a .table .now) (a .s) launch (c .launch .result) (c .launch .ensures)
+    call-promised (a .table .now) (a .s) (c .launch .result) launch (c .launch .ensures)
 
 pub launch-spec : {M : Type 1} → statement M
 launch-spec = tie.close (tie.spec shared-refusal-requires refuse-requires returns launch-requires returns-2)

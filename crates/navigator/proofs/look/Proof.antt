@@ -2,7 +2,9 @@
 use mathlib.Core.Path.{sym, _∙_}
 use borrow.Author.Needs.{needs}
 use Rattle.model.specs.Calls.{look}
-use Rattle.calls.proofs.Settling.{shared-ready, call-refused, call-gives}
+use Rattle.session.proofs.Known.{sized}
+use Rattle.calls.proofs.Settling.{shared-ready, call-refused}
+use Rattle.navigator.proofs.Promised.{look-promised}
 use Rattle.navigator.proofs.look.Statement.{statement}
 use Rattle.navigator.proofs.look.Tie as tie
 
@@ -14,9 +16,10 @@ refuse-requires c κs = search needs
 
 returns : tie.Need-returns
 returns c =
-    let a = c .before .before .before .before .args in
+    let start = c .before .before .before .before in
+    let a = start .args in
     let k = c .before .before .shared-refusal in
-    call-gives (a .table .now) (a .s) look (c .refuse .result)
+    look-promised (a .table .now) (a .s) (c .refuse .result) (sized (a .s) _ (start .good .1 .0))
     (c .refuse .ensures ∙ sym (call-refused (a .table .now) (a .s) look (k .result) (sym (k .ensures)) (c .before .if1 .taken)))
 
 look-requires : tie.Need-look-requires
@@ -26,8 +29,9 @@ look-requires c κs =
 
 returns-2 : tie.Need-returns-2
 returns-2 c =
-    let a = c .before .before .before .before .args in
-    call-gives (a .table .now) (a .s) look (c .look .result) (c .look .ensures)
+    let start = c .before .before .before .before in
+    let a = start .args in
+    look-promised (a .table .now) (a .s) (c .look .result) (sized (a .s) _ (start .good .1 .0)) (c .look .ensures)
 
 pub look-spec : {M : Type 1} → statement M
 look-spec = tie.close (tie.spec shared-refusal-requires refuse-requires returns look-requires returns-2)

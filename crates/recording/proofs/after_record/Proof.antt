@@ -2,9 +2,9 @@
 use borrow.Author.Needs.{needs}
 use mathlib.Core.Path.{sym, ap}
 use borrow.Author.Tests.{ne-eqb}
+use Rattle.model.specs.Histories.{after}
 use Rattle.model.specs.Player.{requestOf}
 use Rattle.calls.specs.declared.Reply.{Reply}
-use Rattle.calls.specs.StoredHistories.{afterStored}
 use Rattle.calls.proofs.Settling.{shared-passed}
 use Rattle.recording.specs.CallBytes.{callOf}
 use Rattle.recording.proofs.after_record.Statement.{statement}
@@ -32,31 +32,31 @@ restore-requires c κs =
     sym (shared-passed (a .table .now) (a .s) (start .pre .good) (start .pre .sound))
 
 returns : tie.Need-returns
-unfolding afterStored callOf requestOf
+unfolding after callOf requestOf
 returns c = rw (c .before .before .match .keys1) (ap (λ (r : Reply). r .session) (c .before .launch .ensures))
 
 returns-2 : tie.Need-returns-2
-unfolding afterStored callOf requestOf
+unfolding after callOf requestOf
 returns-2 c = rw (c .before .before .match .keys2) (ap (λ (r : Reply). r .session) (c .before .start .ensures))
 
 returns-3 : tie.Need-returns-3
-unfolding afterStored callOf requestOf
+unfolding after callOf requestOf
 returns-3 c = rw (c .before .before .match .keys3) (ap (λ (r : Reply). r .session) (c .before .finish-start .ensures))
 
 returns-4 : tie.Need-returns-4
-unfolding afterStored callOf requestOf
+unfolding after callOf requestOf
 returns-4 c = rw (c .before .before .match .keys4) (ap (λ (r : Reply). r .session) (c .before .back .ensures))
 
 returns-5 : tie.Need-returns-5
-unfolding afterStored callOf requestOf
+unfolding after callOf requestOf
 returns-5 c = rw (c .before .before .match .keys5) (ap (λ (r : Reply). r .session) (c .before .look .ensures))
 
 returns-6 : tie.Need-returns-6
-unfolding afterStored callOf requestOf
+unfolding after callOf requestOf
 returns-6 c = rw (c .before .before .match .keys6) (ap (λ (r : Reply). r .session) (c .before .restore .ensures))
 
 returns-7 : tie.Need-returns-7
-unfolding afterStored callOf requestOf
+unfolding after callOf requestOf
 returns-7 c =
     let r = c .match .rest in
     rw (

@@ -2,10 +2,9 @@
 use borrow.Author.Needs.{needs}
 use mathlib.Core.Path.{_≡_, sym, _∙_}
 use Rattle.model.specs.Table.{tableRefusal}
-use Rattle.calls.proofs.HistoryLaws.{after-fresh}
-use Rattle.recording.specs.CallBytes.{callsIn}
+use Rattle.navigator.proofs.Promise3Laws.{promise3}
 use Rattle.recording.specs.Replay.{replayed}
-use Rattle.recording.proofs.Endings.{fresh-stored, replayed-good, replayed-refused, replayed-sound, stored-lifelong}
+use Rattle.recording.proofs.Endings.{fresh-stored, replayed-reached, replayed-refused, replayed-sound, stored-lifelong, every}
 use Rattle.recording.proofs.replay.Statement.{statement}
 use Rattle.recording.proofs.replay.Tie as tie
 
@@ -24,8 +23,7 @@ returns c =
     let bad : tableRefusal tb ≡ 0 → ⊥ = λ z. c .if1 .taken (number ∙ z) in
     let e : fresh .result ≡ replayed tb (a .calls .now) = fresh .ensures ∙ sym (replayed-refused tb bad (a .calls .now)) in
     let s = rw (← e) at (replayed-sound tb (a .calls .now)) in
-    let l = stored-lifelong tb (fresh .result) s in
-    (number, (e, (λ z. absurd (bad z), (s, (l .eachHasScreen, (l .instanceIsAlone, l .rootsDiffer))))))
+    (number, (e, (λ z. absurd (bad z), (s, (stored-lifelong tb (fresh .result) s, (every, promise3 tb))))))
 
 after-calls-requires : tie.Need-after-calls-requires
 after-calls-requires c κs =
@@ -41,11 +39,9 @@ returns-2 c =
     let tb = a .table .now in
     let ok : tableRefusal tb ≡ 0 = sym (c .before .before .refusal .ensures) ∙ c .before .if1 .left in
     let called = rw (c .before .before .before .fresh .ensures) at (c .after-calls .ensures) in
-    let e : c .after-calls .result ≡ replayed tb (a .calls .now) =
-    called ∙ after-fresh tb ok (callsIn (a .calls .now)) ∙ sym (replayed-good tb ok (a .calls .now)) in
+    let e : c .after-calls .result ≡ replayed tb (a .calls .now) = called ∙ sym (replayed-reached tb ok (a .calls .now)) in
     let s = rw (← e) at (replayed-sound tb (a .calls .now)) in
-    let l = stored-lifelong tb (c .after-calls .result) s in
-    (sym ok, (e, (λ z. called, (s, (l .eachHasScreen, (l .instanceIsAlone, l .rootsDiffer))))))
+    (sym ok, (e, (λ z. called, (s, (stored-lifelong tb (c .after-calls .result) s, (every, promise3 tb))))))
 
 pub replay-spec : {M : Type 1} → statement M
 replay-spec = tie.close (tie.spec fresh-requires refusal-requires returns after-calls-requires returns-2)

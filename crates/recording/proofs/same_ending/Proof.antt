@@ -1,14 +1,9 @@
 -- Both lists are replayed, and the images of the two sessions compared. Promise 3 says what that tells.
 use borrow.Author.Needs.{needs}
-use mathlib.Core.Path.{_≡_, refl, sym, _∙_, ap}
-use mathlib.Core.Bool.{true}
-use mathlib.Core.Logic.{_↔_, Iff·trans}
+use mathlib.Core.Path.{_≡_, refl, sym, _∙_}
 use Rattle.model.specs.Table.{tableRefusal}
-use Rattle.model.specs.Image.{image}
-use Rattle.session.specs.declared.Session.{Session}
-use Rattle.session.specs.Stored.{view}
-use Rattle.recording.specs.Replay.{SameImage}
-use Rattle.recording.proofs.Endings.{replayed-image, stored-short, images-alike, alike-stored}
+use Rattle.navigator.proofs.Promise3Laws.{promise3}
+use Rattle.recording.proofs.Endings.{stored-short, tells-images, tells-alike}
 use Rattle.recording.proofs.same_ending.Statement.{statement}
 use Rattle.recording.proofs.same_ending.Tie as tie
 
@@ -20,7 +15,7 @@ returns c =
     let a = c .before .before .before .before .before .before .args in
     let number = c .before .before .replay .ensures .0 in
     let bad : tableRefusal (a .table .now) ≡ 0 → ⊥ = λ z. c .if1 .taken (number ∙ z) in
-    (number, (λ z. absurd (bad z), (λ z. absurd (bad z), (λ z. absurd (bad z), λ n. refl))))
+    (number, (λ z. absurd (bad z), (λ z. absurd (bad z), (λ n. refl, promise3 (a .table .now)))))
 
 replay-requires-2 : tie.Need-replay-requires-2
 replay-requires-2 c κs = search needs
@@ -39,12 +34,13 @@ returns-2 c =
     let one = c .before .before .before .before .before .before .replay in
     let other = c .before .before .before .replay2 in
     let ok : tableRefusal tb ≡ 0 = sym (one .ensures .0) ∙ c .before .before .before .before .if1 .left in
-    let e = ap (λ (s : Session). image (view s)) (one .ensures .1 .0) ∙ replayed-image tb ok (a .first .now) in
-    let f = ap (λ (s : Session). image (view s)) (other .ensures .1 .0) ∙ replayed-image tb ok (a .second .now) in
-    let i : (c .same-image .result ≡ true) ↔ SameImage tb (a .first .now) (a .second .now) = rw (e, f) at (c .same-image .ensures) in
-    let j = Iff·trans i (images-alike tb ok (a .first .now) (a .second .now)) in
-    let k = Iff·trans j (alike-stored tb ok (a .first .now) (a .second .now)) in
-    (sym ok, (λ z. i, (λ z. j, (λ z. k, λ bad. absurd (bad ok)))))
+    let i = rw (one .ensures .1 .0, other .ensures .1 .0) at (c .same-image .ensures) in (
+      sym ok,
+      (
+        λ z. tells-images tb ok (a .first .now) (a .second .now) (c .same-image .result) i,
+        (λ z. tells-alike tb ok (a .first .now) (a .second .now) (c .same-image .result) i, (λ bad. absurd (bad ok), promise3 tb)),
+      ),
+    )
 
 pub same-ending-spec : {M : Type 1} → statement M
 same-ending-spec = tie.close (tie.spec replay-requires returns replay-requires-2 same-image-requires returns-2)

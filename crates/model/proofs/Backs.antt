@@ -1,36 +1,21 @@
 -- One Back, on a sound session that is not empty: its answer is a look at what it leaves, a screen is gone, and with the
 -- look before it the session is known again.
-use Prim.Native.Nat.{ℕ, suc, _+_, _*_, _≤_}
+use Prim.Native.Nat.{ℕ, suc, _*_, _≤_}
 use mathlib.Core.Path.{_≡_, refl, sym, _∙_, ap, ap₂}
-use mathlib.Core.List.{List, [], _∷_, _++_, head-eq-of-cons-eq, tail-eq-of-cons-eq}
+use mathlib.Core.List.{List, [], _∷_, head-eq-of-cons-eq, tail-eq-of-cons-eq}
 use native.Mathlib.Nat.{not-suc-le-zero}
 use native.Mathlib.Omega.{arith}
 use lib.ListN.{length}
 use Rattle.model.specs.declared.Answer.{Answer}
 use Rattle.model.specs.Lists.{All}
 use Rattle.model.specs.Refusals.{refusal}
 use Rattle.model.specs.Table.{tableRefusal}
-use Rattle.model.specs.Session.{Stack, State, stack, state, count, fresh, mostTasks, mostHeight}
+use Rattle.model.specs.Session.{Stack, State, stack, state, count, screensIn, fresh, mostTasks, mostHeight}
 use Rattle.model.specs.Deeds.{closeIn, close}
 use Rattle.model.specs.Answers.{outcome, settle, lookAt}
-use Rattle.model.specs.Calls.{Call, back, look, backed, ownChecks, done, call}
-use Rattle.model.specs.Histories.{after, answers}
+use Rattle.model.specs.Calls.{back, look, backed, ownChecks, done, call}
 use Rattle.model.proofs.Sound.{TaskSound, Sound}
 use Rattle.model.proofs.Keeps.{settled}
-use Rattle.difference.specs.Apart.{screensIn}
-
--- ---- a list with one call more
-
-module _ (tb : List ℕ) (c : Call) where
-  pub after-last : (s : State ℕ) (cs : List Call) → after tb s (cs ++ c ∷ []) ≡ call tb (after tb s cs) c .session
-  unfolding after
-  after-last s [] = refl
-  after-last s (d ∷ ds) = after-last (call tb s d .session) ds
-
-  pub answers-last : (s : State ℕ) (cs : List Call) → answers tb s (cs ++ c ∷ []) ≡ answers tb s cs ++ call tb (after tb s cs) c .answer ∷ []
-  unfolding after answers
-  answers-last s [] = refl
-  answers-last s (d ∷ ds) = ap (λ (l : List Answer). call tb s d .answer ∷ l) (answers-last (call tb s d .session) ds)
 
 -- ---- the front screen of a session that is not empty
 

@@ -1,0 +1,2 @@
+pub mod Promise3Laws
+pub mod Promised

@@ -1,0 +1,68 @@
+-- Promise 3. A session that the program reaches is one of the rules', stored; it is sound, so its image and its answers each
+-- determine it; and what save writes into a buffer that is long enough is that image.
+use Prim.Native.Nat.{ℕ, _≤_}
+use mathlib.Core.Path.{_≡_, refl}
+use mathlib.Core.Logic.{_↔_, Iff·trans}
+use mathlib.Core.List.{List}
+use native.Mathlib.Omega.{arith}
+use lib.ListN.{length, drop}
+use lib.Seq.{take-append-seam}
+use Rattle.model.specs.Table.{tableRefusal}
+use Rattle.model.specs.Session.{State, fresh}
+use Rattle.model.specs.Image.{image, longestImage}
+use Rattle.model.specs.Calls.{Call}
+use Rattle.model.specs.Histories.{after, AnswerAlike, byRules}
+use Rattle.model.proofs.Sound.{Sound}
+use Rattle.model.proofs.Keeps.{fresh-sound, after-sound}
+use Rattle.model.proofs.ImageLaws.{image-short}
+use Rattle.model.proofs.Promise3.{sound-lifelong, images-tell}
+use Rattle.session.specs.declared.Session.{Session}
+use Rattle.session.specs.Stored.{view, hold, Ready}
+use Rattle.session.proofs.StoredLaws.{view-hold, hold-sound, sound-view}
+use Rattle.calls.specs.StoredCalls.{byProgram}
+use Rattle.calls.proofs.HistoryLaws.{alike-held, after-fresh, answers-fresh}
+use Rattle.image_calls.specs.StoredSaves.{saveStored}
+use Rattle.image_calls.proofs.Saving.{save-fits}
+use Rattle.navigator.specs.Promise3.{bytesSaved, KeepsPromise3}
+
+-- ---- what save writes
+
+module _ (tb : List ℕ) (c : Session) (ready : Ready tb c) (buffer : List ℕ) (long : longestImage ≤ length buffer) where
+  save-accepts : (saveStored tb c buffer .refusal ≡ 0) × (bytesSaved tb c buffer ≡ image (view c))
+  save-accepts =
+      let fits : length (image (view c)) ≤ length buffer = omega (arith, image-short tb (view c) (sound-view tb c (ready .sound))) in
+      rw (save-fits tb c buffer ready fits) (refl, take-append-seam (image (view c)) (drop (length (image (view c))) buffer))
+
+-- ---- sound sessions, as they are stored
+
+module _ (tb : List ℕ) (ok : tableRefusal tb ≡ 0) where
+  ready-held : (v : State ℕ) → Sound tb v → Ready tb (hold v)
+  ready-held v h = record { good = ok; sound = hold-sound tb v h }
+
+  pub saved-held : (v : State ℕ) → Sound tb v → (buffer : List ℕ) → longestImage ≤ length buffer → bytesSaved tb (hold v) buffer ≡ image v
+  saved-held v h buffer long = rw (save-accepts tb (hold v) (ready-held v h) buffer long .1, view-hold v)
+
+  -- what save writes of two of them is equal exactly when they answer alike
+  saved-tells : (v w : State ℕ) → Sound tb v → Sound tb w
+      → (buffer buffer′ : List ℕ) → longestImage ≤ length buffer → longestImage ≤ length buffer′
+      → (bytesSaved tb (hold v) buffer ≡ bytesSaved tb (hold w) buffer′) ↔ AnswerAlike (byProgram tb) (hold v) (hold w)
+  saved-tells v w h k buffer buffer′ long long′ =
+      rw (saved-held v h buffer long, saved-held w k buffer′ long′)
+      (Iff·trans (images-tell tb ok v w h k) (alike-held tb ok v w h k))
+
+-- ---- the promise
+
+pub promise3 : (tb : List ℕ) → KeepsPromise3 tb
+promise3 tb ok =
+    let ruled : List Call → State ℕ = after (byRules tb) fresh in
+    let sound : (cs : List Call) → Sound tb (ruled cs) = after-sound tb ok fresh (fresh-sound tb) in
+    record {
+      sessions = after-fresh tb ok;
+      answered = answers-fresh tb ok;
+      lifelong = λ cs. rw (after-fresh tb ok cs, view-hold (ruled cs)) (sound-lifelong tb (ruled cs) (sound cs));
+      saves = λ cs buffer long.
+          rw (after-fresh tb ok cs) (save-accepts tb (hold (ruled cs)) (ready-held tb ok (ruled cs) (sound cs)) buffer long .0);
+      imagesTell = λ cs ds buffer buffer′ long long′.
+          rw (after-fresh tb ok cs, after-fresh tb ok ds)
+          (saved-tells tb ok (ruled cs) (ruled ds) (sound cs) (sound ds) buffer buffer′ long long′);
+    }
