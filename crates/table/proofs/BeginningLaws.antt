@@ -1,9 +1,12 @@
 -- What an input begins with, by its N and its length; and what each answer says of the input.
 use Prim.Native.Nat.{ℕ, _+_, _*_, _≤_, _<_}
-use mathlib.Core.Path.{_≡_, refl, sym, _∙_}
+use mathlib.Core.Path.{_≡_, refl, sym, _∙_, subst}
+use mathlib.Core.Logic.{inl, inr}
 use mathlib.Core.Bool.{Bool, true, false, _&&_}
-use mathlib.Core.List.{List}
+use mathlib.Core.List.{List, [], _∷_}
 use native.Mathlib.Omega.{arith}
+use denote.Enum.Declared.{tagOf}
+use types.Run.{OneOf}
 use lib.Dec.{leb}
 use lib.ListN.{length}
 use borrow.Author.Tests.{leb-true, leb-false}
@@ -12,6 +15,12 @@ use Rattle.model.specs.Player.{startsWithTable}
 use Rattle.model.proofs.Logic.{Decides, and-decides, leb-decides, refuted, contradiction, if-elim}
 use Rattle.table.specs.declared.Beginning.{Beginning}
 use Rattle.table.specs.Beginnings.{beginningOf}
+use Rattle.table.proofs.Beginning as B
+
+-- another beginning than a table, by the tags of the others
+other-tag : OneOf (1 ∷ 2 ∷ []) 0 → ⊥
+other-tag (inl e) = omega arith
+other-tag (inr e) = omega arith
 
 module _ (l : List ℕ) where
   abbrev long : ℕ
@@ -58,7 +67,7 @@ module _ (l : List ℕ) where
       go true p = contradiction (starts-decides .shows (g, leb-true long (length l) p)) e
       go false p = leb-false long (length l) p
 
-  pub said : Said (beginningOf l)
+  said : Said (beginningOf l)
   unfolding beginningOf
   said =
       if-elim Said (startsWithTable l) _ _
@@ -66,3 +75,16 @@ module _ (l : List ℕ) where
       (λ e. if-elim Said (leb 1 (sizeOf l) && leb (sizeOf l) mostScreens) _ _
       (λ f. let g = good-decides .holds f in (refl, (g, cut-short g e)))
       (λ f g. contradiction (good-decides .shows g) f))
+
+  -- ---- by what a caller is told
+
+  pub told : {b : Beginning} (x : Beginning) → b ≡ beginningOf l → b ≡ x → Said x
+  told x e f = subst Said (sym e ∙ f) said
+
+  pub starts-with : {n : ℕ} {b : Beginning} → b ≡ beginningOf l → b ≡ Beginning.Table n → (startsWithTable l ≡ true) × (n ≡ long)
+  starts-with {n} {b} e f = let k = told (Beginning.Table n) e f in (starts-decides .shows (k .1), k .0)
+
+  pub starts-otherwise : (b : Beginning) → b ≡ beginningOf l → OneOf (1 ∷ 2 ∷ []) (tagOf B.the-type b) → startsWithTable l ≡ false
+  starts-otherwise b e o =
+      refuted (startsWithTable l) starts-decides
+      (λ h. other-tag (rw (e ∙ begins-table (h .0) (h .1)) at o))
