@@ -1,7 +1,17 @@
--- A block is played, and the text does not end beyond the buffer.
-use mathlib.Core.Path.{sym}
-use borrow.Author.Needs.{needs}
+-- A block is played whole: it has 10,000 records at most, and the text has room for as many of the longest lines.
+use Prim.Native.Nat.{ℕ, _≤_}
+use mathlib.Core.Path.{_≡_, sym, _∙_, ap}
+use mathlib.Core.List.{List}
+use native.Mathlib.Omega.{arith}
+use lib.ListN.{length, take, replicate, length-replicate}
 use lib.Seq.{length-take-le}
+use lib.Dec.{eqb}
+use borrow.Author.Needs.{needs}
+use borrow.Author.Tests.{eqb-true}
+use Rattle.model.specs.Player.{Record, sessionAfter}
+use Rattle.model.proofs.Logic.{and-right}
+use Rattle.session.specs.Stored.{view, hold}
+use Rattle.play.proofs.BlockLaws.{records-few, fitting-all}
 use Rattle.playing.proofs.turn.Statement.{statement}
 use Rattle.playing.proofs.turn.Tie as tie
 
@@ -33,7 +43,21 @@ write-all-requires : tie.Need-write-all-requires
 write-all-requires c κs = search needs
 
 returns : tie.Need-returns
-returns c = search needs
+returns c =
+    let read = c .before .before .before .before .before .before .before .before .read-full in
+    let start = c .before .before .before .before .before .before .before .before .before .before .before .args in
+    let played = c .before .before .before .before .play .ensures in
+    let block = take (read .result) (read .last .1 .0) in
+    let long : length block ≡ read .result = length-take-le (read .result) (read .last .1 .0) (read .ensures .0) in
+    let few = records-few block in
+    let room = length-replicate {A = ℕ} 280000 0 in
+    let got : read .result ≤ 60000 = omega (arith, read .ensures, read .kept .1 .0, length-replicate {A = ℕ} 60000 0) in
+    record {
+      block = block;
+      played = played .0 ∙ ap (λ (rs : List Record). hold (sessionAfter (start .table .now) (view (start .s)) rs)) (fitting-all block (replicate 280000 0) (omega arith));
+      whole = λ h. let full = eqb-true (read .result) 60000 (and-right (c .before .write-all .result) (eqb (read .result) 60000) h) in omega arith;
+      keeps = played .1 .1 .1 .1 .0;
+    }
 
 pub turn-spec : {M : Type 1} → statement M
 turn-spec =
