@@ -10,29 +10,19 @@ use borrow.Author.Tests.{le-leb, lt-leb}
 use borrow.Rule.Slice.PartMut.{midOf}
 use Rattle.model.specs.Table.{sizeOf}
 use Rattle.model.specs.Session.{fresh}
-use Rattle.model.specs.Answers.{refused}
-use Rattle.model.specs.Player.{lineOf, textOf, startsWithTable, tableIn, recordBytes, playerText}
+use Rattle.model.specs.Player.{textOf, startsWithTable, tableIn, recordBytes, playerText}
 use Rattle.play.specs.Fitting.{longestLine, fitting}
 use Rattle.play.proofs.BlockLaws.{fitting-all}
-use Rattle.input.specs.Texts.{stopText, fittingText, Roomy}
-
--- ---- the stop line
-
-module _ (out : List ℕ) where
-  pub stop-line : longestLine ≤ length out → stopText out ≡ lineOf 0 (refused 1)
-  unfolding stopText
-  stop-line h = rw (le-leb longestLine (length out) h)
-
-  pub stop-none : length out < longestLine → stopText out ≡ []
-  unfolding stopText
-  stop-none h = rw (lt-leb longestLine (length out) h)
-
--- ---- the text
+use Rattle.input.specs.Texts.{stopLine, fittingText, Roomy}
 
 module _ (input out : List ℕ) where
-  pub text-stop : startsWithTable input ≡ false → fittingText input out ≡ stopText out
+  pub text-stop : startsWithTable input ≡ false → longestLine ≤ length out → fittingText input out ≡ stopLine
   unfolding fittingText
-  text-stop e = rw e
+  text-stop e h = rw (e, le-leb longestLine (length out) h)
+
+  pub text-none : startsWithTable input ≡ false → length out < longestLine → fittingText input out ≡ []
+  unfolding fittingText
+  text-none e h = rw (e, lt-leb longestLine (length out) h)
 
   pub text-table : startsWithTable input ≡ true → fittingText input out ≡ textOf (tableIn input) fresh (fitting (recordBytes input) out)
   unfolding fittingText
@@ -40,7 +30,7 @@ module _ (input out : List ℕ) where
 
   pub text-whole : Roomy input out → fittingText input out ≡ playerText input
   unfolding fittingText playerText
-  text-whole h = rw (fitting-all (recordBytes input) out (h .lines), stop-line out (h .stop))
+  text-whole h = rw (fitting-all (recordBytes input) out (h .lines), le-leb longestLine (length out) (h .stop))
 
 -- ---- the parts that are lent
 

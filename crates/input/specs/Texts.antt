@@ -11,12 +11,13 @@ use Rattle.model.specs.Player.{lineOf, textOf, recordsIn, startsWithTable, tabl
 use Rattle.play.specs.Fitting.{longestLine, fitting}
 
 -- "0 and the answer of refusal 1"
-unfoldable pub stopText : List ℕ → List ℕ
-stopText out = if leb longestLine (length out) then lineOf 0 (refused 1) else []
+abbrev pub stopLine : List ℕ
+stopLine = lineOf 0 (refused 1)
 
 unfoldable pub fittingText : List ℕ → List ℕ → List ℕ
 fittingText input out =
-    if startsWithTable input then textOf (tableIn input) fresh (fitting (recordBytes input) out) else stopText out
+    if startsWithTable input then textOf (tableIn input) fresh (fitting (recordBytes input) out) else
+    if leb longestLine (length out) then stopLine else []
 
 -- the buffer has room for the longest line, and for as many of them as there are records
 pub record Roomy (input out : List ℕ) : Type 0 where
