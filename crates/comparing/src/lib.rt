@@ -70,11 +70,11 @@ fn read_recording(path: &[u8], buffer: &mut [u8]) -> Loaded
     ensures bound { λ r. ⌜ r .long ≤ length (now (buffer .exit)) ⌝ }
     ensures table { λ r. ⌜ (r .ok ≡ true → tableRefusal (tableIn (take (r .long) (now (buffer .exit)))) ≡ 0) ⌝ }
 {
-    let file = read_file(path, buffer);
-    if !file.ok {
+    let recording = read_file(path, buffer);
+    if !recording.ok {
         return unread();
     }
-    let long = file.long;
+    let long = recording.long;
     let number = endings::table_refusal(&buffer[..long]);
     if number != 0 {
         complain(path, b": table refused: ");
@@ -82,7 +82,7 @@ fn read_recording(path: &[u8], buffer: &mut [u8]) -> Loaded
         io::write_all(STDERR_FILENO, b"\n");
         return unread();
     }
-    file
+    recording
 }
 
 // Reads the recording that the argument at this place names.
