@@ -6,7 +6,7 @@ use native.Mathlib.Omega.{arith}
 use lib.ListN.{length, take}
 use lib.Seq.{length-take-le, take-all}
 use borrow.Author.Needs.{needs}
-use borrow.Author.Tests.{eqb-true}
+use borrow.Author.Tests.{leb-true, eqb-true}
 use Rattle.model.specs.Player.{Record, recordsIn, sessionAfter}
 use Rattle.model.proofs.Logic.{and-right}
 use Rattle.session.specs.Stored.{view, hold}
@@ -62,13 +62,13 @@ returns c =
     let block = take (read .read-full .result) (read .read-full .last .1 .0) in
     let long : length block ≡ read .read-full .result =
     length-take-le (read .read-full .result) (read .read-full .last .1 .0) (read .read-full .ensures .0) in
-    let few = within (read .read-full .ensures .0) (read .read-full .kept .1 .0) (slice-aggregate-read-full (read .before)) (omega arith) in
+    let few = within (read .read-full .ensures .0) (read .read-full .kept .1 .0) (slice-aggregate-read-full (read .before)) (leb-true _ 60000 refl) in
     record {
       block = block;
       played =
           play .play .ensures .0
           ∙ ap (λ (rs : List Record). hold (sessionAfter (a .table .now) (view (a .s)) rs))
-          (all-fit block (omega arith) (slice-aggregate-play-2 (play .before)) (omega arith));
+          (all-fit block (omega arith) (slice-aggregate-play-2 (play .before)) (leb-true 280000 _ refl));
       whole = λ h. full-whole long (eqb-true _ _ (and-right (c .before .write-all .result) _ h)) refl;
       keeps = play .play .ensures .1 .1 .1 .1 .0;
     }
