@@ -70,11 +70,11 @@ fn read_recording(path: &[u8], buffer: &mut [u8]) -> Loaded
     ensures bound { λ r. ⌜ r .long ≤ length (now (buffer .exit)) ⌝ }
     ensures table { λ r. ⌜ (r .ok ≡ true → tableRefusal (tableIn (take (r .long) (now (buffer .exit)))) ≡ 0) ⌝ }
 {
-    let file = read_file(path, buffer);
-    if !file.ok {
+    let recording = read_file(path, buffer);
+    if !recording.ok {
         return unread();
     }
-    let long = file.long;
+    let long = recording.long;
     let number = endings::table_refusal(&buffer[..long]);
     if number != 0 {
         complain(path, b": table refused: ");
@@ -82,7 +82,7 @@ fn read_recording(path: &[u8], buffer: &mut [u8]) -> Loaded
         io::write_all(STDERR_FILENO, b"\n");
         return unread();
     }
-    file
+    recording
 }
 
 // Reads the recording that the argument at this place names.
@@ -99,14 +99,13 @@ fn load(place: usize, buffer: &mut [u8]) -> Loaded
     read_recording(&path[..n], buffer)
 }
 
-// Prints the verdict on two recordings. Yields its length, or 0 where their tables differ.
-fn tell(first: &[u8], second: &[u8]) -> usize
+// Prints the verdict on two recordings, or says that their tables differ.
+fn tell(first: &[u8], second: &[u8])
     requires { ⌜ tableRefusal (tableIn (now first)) ≡ 0 ⌝ }
-    ensures { λ r. ⌜ r ≤ 78 ⌝ }
 {
     if !endings::same_table(first, second) {
         io::write_all(STDERR_FILENO, b"the tables differ\n");
-        return 0;
+        return;
     }
     let d = endings::compare(first, second);
     let mut out = [0u8; 78];
@@ -114,29 +113,31 @@ fn tell(first: &[u8], second: &[u8]) -> usize
     if !io::write_all(STDOUT_FILENO, &out[..long]) {
         os::fail(b"standard output");
     }
-    long
 }
 
-// The verdict on the recordings that the two arguments name. Yields its length, or 0 where there is none. What is read and
-// written no contract can say; what a verdict is stands in `endings`.
-pub fn compare_files() -> usize
-    ensures { λ r. ⌜ r ≤ 78 ⌝ }
-{
-    if os::arg_count() != 3 {
-        io::write_all(STDERR_FILENO, b"usage: same FIRST SECOND\n");
-        return 0;
-    }
+// The verdict on the recordings that the arguments at two places name. What is read and written no contract can say; what a
+// verdict is stands in `endings`.
+pub fn compare_named(i: usize, j: usize) {
     let mut first = [0u8; 1048576];
-    let one = load(1, &mut first);
+    let one = load(i, &mut first);
     if !one.ok {
-        return 0;
+        return;
     }
     let mut second = [0u8; 1048576];
-    let other = load(2, &mut second);
+    let other = load(j, &mut second);
     if !other.ok {
-        return 0;
+        return;
     }
-    let i = one.long;
-    let j = other.long;
-    tell(&first[..i], &second[..j])
+    let m = one.long;
+    let n = other.long;
+    tell(&first[..m], &second[..n]);
+}
+
+// The same of the program's two arguments.
+pub fn compare_files() {
+    if os::arg_count() != 3 {
+        io::write_all(STDERR_FILENO, b"usage: same FIRST SECOND\n");
+        return;
+    }
+    compare_named(1, 2);
 }

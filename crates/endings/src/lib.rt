@@ -22,10 +22,7 @@ fn table_end(input: &[u8]) -> usize
     ensures bound { λ r. ⌜ r ≤ length (now (input .entry)) ⌝ }
 {
     let there = input.len();
-    if there == 0 {
-        return 0;
-    }
-    let long = 2 + 2 * (table::size(input) as usize);
+    let long = table::length_said(input);
     if long > there {
         return there;
     }

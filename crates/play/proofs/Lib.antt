@@ -4,3 +4,4 @@ pub mod OtherCalls
 pub mod Starting
 pub mod Records
 pub mod Playing
+pub mod BlockLaws

@@ -25,12 +25,12 @@ use Rattle.play.proofs.Entry.{entry-good}
 use Rattle.play.proofs.Replies.{stepOf, answerAfter, answer-after, sound-playable, sound-sized, reply-sound, entry-refused}
 
 module _ (tb : List ℕ) where
-  after-append : (rs qs : List Record) (s : State ℕ) → sessionAfter tb s (rs ++ qs) ≡ sessionAfter tb (sessionAfter tb s rs) qs
+  pub after-append : (rs qs : List Record) (s : State ℕ) → sessionAfter tb s (rs ++ qs) ≡ sessionAfter tb (sessionAfter tb s rs) qs
   unfolding sessionAfter
   after-append [] qs s = refl
   after-append (r ∷ rs) qs s = after-append rs qs (reply tb s (r .request) .session)
 
-  text-append : (rs qs : List Record) (s : State ℕ) → textOf tb s (rs ++ qs) ≡ textOf tb s rs ++ textOf tb (sessionAfter tb s rs) qs
+  pub text-append : (rs qs : List Record) (s : State ℕ) → textOf tb s (rs ++ qs) ≡ textOf tb s rs ++ textOf tb (sessionAfter tb s rs) qs
   unfolding textOf sessionAfter
   text-append [] qs s = refl
   text-append (r ∷ rs) qs s =

@@ -1,4 +1,6 @@
 // The player of document 01, on standard input and output. Its stdin and stdout here are the document's example.
+use libc::STDIN_FILENO;
+
 fn main() {
-    playing::play_all();
+    playing::play_from(STDIN_FILENO);
 }

@@ -1,15 +1,13 @@
-// The player: a table and then records on standard input, a line of text for each record on standard output.
-// It only reads, calls and writes, in blocks; what it writes is the business of `play`. Memory does not grow.
+// The player: a table and then records from a file, a line of text for each record on standard output.
+// It only reads, calls and writes, in blocks; what it writes is the business of `play` and `input`. Memory does not grow.
 
-ghost use Prim.Native.Nat.{_+_, _*_, _≤_};
-ghost use mathlib.Core.Path.{_≡_};
-ghost use mathlib.Core.Bool.{_&&_};
-ghost use lib.Dec.{leb};
+ghost use Prim.Native.Nat.{_≤_};
 ghost use lib.ListN.{length};
-ghost use Rattle.model.specs.Lists.{if_then_else_};
-ghost use Rattle.model.specs.Table.{mostScreens};
 ghost use Rattle.play.specs.Steps.{Playable};
+ghost use Rattle.playing.specs.Turns.{Turns};
+use libc::STDOUT_FILENO;
 use session::Session;
+use table::Beginning;
 
 // What is left after a block: the session, and whether to go on.
 struct Turned {
@@ -18,17 +16,17 @@ struct Turned {
 }
 
 // Plays one block of records. It goes on unless the input ended in it or what it says cannot be written.
-fn turn(table: &[u8], s: Session) -> Turned
+fn turn(fd: i32, table: &[u8], s: Session) -> Turned
     requires { ⌜ Playable (now table) s ⌝ }
-    ensures { λ r. ⌜ Playable (now (table .entry)) (r .session) ⌝ }
+    ensures { λ r. ⌜ Turns (now (table .entry)) s r ⌝ }
 {
     // 10,000 records of 6 bytes, none of which stands in two blocks, and as many of the longest lines
     let mut input = [0u8; 60000];
     let mut output = [0u8; 280000];
-    let got = io::read_full(0, &mut input);
+    let got = io::read_full(fd, &mut input);
     let played = play::play(table, s, &input[..got], &mut output);
     let written = played.written;
-    let went = io::write_all(1, &output[..written]);
+    let went = io::write_all(STDOUT_FILENO, &output[..written]);
     let after = played.session;
     Turned {
         session: after,
@@ -37,11 +35,11 @@ fn turn(table: &[u8], s: Session) -> Turned
 }
 
 // Plays block after block from a fresh session. No input reaches the number of blocks that is counted down from.
-fn run(table: &[u8]) {
+fn run(fd: i32, table: &[u8]) {
     let mut s = Session::fresh();
     let mut left = u64::MAX;
     while left > 0 {
-        let t = turn(table, s);
+        let t = turn(fd, table, s);
         s = t.session;
         if !t.more {
             return;
@@ -50,50 +48,33 @@ fn run(table: &[u8]) {
     }
 }
 
-// The length of a table of N screens, or 0 where N is bad.
-fn table_length(n: u8) -> usize
-    ensures length { λ r. ⌜ r ≡ (if leb 1 n && leb n mostScreens then 2 + 2 * n else 0) ⌝ }
-    ensures bounds { λ r. ⌜ (r ≤ 130) × ((r ≡ 0 → ⊥) → 2 ≤ r) ⌝ }
-{
-    if n < 1 {
-        return 0;
-    }
-    if n > 64 {
-        return 0;
-    }
-    2 + 2 * (n as usize)
-}
-
-// Reads a table to the start of the buffer. Yields its length, or 0 with N bad or the table cut.
-fn read_table(table: &mut [u8]) -> usize
-    requires { ⌜ 130 ≤ length (now table) ⌝ }
+// Reads a table to the start of the buffer: two bytes, and then as many as its N says. Yields how many were read.
+fn read_table(fd: i32, buffer: &mut [u8]) -> usize
+    requires { ⌜ 130 ≤ length (now buffer) ⌝ }
     ensures { λ r. ⌜ r ≤ 130 ⌝ }
 {
-    if io::read_full(0, &mut table[..2]) < 2 {
-        return 0;
-    }
-    let long = table_length(table[0]);
-    if long == 0 {
-        return 0;
-    }
-    if io::read_full(0, &mut table[2..long]) < long - 2 {
-        return 0;
-    }
-    long
+    let got = io::read_full(fd, &mut buffer[..2]);
+    let Beginning::Cut(long) = table::beginning_of(&buffer[..got]) else {
+        return got;
+    };
+    got + io::read_full(fd, &mut buffer[got..long])
 }
 
-// The table, then the records. Yields the length of the table, or 0 where there was none to play under. What is read and
-// written no contract can say; what a block gives is `play::play`'s.
-pub fn play_all() -> usize
-    ensures { λ r. ⌜ r ≤ 130 ⌝ }
-{
-    let mut table = [0u8; 130];
-    let long = read_table(&mut table);
-    if long == 0 {
-        let line = b"0 1 0 0 0 0 0\n";
-        io::write_all(1, line);
-        return 0;
-    }
-    run(&table[..long]);
-    long
+// Says that there is no table.
+fn stop() {
+    let mut line = [0u8; 28];
+    let long = input::write_stop(&mut line);
+    io::write_all(STDOUT_FILENO, &line[..long]);
+}
+
+// Plays what a file descriptor gives: the table, then the records. What is read and written no contract can say; what the
+// player's text is stands in `input`, what a block gives in `play`.
+pub fn play_from(fd: i32) {
+    let mut buffer = [0u8; 130];
+    let got = read_table(fd, &mut buffer);
+    let Beginning::Table(long) = table::beginning_of(&buffer[..got]) else {
+        stop();
+        return;
+    };
+    run(fd, &buffer[..long]);
 }

@@ -1,4 +1,4 @@
-// A screen table's bytes: its check, and what it says of a screen.
+// A screen table's bytes: its check, what it says of a screen, and whether one stands at the start of an input.
 
 ghost use Prim.Native.Nat.{_+_, _*_, _<_};
 ghost use mathlib.Core.Path.{_≡_};
@@ -6,6 +6,7 @@ ghost use lib.Dec.{leb};
 ghost use lib.ListN.{length};
 ghost use Rattle.model.specs.Lists.{allBelow};
 ghost use Rattle.model.specs.Table.{sizeOf, mainScreen, modeOf, affinityOf, singleInstance, tableRefusal};
+ghost use Rattle.table.specs.Beginnings.{beginningOf};
 
 // The number of screens.
 pub fn size(table: &[u8]) -> u8
@@ -79,4 +80,38 @@ pub fn refusal(table: &[u8]) -> u8
         return 2;
     }
     0
+}
+
+// The length that the table at the start of an input has by its N, whether or not so much is there. Without a byte N is 0.
+pub fn length_said(input: &[u8]) -> usize
+    ensures { λ r. ⌜ r ≡ 2 + 2 * sizeOf (now (input .entry)) ⌝ }
+{
+    if input.len() == 0 {
+        return 2;
+    }
+    2 + 2 * (size(input) as usize)
+}
+
+// What an input begins with: a table of this length, one of this length that is cut, or an N that no table has.
+pub enum Beginning {
+    Table(usize),
+    Cut(usize),
+    Bad,
+}
+
+// What this input begins with.
+pub fn beginning_of(input: &[u8]) -> Beginning
+    ensures { λ r. ⌜ r ≡ beginningOf (now (input .entry)) ⌝ }
+{
+    let long = length_said(input);
+    if long < 4 {
+        return Beginning::Bad;
+    }
+    if long > 130 {
+        return Beginning::Bad;
+    }
+    if long > input.len() {
+        return Beginning::Cut(long);
+    }
+    Beginning::Table(long)
 }

@@ -7,26 +7,14 @@ use Rattle.model.specs.Table.{sizeOf}
 use Rattle.endings.proofs.table_end.Statement.{statement}
 use Rattle.endings.proofs.table_end.Tie as tie
 
+length-said-requires : tie.Need-length-said-requires
+length-said-requires c κs = search needs
+
 returns : tie.Need-returns
-returns c = let l = c .before .before .args .input .now in (omega (arith, length-take (2 + 2 * sizeOf l) l), search needs)
-
-size-requires : tie.Need-size-requires
-size-requires c κs = search needs
-
-cast-long : tie.Need-cast-long
-cast-long c = search needs
-
-mul-long : tie.Need-mul-long
-mul-long c = search needs
-
-add-long : tie.Need-add-long
-add-long c = search needs
+returns c = let l = c .before .before .before .args .input .now in (omega (arith, length-take (2 + 2 * sizeOf l) l), search needs)
 
 returns-2 : tie.Need-returns-2
-returns-2 c = let l = c .before .before .before .before .args .input .now in (omega (arith, length-take (2 + 2 * sizeOf l) l), search needs)
-
-returns-3 : tie.Need-returns-3
-returns-3 c = let l = c .before .before .before .before .args .input .now in (omega (arith, length-take (2 + 2 * sizeOf l) l), search needs)
+returns-2 c = let l = c .before .before .before .args .input .now in (omega (arith, length-take (2 + 2 * sizeOf l) l), search needs)
 
 pub table-end-spec : {M : Type 1} → statement M
-table-end-spec = tie.close (tie.spec returns size-requires cast-long mul-long add-long returns-2 returns-3)
+table-end-spec = tie.close (tie.spec length-said-requires returns returns-2)

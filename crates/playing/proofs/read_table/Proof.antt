@@ -1,8 +1,14 @@
--- A table of N screens fits where N is 1 to 64.
-use mathlib.Core.Path.{sym}
+-- Two bytes at most are read first; a table that is cut there has at most 130 bytes by its N.
+use Prim.Native.Nat.{_+_, _≤_, _<_}
+use mathlib.Core.Path.{_≡_, sym}
+use mathlib.Core.List.{_++_}
 use native.Mathlib.Omega.{arith}
+use lib.ListN.{length, take, drop, length-append, length-drop}
 use lib.Seq.{length-take-le}
 use borrow.Author.Needs.{needs}
+use borrow.Rule.Slice.PartMut.{mid-len}
+use Rattle.table.specs.declared.Beginning.{Beginning}
+use Rattle.table.proofs.BeginningLaws.{told}
 use Rattle.playing.proofs.read_table.Statement.{statement}
 use Rattle.playing.proofs.read_table.Tie as tie
 
@@ -10,55 +16,80 @@ slice-relend-prefix-read-full : tie.Need-slice-relend-prefix-read-full
 slice-relend-prefix-read-full c = search needs
 
 slice-aggregate-read-full : tie.Need-slice-aggregate-read-full
-slice-aggregate-read-full c = sym (length-take-le 2 (c .before .before .args .table .now) (omega arith))
+slice-aggregate-read-full c = sym (length-take-le 2 (c .before .before .args .buffer .now) (omega arith))
 
 read-full-requires : tie.Need-read-full-requires
 read-full-requires c κs = search needs
+
+-- what was read, and what stands in the buffer then
+few : (c : tie.After-read-full)
+    → let there = c .read-full .last .1 .0 ++ drop 2 (c .before .before .before .args .buffer .now) in
+    (c .read-full .result ≤ 2) × ((c .read-full .result ≤ length there) × (130 ≤ length there))
+few c =
+    let read = c .read-full in
+    let buffer = c .before .before .before .args .buffer .now in
+    let lent = length-take-le 2 buffer (omega arith) in
+    let all = length-append (read .last .1 .0) (drop 2 buffer) in
+    let rest = length-drop 2 buffer in
+    (omega (arith, read .ensures, read .kept .1 .0), (omega (arith, read .ensures), omega (arith, read .kept .1 .0)))
+
+slice-reshare-prefix-beginning-of : tie.Need-slice-reshare-prefix-beginning-of
+slice-reshare-prefix-beginning-of c = few (c .before .before) .1 .0
+
+slice-aggregate-beginning-of : tie.Need-slice-aggregate-beginning-of
+slice-aggregate-beginning-of c = sym (length-take-le _ _ (few (c .before .before .before) .1 .0))
+
+beginning-of-requires : tie.Need-beginning-of-requires
+beginning-of-requires c κs = search needs
+
+enum-known-long : tie.Need-enum-known-long
+enum-known-long c = search needs
 
 same-length : tie.Need-same-length
 same-length c = search needs
 
 returns : tie.Need-returns
-returns c = search needs
+returns c = omega (arith, few (c .before .before .before .before .before) .0)
 
-slice-read-table-length : tie.Need-slice-read-table-length
-slice-read-table-length c = search needs
+-- the table is cut there
+cut : (c : tie.After-long) → (c .before .before .before .before .before .before .read-full .result < c .long .given .0 .0) × (c .long .given .0 .0 ≤ 130)
+cut c =
+    let read = c .before .before .before .before .before .before in
+    let there = read .read-full .last .1 .0 ++ drop 2 (read .before .before .before .args .buffer .now) in
+    let k = told (take (read .read-full .result) there) (Beginning.Cut (c .long .given .0 .0)) (c .before .before .beginning-of .ensures) (c .long .given .1) in
+    let l = length-take-le (read .read-full .result) there (few read .1 .0) in
+    (omega arith, omega arith)
 
-table-length-requires : tie.Need-table-length-requires
-table-length-requires c κs = search needs
+sub-read-full : tie.Need-sub-read-full
+sub-read-full c = omega (arith, cut (c .before) .0)
+
+part-read-full-start : tie.Need-part-read-full-start
+part-read-full-start c = omega (arith, cut (c .before) .0)
+
+part-read-full-end : tie.Need-part-read-full-end
+part-read-full-end c =
+    let k = cut (c .before) .1 in
+    let l = few (c .before .before .before .before .before .before .before) .1 .1 in
+    omega arith
+
+read-full-requires-2 : tie.Need-read-full-requires-2
+read-full-requires-2 c κs = search needs
+
+add-result : tie.Need-add-result
+add-result c = search needs
 
 same-length-2 : tie.Need-same-length-2
 same-length-2 c = search needs
 
 returns-2 : tie.Need-returns-2
-returns-2 c = search needs
-
-sub-read-full : tie.Need-sub-read-full
-sub-read-full c = c .before .table-length .ensures .1 .1 (c .if2 .left)
-
-part-read-full-start : tie.Need-part-read-full-start
-part-read-full-start c = sub-read-full c
-
-part-read-full-end : tie.Need-part-read-full-end
-part-read-full-end c = search needs
-
-read-full-requires-2 : tie.Need-read-full-requires-2
-read-full-requires-2 c κs = search needs
-
-sub-if3 : tie.Need-sub-if3
-sub-if3 c = sub-read-full (c .before .before .before .before)
-
-same-length-3 : tie.Need-same-length-3
-same-length-3 c = search needs
-
-returns-3 : tie.Need-returns-3
-returns-3 c = search needs
-
-same-length-4 : tie.Need-same-length-4
-same-length-4 c = search needs
-
-returns-4 : tie.Need-returns-4
-returns-4 c = search needs
+returns-2 c =
+    let long = c .before .before .before .before .before in
+    let read = long .before .before .before .before .before .before in
+    let there = read .read-full .last .1 .0 ++ drop 2 (read .before .before .before .args .buffer .now) in
+    let k = cut long in
+    let l = few read .1 .1 in
+    let lent = mid-len (read .read-full .result) (long .long .given .0 .0) there (omega arith) in
+    omega (arith, c .before .before .read-full2 .ensures, c .before .before .read-full2 .kept .1 .0)
 
 pub read-table-spec : {M : Type 1} → statement M
 read-table-spec =
@@ -67,18 +98,16 @@ read-table-spec =
     slice-relend-prefix-read-full
     slice-aggregate-read-full
     read-full-requires
+    slice-reshare-prefix-beginning-of
+    slice-aggregate-beginning-of
+    beginning-of-requires
+    enum-known-long
     same-length
     returns
-    slice-read-table-length
-    table-length-requires
-    same-length-2
-    returns-2
     sub-read-full
     part-read-full-start
     part-read-full-end
     read-full-requires-2
-    sub-if3
-    same-length-3
-    returns-3
-    same-length-4
-    returns-4)
+    add-result
+    same-length-2
+    returns-2)

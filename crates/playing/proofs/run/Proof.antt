@@ -6,10 +6,10 @@ use Rattle.playing.proofs.run.Statement.{statement}
 use Rattle.playing.proofs.run.Tie as tie
 
 abbrev Inv-loop : tie.InvT-loop
-Inv-loop table s₀ left₀ s left = Playable table s
+Inv-loop fd table s₀ left₀ s left = Playable table s
 
 abbrev μ-loop : tie.MeasureT-loop
-μ-loop table s₀ left₀ s left = left
+μ-loop fd table s₀ left₀ s left = left
 
 fresh-requires : tie.Need-fresh-requires Inv-loop μ-loop
 fresh-requires c κs = search needs
@@ -30,7 +30,7 @@ loop-less : tie.Need-loop-less Inv-loop μ-loop
 loop-less c = search needs
 
 loop-again : tie.Need-loop-again Inv-loop μ-loop
-loop-again c = c .before .before .before .turn .ensures
+loop-again c = c .before .before .before .turn .ensures .keeps
 
 returns-2 : tie.Need-returns-2 Inv-loop μ-loop
 returns-2 c = search needs

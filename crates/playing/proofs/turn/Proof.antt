@@ -1,9 +1,31 @@
--- A block is played, and the text does not end beyond the buffer.
-use mathlib.Core.Path.{sym}
+-- A block is played whole: it has 10,000 records at most, and the text has room for as many of the longest lines.
+use Prim.Native.Nat.{ℕ, _/_, _%_, _≤_}
+use mathlib.Core.Path.{_≡_, refl, sym, _∙_, ap}
+use mathlib.Core.List.{List}
+use native.Mathlib.Omega.{arith}
+use lib.ListN.{length, take}
+use lib.Seq.{length-take-le, take-all}
 use borrow.Author.Needs.{needs}
-use lib.Seq.{length-take-le}
+use borrow.Author.Tests.{leb-true, eqb-true}
+use Rattle.model.specs.Player.{Record, recordsIn, sessionAfter}
+use Rattle.model.proofs.Logic.{and-right}
+use Rattle.session.specs.Stored.{view, hold}
+use Rattle.play.specs.Fitting.{longestLine}
+use Rattle.play.proofs.BlockLaws.{records-few}
 use Rattle.playing.proofs.turn.Statement.{statement}
 use Rattle.playing.proofs.turn.Tie as tie
+
+-- no more is read than was lent
+within : {got there lent n : ℕ} → got ≤ there → there ≡ lent → n ≡ lent → n ≤ 60000 → got ≤ 60000
+within r k l h = omega arith
+
+-- a full block holds whole records
+full-whole : {long got n : ℕ} → long ≡ got → got ≡ n → n % 6 ≡ 0 → long % 6 ≡ 0
+full-whole e f h = omega arith
+
+-- a block of 60,000 bytes into 280,000
+all-fit : (block : List ℕ) {n room : ℕ} → length block ≤ 60000 → n ≡ room → 280000 ≤ n → take (room / longestLine) (recordsIn block) ≡ recordsIn block
+all-fit block {n} {room} short e h = let few = records-few block in take-all (room / longestLine) (recordsIn block) (omega arith)
 
 slice-aggregate-read-full : tie.Need-slice-aggregate-read-full
 slice-aggregate-read-full c = search needs
@@ -33,7 +55,23 @@ write-all-requires : tie.Need-write-all-requires
 write-all-requires c κs = search needs
 
 returns : tie.Need-returns
-returns c = search needs
+returns c =
+    let play = c .before .before .before .before in
+    let read = play .before .before .before .before in
+    let a = read .before .before .before .args in
+    let block = take (read .read-full .result) (read .read-full .last .1 .0) in
+    let long : length block ≡ read .read-full .result =
+    length-take-le (read .read-full .result) (read .read-full .last .1 .0) (read .read-full .ensures .0) in
+    let few = within (read .read-full .ensures .0) (read .read-full .kept .1 .0) (slice-aggregate-read-full (read .before)) (leb-true _ 60000 refl) in
+    record {
+      block = block;
+      played =
+          play .play .ensures .0
+          ∙ ap (λ (rs : List Record). hold (sessionAfter (a .table .now) (view (a .s)) rs))
+          (all-fit block (omega arith) (slice-aggregate-play-2 (play .before)) (leb-true 280000 _ refl));
+      whole = λ h. full-whole long (eqb-true _ _ (and-right (c .before .write-all .result) _ h)) refl;
+      keeps = play .play .ensures .1 .1 .1 .1 .0;
+    }
 
 pub turn-spec : {M : Type 1} → statement M
 turn-spec =

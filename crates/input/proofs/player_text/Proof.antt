@@ -1,0 +1,118 @@
+-- The parts that are lent are the table and the records, where the input begins with a table.
+use Prim.Native.Nat.{_+_, _*_, _≤_}
+use mathlib.Core.Path.{_≡_, sym, _∙_, ap}
+use mathlib.Core.Bool.{true, false}
+use native.Mathlib.Omega.{arith}
+use borrow.Author.Needs.{needs}
+use lib.ListN.{length}
+use lib.Seq.{length-take-le}
+use Rattle.model.specs.Table.{sizeOf}
+use Rattle.model.specs.Session.{fresh}
+use Rattle.model.specs.Player.{startsWithTable}
+use Rattle.model.specs.Written.{written}
+use Rattle.model.proofs.WrittenLaws.{written-nil}
+use Rattle.session.specs.Stored.{view}
+use Rattle.session.proofs.StoredLaws.{view-fresh}
+use Rattle.table.specs.declared.Beginning.{Beginning}
+use Rattle.table.proofs.BeginningLaws.{told, starts-with, starts-otherwise}
+use Rattle.play.proofs.Replies.{fresh-playable}
+use Rattle.input.proofs.TextLaws.{text-stop, text-none, text-table, text-whole, table-part, records-part}
+use Rattle.input.proofs.player_text.Statement.{statement}
+use Rattle.input.proofs.player_text.Tie as tie
+
+beginning-of-requires : tie.Need-beginning-of-requires
+beginning-of-requires c κs = search needs
+
+enum-known-long : tie.Need-enum-known-long
+enum-known-long c = search needs
+
+-- no table stands in the input
+otherwise : (c : tie.At-match-keys2) → startsWithTable (c .before .before .before .before .args .input .now) ≡ false
+otherwise c =
+    let told = c .before .beginning-of in
+    starts-otherwise (c .before .before .before .before .args .input .now) (told .result) (told .ensures) (c .match .keys2)
+
+returns : tie.Need-returns
+returns c =
+    let a = c .before .before .before .before .before .args in
+    let t = text-none (a .input .now) (a .out .now) (otherwise (c .before)) (omega arith) in
+    (ap length (sym t), (sym (written-nil (a .out .now) 0) ∙ ap (written (a .out .now) 0) (sym t), text-whole (a .input .now) (a .out .now)))
+
+write-stop-requires : tie.Need-write-stop-requires
+write-stop-requires c κs = search needs
+
+same-length : tie.Need-same-length
+same-length c = search needs
+
+returns-2 : tie.Need-returns-2
+returns-2 c =
+    let told = c .before .before .before .before .before in
+    let a = told .before .before .before .before .args in
+    let w = c .before .before .write-stop .ensures in
+    let t = text-stop (a .input .now) (a .out .now) (otherwise told) (omega arith) in
+    (rw t (w .0), (rw t (w .1 .0), text-whole (a .input .now) (a .out .now)))
+
+-- the table stands in the input
+begun : (c : tie.After-long)
+    → let l = c .before .before .before .before .before .args .input .now in
+    let n = c .long .given .0 .0 in
+    (startsWithTable l ≡ true) × (n ≡ 2 + 2 * sizeOf l)
+begun c = starts-with (c .before .before .before .before .before .args .input .now) (c .before .before .beginning-of .ensures) (c .long .given .1)
+
+within : (c : tie.After-long) → c .long .given .0 .0 ≤ length (c .before .before .before .before .before .args .input .now)
+within c =
+    let n = c .long .given .0 .0 in
+    let k = told (c .before .before .before .before .before .args .input .now) (Beginning.Table n) (c .before .before .beginning-of .ensures) (c .long .given .1) in
+    omega arith
+
+slice-aggregate-play : tie.Need-slice-aggregate-play
+slice-aggregate-play c = sym (length-take-le _ _ (within (c .before .before)))
+
+fresh-requires : tie.Need-fresh-requires
+fresh-requires c κs = search needs
+
+sub-play : tie.Need-sub-play
+sub-play c = within (c .before .before .before)
+
+part-play-start : tie.Need-part-play-start
+part-play-start c = within (c .before .before .before)
+
+part-play-end : tie.Need-part-play-end
+part-play-end c = search needs
+
+play-requires : tie.Need-play-requires
+play-requires c κs = rw (c .before .before .fresh .ensures) (fresh-playable _)
+
+same-length-2 : tie.Need-same-length-2
+same-length-2 c = search needs
+
+returns-3 : tie.Need-returns-3
+returns-3 c =
+    let long = c .before .before .before .before .before .before .before .before in
+    let a = long .before .before .before .before .before .args in
+    let b = begun long in
+    let n = long .long .given .0 .0 in
+    let p = c .before .before .play .ensures in
+    let v : view (c .before .before .before .before .before .fresh .result) ≡ fresh = ap view (c .before .before .before .before .before .fresh .ensures) ∙ view-fresh in
+    let t = text-table (a .input .now) (a .out .now) (b .0) in
+    let q = rw (table-part (a .input .now) n (b .1), records-part (a .input .now) n (b .1), v) at (p .1 .1) in
+    (rw t (q .0), (rw t (q .1 .0), text-whole (a .input .now) (a .out .now)))
+
+pub player-text-spec : {M : Type 1} → statement M
+player-text-spec =
+    tie.close
+    (tie.spec
+    beginning-of-requires
+    enum-known-long
+    returns
+    write-stop-requires
+    same-length
+    returns-2
+    slice-aggregate-play
+    fresh-requires
+    sub-play
+    part-play-start
+    part-play-end
+    play-requires
+    same-length-2
+    returns-3)
