@@ -1,6 +1,6 @@
--- A look at a stored session, by the bytes that it reads; and that sessions which hold a sound one can be looked at.
-use Prim.Native.Nat.{ℕ, _≤_}
-use mathlib.Core.Path.{_≡_, _∙_, ap}
+-- A look at a stored session, by the front task and the numbers; and that sessions which hold a sound one can be looked at.
+use Prim.Native.Nat.{ℕ, zero, suc, _≤_}
+use mathlib.Core.Path.{_≡_, refl, _∙_, ap}
 use mathlib.Core.List.{List, [], _∷_}
 use native.Mathlib.Nat.{not-suc-le-zero}
 use native.Mathlib.Omega.{arith}
@@ -16,35 +16,40 @@ use Rattle.session.specs.Stored.{view, viewTask, hold, holdTask, pad, noTask}
 use Rattle.session.proofs.Known.{Sized, Screens32}
 use Rattle.session.proofs.StoredLaws.{view-at, view-count}
 use Rattle.session.proofs.TaskLaws.{view-height}
-use Rattle.answer.specs.Seen.{Seen}
+use Rattle.answer.specs.Seen.{Seen, answerOf}
 
-pub look-empty : (c : Session) → c .n ≡ 0 → lookAt (view c) ≡ record { refusal = 0; screen = 0; root = 0; height = 0; tasks = 0; main = c .main }
+look-empty : (c : Session) → c .n ≡ 0 → lookAt (view c) ≡ answerOf noTask 0 (c .main)
 unfolding view lookAt
 look-empty c e = rw e
 
-module _ (c : Session) (sizes : Sized c) (seen : Seen c) (some : 1 ≤ c .n) where
-  abbrev t : Task
-  t = getD (c .tasks) 0 noTask
+module _ (c : Session) (sizes : Sized c) (seen : Seen c) (n : ℕ) (is : c .n ≡ suc n) where
+  abbrev front : Task
+  front = getD (c .tasks) 0 noTask
 
-  pub look-filled : lookAt (view c) ≡ record {
-    refusal = 0;
-    screen = top (viewTask t);
-    root = t .root;
-    height = t .height;
-    tasks = c .n;
-    main = c .main;
-  }
+  look-filled : lookAt (view c) ≡ answerOf front (suc n) (c .main)
   unfolding lookAt view viewTask
   look-filled =
-      let l : length (t .screens) ≡ 32 = All-at Screens32 (c .tasks) 0 noTask (omega (arith, sizes .tasks)) (sizes .each) in
-      let low : t .height ≤ 32 = seen .low some in
-      let filled : 1 ≤ t .height = seen .filled some in
+      let some : 1 ≤ c .n = omega arith in
+      let l : length (front .screens) ≡ 32 = All-at Screens32 (c .tasks) 0 noTask (omega (arith, sizes .tasks)) (sizes .each) in
+      let low : front .height ≤ 32 = seen .low some in
       let e = view-at c 0 some in
       let x = ap top e in
       let r = ap (λ (u : Stack ℕ). u .root) e in
-      let h = ap (λ (u : Stack ℕ). height u) e ∙ view-height t (omega arith) in
-      let n = view-count c sizes (seen .few) in
-      λ i. record { refusal = 0; screen = x i; root = r i; height = h i; tasks = n i; main = c .main }
+      let h = ap (λ (u : Stack ℕ). height u) e ∙ view-height front (omega arith) in
+      let k = view-count c sizes (seen .few) ∙ is in
+      λ i. record { refusal = 0; screen = x i; root = r i; height = h i; tasks = k i; main = c .main }
+
+module _ (c : Session) (sizes : Sized c) (seen : Seen c) where
+  abbrev t : Task
+  t = getD (c .tasks) 0 noTask
+
+  -- by the front task and the numbers
+  pub look-fronted : lookAt (view c) ≡ answerOf t (c .n) (c .main)
+  look-fronted = go (c .n) refl
+    where
+      go : (n : ℕ) → c .n ≡ n → lookAt (view c) ≡ answerOf t n (c .main)
+      go zero e = look-empty c e
+      go (suc n) e = look-filled c sizes seen n e
 
 -- a session that holds a sound one
 module _ (tb : List ℕ) where

@@ -1,9 +1,16 @@
--- What a look relies on: it reads the front task alone.
-use Prim.Native.Nat.{_≤_}
+-- What a look shows by the front task and the numbers, and what it relies on.
+use Prim.Native.Nat.{ℕ, zero, suc, _≤_}
 use lib.ListN.{getD}
-use Rattle.model.specs.Session.{mostTasks, mostHeight}
+use Rattle.model.specs.declared.Answer.{Answer}
+use Rattle.model.specs.Session.{top, mostTasks, mostHeight}
+use Rattle.session.specs.declared.Task.{Task}
 use Rattle.session.specs.declared.Session.{Session}
-use Rattle.session.specs.Stored.{noTask}
+use Rattle.session.specs.Stored.{viewTask, noTask}
+
+-- the answer where n tasks stand, t is the front one, and m the main place
+abbrev pub answerOf : Task → ℕ → ℕ → Answer
+answerOf t zero m = record { refusal = 0; screen = 0; root = 0; height = 0; tasks = 0; main = m }
+answerOf t (suc n) m = record { refusal = 0; screen = top (viewTask t); root = t .root; height = t .height; tasks = suc n; main = m }
 
 -- there are at most 16 tasks, and the front task, where there is one, has 1 to 32 screens
 pub record Seen (c : Session) : Type 0 where

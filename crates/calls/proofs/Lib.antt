@@ -1,3 +1,3 @@
 pub mod Settling
-pub mod BackSettling
+pub mod PlanSettling
 pub mod HistoryLaws

@@ -19,7 +19,7 @@ use Rattle.session.specs.declared.Session.{Session}
 use Rattle.session.specs.Stored.{view, hold, soundStored, Ready}
 use Rattle.answer.specs.Seen.{Seen}
 use Rattle.session.proofs.Known.{Sized}
-use Rattle.session.proofs.StoredLaws.{held, view-hold, view-count, hold-sound, sound-blank, blank-few, sound-view}
+use Rattle.session.proofs.StoredLaws.{held, view-hold, view-count, hold-sound, hold-sized, sound-fits, sound-blank, blank-few, sound-view}
 use Rattle.answer.proofs.LookLaws.{sound-seen}
 use Rattle.calls.specs.declared.Reply.{Reply}
 use Rattle.calls.specs.StoredCalls.{reply, settleStored, settled, refusalStored, sharedRefusal, callStored, KeepsSound}
@@ -136,6 +136,11 @@ module _ (tb : List ℕ) (c : Session) where
     -- which can be looked at
     pub own-seen : Ready tb c → refusal (ownChecks tb (view c) k) ≡ 0 → Seen (hold (done tb (view c) k))
     own-seen h e = sound-seen tb (done tb (view c) k) (done-sound tb (h .good) (view c) (sound-view tb c (h .sound)) k e)
+
+    pub own-sized : Ready tb c → refusal (ownChecks tb (view c) k) ≡ 0 → Sized (hold (done tb (view c) k))
+    own-sized h e =
+        hold-sized (done tb (view c) k)
+        (sound-fits tb (done tb (view c) k) (done-sound tb (h .good) (view c) (sound-view tb c (h .sound)) k e))
 
     -- ---- what a call left
 

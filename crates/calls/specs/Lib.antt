@@ -1,1 +1,2 @@
 pub mod StoredCalls
+pub mod BackPlans

@@ -12,7 +12,6 @@ use Rattle.model.specs.Calls.{Call, start, finishingStart, checksIn, ownChecks,
 use Rattle.model.specs.Histories.{Machine}
 use Rattle.session.specs.declared.Session.{Session}
 use Rattle.session.specs.Stored.{view, hold, soundStored}
-use Rattle.rules.specs.Starts.{startEntry}
 use Rattle.calls.specs.declared.Reply.{Reply}
 
 abbrev pub reply : Session → Answer → Reply
@@ -30,10 +29,6 @@ refusalStored tb c k = refusal (checksIn tb (soundStored tb c) (ownChecks tb (vi
 -- the same with none named for the call: 1, 2, 20, or 0
 unfoldable pub sharedRefusal : List ℕ → Session → ℕ
 sharedRefusal tb c = refusal (checksIn tb (soundStored tb c) [])
-
--- a start's checks before it looks for room: 1, 2, 20, 3, 4, 21, or 0
-unfoldable pub entryStored : List ℕ → Session → ℕ → ℕ → ℕ
-entryStored tb c b w = refusal (checksIn tb (soundStored tb c) (startEntry tb (c .n) b w))
 
 unfoldable pub callStored : List ℕ → Session → Call → Reply
 callStored tb c k = settleStored (refusalStored tb c k) c (done tb (view c) k)

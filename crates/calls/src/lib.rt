@@ -1,17 +1,22 @@
-// Look, launch and Back on a sound session under a good table: each call's own checks in document 01's order, then the rules.
+// Look, launch, Back and the starts on any session under any table. Each takes the refusal of the checks that all calls share
+// (0 if none), makes its own checks in document 01's order, and gives the whole call. Back and the starts are plans that are put;
+// each has the put in its own body, since the compiler copies the session once more where they share it.
 
-ghost use Prim.Native.Nat.{_<_};
+ghost use Prim.Native.Nat.{_≤_};
 ghost use mathlib.Core.Path.{_≡_};
-ghost use mathlib.Core.Bool.{true, false};
-ghost use lib.Dec.{eqb, ltb};
-ghost use lib.ListN.{getD};
+ghost use lib.Dec.{eqb};
 ghost use Rattle.model.specs.Lists.{if_then_else_};
 ghost use Rattle.model.specs.Answers.{lookAt, refused as refusedAnswer};
 ghost use Rattle.model.specs.Calls.{Call};
-ghost use Rattle.session.specs.Stored.{view, noTask, Ready};
+ghost use Rattle.session.specs.Stored.{view};
 ghost use Rattle.answer.specs.Seen.{Seen};
-ghost use Rattle.calls.specs.StoredCalls.{reply, callStored};
+ghost use Rattle.plans.specs.Plans.{taskAt, Opens};
+ghost use Rattle.starts.specs.Steps.{orElse};
+ghost use Rattle.calls.specs.StoredCalls.{reply, sharedRefusal, callStored};
+ghost use Rattle.calls.specs.BackPlans.{backMark, backPlan};
 use model::Answer;
+use model::Mark;
+use plans::Plan;
 use session::Session;
 
 // What a call gives: the session after it, and the answer.
@@ -32,7 +37,7 @@ pub fn refuse(s: Session, number: u8) -> Reply
 }
 
 // An accepted call: the session that it made, and what a look at it shows.
-pub fn accept(s: Session) -> Reply
+fn accept(s: Session) -> Reply
     requires { ⌜ Seen s ⌝ }
     ensures { λ r. ⌜ r ≡ reply s (lookAt (view s)) ⌝ }
 {
@@ -43,72 +48,113 @@ pub fn accept(s: Session) -> Reply
 }
 
 // Look changes nothing.
-pub fn look(table: &[u8], s: Session) -> Reply
-    requires { ⌜ Ready (now table) s ⌝ }
+pub fn look(table: &[u8], s: Session, shared: u8) -> Reply
+    requires { ⌜ shared ≡ sharedRefusal (now table) s ⌝ }
     ensures { λ r. ⌜ r ≡ callStored (now (table .entry)) s Call.look ⌝ }
 {
+    if shared != 0 {
+        return refuse(s, shared);
+    }
     accept(s)
 }
 
 // Launch, on an empty session.
-pub fn launch(table: &[u8], s: Session) -> Reply
-    requires { ⌜ Ready (now table) s ⌝ }
+pub fn launch(table: &[u8], s: Session, shared: u8) -> Reply
+    requires { ⌜ shared ≡ sharedRefusal (now table) s ⌝ }
     ensures { λ r. ⌜ r ≡ callStored (now (table .entry)) s Call.launch ⌝ }
 {
+    if shared != 0 {
+        return refuse(s, shared);
+    }
     if s.n != 0 {
         return refuse(s, 22);
     }
     accept(rules::launch(table))
 }
 
-// Back's own check: 21 where no task stands, or 0.
-pub fn back_refusal(tasks: u8) -> u8
-    ensures { λ r. ⌜ r ≡ (if eqb tasks 0 then 21 else 0) ⌝ }
+// ---- Back
+
+// The refusal of a Back where n tasks stand.
+fn back_refusal(shared: u8, n: u8) -> u8
+    ensures { λ r. ⌜ r ≡ orElse shared (if eqb n 0 then 21 else 0) ⌝ }
 {
-    if tasks == 0 {
+    if shared != 0 {
+        return shared;
+    }
+    if n == 0 {
         return 21;
     }
     0
 }
 
-// Whether the front task has more than one screen: then Back changes no other task.
-pub fn back_stays(s: Session) -> bool
-    ensures { λ r. ⌜ r ≡ ltb 1 (getD (s .tasks) 0 noTask .height) ⌝ }
+// Its plan: the top screen of the front task closes, as a marked one does.
+fn back_plan(s: Session, number: u8) -> Plan
+    requires { ⌜ (number ≡ 0 → Opens backMark (taskAt s 0) × (1 ≤ s .n)) ⌝ }
+    ensures { λ r. ⌜ r ≡ backPlan number s ⌝ }
 {
+    if number != 0 {
+        return plans::still(s, number);
+    }
     let front = s.tasks[0];
-    front.height > 1
-}
-
-// Back within the front task: its top screen goes.
-pub fn back_within(table: &[u8], s: Session) -> Reply
-    requires { ⌜ Ready (now table) s × (0 < s .n) × (ltb 1 (getD (s .tasks) 0 noTask .height) ≡ true) ⌝ }
-    ensures { λ r. ⌜ r ≡ callStored (now (table .entry)) s Call.back ⌝ }
-{
-    let mut out = s;
-    let front = out.tasks[0];
-    out.tasks[0] = front.pop();
-    accept(out)
-}
-
-// Back out of the front task, whose only screen goes: the task goes too.
-pub fn back_out(table: &[u8], s: Session) -> Reply
-    requires { ⌜ Ready (now table) s × (0 < s .n) × (ltb 1 (getD (s .tasks) 0 noTask .height) ≡ false) ⌝ }
-    ensures { λ r. ⌜ r ≡ callStored (now (table .entry)) s Call.back ⌝ }
-{
-    accept(closing::without_task(s, 0))
+    plans::closing_plan(Mark::Stands(0, 0), front, 0, 0, s.n, s.main)
 }
 
 // Back, on a session that is not empty.
-pub fn back(table: &[u8], s: Session) -> Reply
-    requires { ⌜ Ready (now table) s ⌝ }
+pub fn back(table: &[u8], s: Session, shared: u8) -> Reply
+    requires { ⌜ shared ≡ sharedRefusal (now table) s ⌝ }
     ensures { λ r. ⌜ r ≡ callStored (now (table .entry)) s Call.back ⌝ }
 {
-    let number = back_refusal(s.n);
-    if number != 0 {
-        return refuse(s, number);
+    let mut out = s;
+    let number = back_refusal(shared, s.n);
+    let plan = back_plan(s, number);
+    let second = out.tasks[1];
+    let answer = plans::answer_of(plan, second);
+    out.n = plan.n;
+    out.main = plan.main;
+    Reply {
+        session: plans::put(out, plan),
+        answer: answer,
     }
-    if back_stays(s) {
-        return back_within(table, s);
+}
+
+// ---- starts
+
+// Start of b with a flag word.
+pub fn start(table: &[u8], s: Session, b: u8, word: u32, shared: u8) -> Reply
+    requires { ⌜ shared ≡ sharedRefusal (now table) s ⌝ }
+    ensures { λ r. ⌜ r ≡ callStored (now (table .entry)) s (Call.start b word) ⌝ }
+{
+    let mut out = s;
+    let sought = starts::seek(table, s, b, word, shared);
+    let i = sought.index;
+    let t = out.tasks[i];
+    let plan = starts::plan(table, s, t, sought, b, word, false);
+    let second = out.tasks[1];
+    let answer = plans::answer_of(plan, second);
+    out.n = plan.n;
+    out.main = plan.main;
+    Reply {
+        session: plans::put(out, plan),
+        answer: answer,
     }
-    back_out(table, s)
+}
+
+// Finishing start of b with a flag word: the caller closes itself.
+pub fn finish_start(table: &[u8], s: Session, b: u8, word: u32, shared: u8) -> Reply
+    requires { ⌜ shared ≡ sharedRefusal (now table) s ⌝ }
+    ensures { λ r. ⌜ r ≡ callStored (now (table .entry)) s (Call.finishingStart b word) ⌝ }
+{
+    let mut out = s;
+    let sought = starts::seek(table, s, b, word, shared);
+    let i = sought.index;
+    let t = out.tasks[i];
+    let plan = starts::plan(table, s, t, sought, b, word, true);
+    let second = out.tasks[1];
+    let answer = plans::answer_of(plan, second);
+    out.n = plan.n;
+    out.main = plan.main;
+    Reply {
+        session: plans::put(out, plan),
+        answer: answer,
+    }
 }

@@ -35,9 +35,9 @@ use Rattle.calls.specs.declared.Reply.{Reply}
 use Rattle.calls.specs.StoredCalls.{callStored}
 use Rattle.calls.proofs.Reply.Laws as R′
 use Rattle.navigator.proofs.launch as core
-use Rattle.lent_start.proofs.Lending.{local-of, bytesTy, lentTy, stored, Open, answer-is}
-use Rattle.lent_start.proofs.LendingCalls.{a-session, a-reply, Passed, pass, denots, lows, on-table, calls-slices}
-use Rattle.lent_start.proofs.LendingWays.{vacant, holding, freed, opened, of-reply, stores-within}
+use Rattle.lent.proofs.Lending.{local-of, bytesTy, lentTy, stored, Open, answer-is}
+use Rattle.lent.proofs.LendingCalls.{a-session, a-reply, Passed, pass, denots, lows, on-table, calls-slices}
+use Rattle.lent.proofs.LendingWays.{vacant, holding, freed, opened, of-reply, stores-within}
 use Rattle.lent.proofs.LendingTable as T
 use Rattle.lent.proofs.LendingTable.{Frame, vt, OwnTable, args, vals, Tokens, Walk}
 use Rattle.lent.proofs.milchkompass_launch as outer

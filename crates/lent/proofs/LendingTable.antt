@@ -36,7 +36,7 @@ use Rattle.session.proofs.Session.Laws as S′
 use Rattle.session.proofs.Known.{Sized, sized}
 use Rattle.calls.specs.declared.Reply.{Reply}
 use Rattle.calls.specs.StoredCalls.{reply, callStored}
-use Rattle.lent_start.proofs.Lending.{ensuring, Shut}
+use Rattle.lent.proofs.Lending.{ensuring, Shut}
 use Rattle.lent.proofs.milchkompass_launch as outer
 
 -- the lifetimes, and the shares of them, of the table and the session; and what is passed. The session s lies at p, o.

@@ -1,4 +1,7 @@
+pub mod Lending
+pub mod LendingCalls
+pub mod LendingWays
 pub mod LendingFacts
-pub mod LendingAlone
-pub mod LendingOn
 pub mod LendingTable
+pub mod LendingAlone
+pub mod LendingStart

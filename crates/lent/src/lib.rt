@@ -1,6 +1,6 @@
 // The calls for programs in C and Rust. A slice is a pointer and a length there; a session that a call may change is lent,
-// and the call writes the new one there. Nothing is decided here: each call is the one of `navigator`, and the ways of a
-// Back or a start are told by functions by value. Each way has a store of its own, so that no more is written than changes.
+// and the call writes the new one there. Nothing is decided here: each call is the one of `navigator`, by value, and its
+// session is stored.
 
 ghost use mathlib.Core.Path.{_≡_};
 ghost use lib.ListN.{take};
@@ -45,7 +45,9 @@ pub extern "C" fn milchkompass_start(table: &[u8], s: &mut Session, b: u8, word:
     ensures stores { λ _. ⌜ now (s .exit) ≡ callStored (now (table .entry)) (now (s .entry)) (Call.start b word) .session ⌝ }
     ensures promise { λ _. ⌜ KeepsPromise3 (now (table .entry)) ⌝ }
 {
-    answer::of_word(lent_start::start_lent(table, s, b, word, false))
+    let reply = navigator::start(table, *s, b, word);
+    *s = reply.session;
+    reply.answer
 }
 
 // Finishing start of b with a flag word: the caller closes itself.
@@ -60,7 +62,9 @@ pub extern "C" fn milchkompass_finish_start(
     ensures stores { λ _. ⌜ now (s .exit) ≡ callStored (now (table .entry)) (now (s .entry)) (Call.finishingStart b word) .session ⌝ }
     ensures promise { λ _. ⌜ KeepsPromise3 (now (table .entry)) ⌝ }
 {
-    answer::of_word(lent_start::start_lent(table, s, b, word, true))
+    let reply = navigator::finish_start(table, *s, b, word);
+    *s = reply.session;
+    reply.answer
 }
 
 // Back.
@@ -70,16 +74,7 @@ pub extern "C" fn milchkompass_back(table: &[u8], s: &mut Session) -> Answer
     ensures stores { λ _. ⌜ now (s .exit) ≡ callStored (now (table .entry)) (now (s .entry)) Call.back .session ⌝ }
     ensures promise { λ _. ⌜ KeepsPromise3 (now (table .entry)) ⌝ }
 {
-    let number = navigator::back_refusal(table, *s);
-    if number != 0 {
-        return answer::refused(number);
-    }
-    if calls::back_stays(*s) {
-        let reply = calls::back_within(table, *s);
-        *s = reply.session;
-        return reply.answer;
-    }
-    let reply = calls::back_out(table, *s);
+    let reply = navigator::back(table, *s);
     *s = reply.session;
     reply.answer
 }

@@ -1,11 +1,11 @@
 // The calls of document 01, by value, for any caller. Any table, session and image bytes: each call ends, and its contract
-// says what it gives. The checks that all calls share are made here; below them nothing is checked again. What holds over
+// says what it gives. The checks that all calls share are made here, and their refusal is passed on. What holds over
 // whole lists of these calls is promise 3 (specs/Promise3), which each of their contracts cites.
 
 ghost use mathlib.Core.Path.{_≡_};
 ghost use lib.ListN.{take};
 ghost use Rattle.model.specs.Calls.{Call};
-ghost use Rattle.calls.specs.StoredCalls.{sharedRefusal, refusalStored, entryStored, callStored, KeepsSound};
+ghost use Rattle.calls.specs.StoredCalls.{sharedRefusal, callStored, KeepsSound};
 ghost use Rattle.image_calls.specs.Restores.{AcceptsImages, BringsBack, SavesAgain};
 ghost use Rattle.image_calls.specs.StoredSaves.{saved, saveStored, BroughtBack, NoOtherHas};
 ghost use Rattle.navigator.specs.Promise3.{KeepsPromise3};
@@ -35,10 +35,7 @@ pub fn look(table: &[u8], s: Session) -> Reply
     ensures promise { λ _. ⌜ KeepsPromise3 (now (table .entry)) ⌝ }
 {
     let number = shared_refusal(table, s);
-    if number != 0 {
-        return calls::refuse(s, number);
-    }
-    calls::look(table, s)
+    calls::look(table, s, number)
 }
 
 // Launch, on an empty session.
@@ -48,21 +45,7 @@ pub fn launch(table: &[u8], s: Session) -> Reply
     ensures promise { λ _. ⌜ KeepsPromise3 (now (table .entry)) ⌝ }
 {
     let number = shared_refusal(table, s);
-    if number != 0 {
-        return calls::refuse(s, number);
-    }
-    calls::launch(table, s)
-}
-
-// The refusal of a start by the checks before it looks for room: 1, 2, 20, 3, 4, 21, or 0.
-pub fn start_refusal(table: &[u8], s: Session, b: u8, word: u32) -> u8
-    ensures { λ r. ⌜ r ≡ entryStored (now (table .entry)) s b word ⌝ }
-{
-    let number = shared_refusal(table, s);
-    if number != 0 {
-        return number;
-    }
-    start_calls::entry_refusal(table, s.n, b, word)
+    calls::launch(table, s, number)
 }
 
 // Start of b with a flag word.
@@ -72,10 +55,7 @@ pub fn start(table: &[u8], s: Session, b: u8, word: u32) -> Reply
     ensures promise { λ _. ⌜ KeepsPromise3 (now (table .entry)) ⌝ }
 {
     let number = shared_refusal(table, s);
-    if number != 0 {
-        return calls::refuse(s, number);
-    }
-    start_calls::start(table, s, b, word)
+    calls::start(table, s, b, word, number)
 }
 
 // Finishing start of b with a flag word: the caller closes itself.
@@ -85,21 +65,7 @@ pub fn finish_start(table: &[u8], s: Session, b: u8, word: u32) -> Reply
     ensures promise { λ _. ⌜ KeepsPromise3 (now (table .entry)) ⌝ }
 {
     let number = shared_refusal(table, s);
-    if number != 0 {
-        return calls::refuse(s, number);
-    }
-    start_calls::finish_start(table, s, b, word)
-}
-
-// The refusal of a Back: 1, 2, 20, 21, or 0.
-pub fn back_refusal(table: &[u8], s: Session) -> u8
-    ensures { λ r. ⌜ r ≡ refusalStored (now (table .entry)) s Call.back ⌝ }
-{
-    let number = shared_refusal(table, s);
-    if number != 0 {
-        return number;
-    }
-    calls::back_refusal(s.n)
+    calls::finish_start(table, s, b, word, number)
 }
 
 // Back, on a session that is not empty.
@@ -109,10 +75,7 @@ pub fn back(table: &[u8], s: Session) -> Reply
     ensures promise { λ _. ⌜ KeepsPromise3 (now (table .entry)) ⌝ }
 {
     let number = shared_refusal(table, s);
-    if number != 0 {
-        return calls::refuse(s, number);
-    }
-    calls::back(table, s)
+    calls::back(table, s, number)
 }
 
 // Restore: the session read from a whole image.

@@ -33,11 +33,11 @@ fn after_record(table: &[u8], s: Session, kind: u8, b: u8, word: u32, image: &[u
     ensures { λ r. ⌜ r ≡ after (byProgram (now (table .entry))) s (callOf kind b word (now (image .entry))) ⌝ }
 {
     match kind {
-        1 => calls::launch(table, s).session,
-        2 => start_calls::start(table, s, b, word).session,
-        3 => start_calls::finish_start(table, s, b, word).session,
-        4 => calls::back(table, s).session,
-        5 => calls::look(table, s).session,
+        1 => calls::launch(table, s, 0).session,
+        2 => calls::start(table, s, b, word, 0).session,
+        3 => calls::finish_start(table, s, b, word, 0).session,
+        4 => calls::back(table, s, 0).session,
+        5 => calls::look(table, s, 0).session,
         6 => image_calls::restore(table, s, image, 0).session,
         _ => s,
     }

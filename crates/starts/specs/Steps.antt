@@ -1,39 +1,61 @@
--- The steps of a start on a stored session: what seeking, choosing and planning give, and the sessions that a plan puts.
-use Prim.Native.Nat.{ℕ, _≤_, _<_}
+-- The steps of a start on a stored session: what seeking, choosing and planning give.
+use Prim.Native.Nat.{ℕ, zero, suc}
 use mathlib.Core.Path.{_≡_}
-use mathlib.Core.Bool.{Bool, true, false, _||_}
+use mathlib.Core.Bool.{Bool, true, false}
 use mathlib.Core.List.{List}
-use lib.Dec.{eqb, leb, ltb}
-use lib.ListN.{getD, set}
+use lib.Dec.{eqb, leb}
 use Rattle.model.specs.declared.Deed.{Deed}
 use Rattle.model.specs.declared.Flags.{Flags}
+use Rattle.model.specs.declared.Found.{Found}
+use Rattle.model.specs.declared.Group.{Group}
 use Rattle.model.specs.declared.Mark.{Mark}
-use Rattle.model.specs.Lists.{if_then_else_, omit}
-use Rattle.model.specs.Session.{stack, top, mostTasks}
+use Rattle.model.specs.Refusals.{refusal}
+use Rattle.model.specs.Session.{top}
+use Rattle.model.specs.Flags.{flagsOf}
 use Rattle.model.specs.Search.{placeOf}
 use Rattle.model.specs.Rules.{groupOf, soughtBy, choose}
 use Rattle.model.specs.Deeds.{deedOf}
-use Rattle.model.specs.Marks.{markAfter, closeAt, Stands}
+use Rattle.model.specs.Marks.{markAfter}
 use Rattle.session.specs.declared.Session.{Session}
 use Rattle.session.specs.declared.Task.{Task}
-use Rattle.session.specs.Stored.{view, viewTask, hold, holdTask, noTask, storageBlank}
+use Rattle.session.specs.Stored.{view, viewTask}
 use Rattle.choice.specs.Shows.{indexOf}
+use Rattle.choice.specs.Startable.{Startable}
 use Rattle.deeds.specs.Fronted.{shiftOf, frontAfter, countAfter, mainAfter}
-use Rattle.deeds.specs.Rows.{shifted}
-use Rattle.rules.specs.Starts.{roomRefusal, madeStored}
+use Rattle.rules.specs.Starts.{startEntry, roomRefusal, madeStored}
+use Rattle.plans.specs.declared.Plan.{Plan}
+use Rattle.plans.specs.Plans as plans
+use Rattle.plans.specs.Plans.{stillOf, closes}
 use Rattle.starts.specs.declared.Sought.{Sought}
 use Rattle.starts.specs.declared.Chosen.{Chosen}
-use Rattle.starts.specs.declared.Plan.{Plan}
 
 abbrev pub taskAt : Session → ℕ → Task
-taskAt c i = getD (c .tasks) i noTask
+taskAt c i = plans.taskAt c i
 
--- ---- seeking and choosing
+-- ---- seeking
 
+abbrev pub noneSought : ℕ → Sought
+noneSought k = record { number = k; index = 0; found = Found.Nowhere; group = Group.Near }
+
+-- the start may be made, and this is sought
 pub record Seeks (tb : List ℕ) (c : Session) (b : ℕ) (f : Flags) (x : Sought) : Type 0 where
+  pub number : x .number ≡ 0
   pub group : x .group ≡ groupOf tb (view c) b f
   pub found : x .found ≡ soughtBy tb (view c) b f (x .group)
   pub index : x .index ≡ indexOf (x .found)
+
+-- the first of two refusals that is not 0
+abbrev pub orElse : ℕ → ℕ → ℕ
+orElse zero k = k
+orElse (suc j) k = suc j
+
+-- by the refusal k of the checks before its own, and its own: nothing is sought where one of them refuses
+pub record SoughtFrom (tb : List ℕ) (c : Session) (b w k : ℕ) (x : Sought) : Type 0 where
+  pub number : x .number ≡ orElse k (refusal (startEntry tb (c .n) b w))
+  pub none : (x .number ≡ 0 → ⊥) → x ≡ noneSought (x .number)
+  pub seeks : x .number ≡ 0 → Startable tb c b × Seeks tb c b (flagsOf w) x
+
+-- ---- choosing
 
 -- k is the index of the task found
 pub record Chooses (tb : List ℕ) (c : Session) (b : ℕ) (f : Flags) (k : ℕ) (x : Chosen) : Type 0 where
@@ -42,65 +64,17 @@ pub record Chooses (tb : List ℕ) (c : Session) (b : ℕ) (f : Flags) (k : ℕ)
   pub place : x .place ≡ placeOf (choose tb (view c) b f .found)
   pub index : k ≡ indexOf (choose tb (view c) b f .found)
 
--- ---- the marked screen
+-- ---- planning
 
 abbrev pub markOf : Bool → Deed → ℕ → Bool → Mark
 markOf true d p isB = markAfter d p isB
 markOf false d p isB = Mark.Gone
-
--- the task behind k others without the marked screen
-abbrev pub closedIn : ℕ → Mark → Task → Task
-closedIn k Mark.Gone t = t
-closedIn k (Mark.Stands j i) t = if eqb j k then holdTask (stack (t .root) (omit i (viewTask t .screens))) else t
-
--- closing it empties its task: the front one of the height h, or the one behind it of the height h′
-abbrev pub emptiesIn : Mark → ℕ → ℕ → Bool
-emptiesIn Mark.Gone h h′ = false
-emptiesIn (Mark.Stands k i) h h′ = if eqb k 0 then leb h 1 else leb h′ 1
-
--- ---- what a plan puts
-
-abbrev pub aloneOf : Session → Plan → Session
-aloneOf c p = record { tasks = set (c .tasks) 0 (p .front); n = p .n; main = p .main }
-
-abbrev pub nearOf : Session → Plan → Session
-nearOf c p = record { tasks = set (shifted (p .front) (p .shift) (c .tasks)) 1 (p .second); n = p .n; main = p .main }
-
--- before the marked screen closes
-abbrev pub putOf : Session → Plan → Session
-putOf c p = record { tasks = shifted (p .front) (p .shift) (c .tasks); n = p .n; main = p .main }
-
-abbrev pub farOf : Session → Plan → Session
-farOf c p = hold (closeAt (p .mark) (view (putOf c p)))
-
--- what the plan that reaches far relies on
-pub record Reaches (c : Session) (p : Plan) : Type 0 where
-  pub few : p .shift < mostTasks
-  pub blank : storageBlank (putOf c p) ≡ true
-  pub marked : Stands (p .mark) (view (putOf c p))
-  pub kept : p .mark ≡ Mark.Gone → putOf c p ≡ farOf c p
-
--- the session d is the one that the start makes
-abbrev pub Makes : List ℕ → Session → ℕ → Flags → Bool → Session → Type 0
-Makes tb c b f finishing d = record { refusal = 0; session = d } ≡ madeStored finishing tb c b f
 
 -- t and x were read and chosen, and there is room
 pub record Plannable (tb : List ℕ) (c : Session) (b : ℕ) (f : Flags) (t : Task) (x : Chosen) : Type 0 where
   pub chosen : Chooses tb c b f (indexOf (choose tb (view c) b f .found)) x
   pub task : t ≡ taskAt c (indexOf (choose tb (view c) b f .found))
   pub room : x .number ≡ 0
-
--- ---- the plan
-
--- by whether it reaches far and, if not, whether it is alone: the front task after the deed and the one before it, the mark, how
--- many tasks go back, n and m. Where it does not reach far, the marked screen is closed in it.
-abbrev pub planBy : Bool → Bool → Task → Task → Mark → ℕ → ℕ → ℕ → Plan
-planBy true y next front mark shift n m =
-    record { front = next; second = front; mark = mark; shift = shift; n = n; main = m; alone = false; near = false }
-planBy false true next front mark shift n m =
-    record { front = closedIn 0 mark next; second = front; mark = mark; shift = shift; n = n; main = m; alone = true; near = true }
-planBy false false next front mark shift n m =
-    record { front = next; second = closedIn 1 mark front; mark = mark; shift = shift; n = n; main = m; alone = false; near = true }
 
 -- a start of b, or a finishing one, where t is the task at the index of the task found
 module _ (finishing : Bool) (b : ℕ) (c : Session) (t : Task) (x : Chosen) where
@@ -113,17 +87,37 @@ module _ (finishing : Bool) (b : ℕ) (c : Session) (t : Task) (x : Chosen) wher
   abbrev pub planNext : Task
   planNext = frontAfter b (x .deed) t
 
-  -- more than four tasks go back, or closing the marked screen takes its task away
-  abbrev pub isFar : Bool
-  isFar = ltb 4 planShift || emptiesIn planMark (planNext .height) (taskAt c 0 .height)
-
-  abbrev pub planOf : Plan
-  planOf =
-      planBy isFar (eqb planShift 0) planNext (taskAt c 0) planMark planShift
+  abbrev pub startPlan : Plan
+  startPlan =
+      closes planMark (leb (planNext .height) 1) (leb (taskAt c 0 .height) 1) planNext planShift
       (countAfter (x .deed) (c .n)) (mainAfter (x .deed) (x .place) (c .main))
 
--- what a plan means: what it puts, by how far it reaches, is what the start makes
-pub record Plans (tb : List ℕ) (c : Session) (b : ℕ) (f : Flags) (finishing : Bool) (p : Plan) : Type 0 where
-  pub alone : p .alone ≡ true → Makes tb c b f finishing (aloneOf c p)
-  pub near : p .alone ≡ false → p .near ≡ true → ((1 ≤ p .shift) × (p .shift ≤ 4)) × Makes tb c b f finishing (nearOf c p)
-  pub far : p .near ≡ false → Reaches c p × Makes tb c b f finishing (farOf c p)
+-- what the definition chooses, and the plan of it
+abbrev pub chosenStored : List ℕ → Session → ℕ → Flags → Chosen
+chosenStored tb c b f =
+    record {
+      number = roomRefusal tb c b f;
+      deed = deedOf (choose tb (view c) b f .rule);
+      place = placeOf (choose tb (view c) b f .found);
+    }
+
+abbrev pub roomyPlan : List ℕ → Session → ℕ → Flags → Bool → Plan
+roomyPlan tb c b f finishing = startPlan finishing b c (taskAt c (indexOf (choose tb (view c) b f .found))) (chosenStored tb c b f)
+
+-- the plan p, or that of the refusal k
+abbrev pub planUnless : ℕ → Session → Plan → Plan
+planUnless zero c p = p
+planUnless (suc k) c p = stillOf c (suc k)
+
+-- refused at its entry by k, or for want of room, or accepted
+abbrev pub planStored : ℕ → List ℕ → Session → ℕ → ℕ → Bool → Plan
+planStored k tb c b w finishing =
+    planUnless k c (planUnless (roomRefusal tb c b (flagsOf w)) c (roomyPlan tb c b (flagsOf w) finishing))
+
+-- what planning relies on: where nothing refused so far, x was sought, and t is the task at its index
+abbrev pub Planned : List ℕ → Session → ℕ → ℕ → Task → Sought → Type 0
+Planned tb c b w t x = x .number ≡ 0 → Startable tb c b × (Seeks tb c b (flagsOf w) x × (t ≡ taskAt c (x .index)))
+
+-- the session d is the one that the start makes
+abbrev pub Makes : List ℕ → Session → ℕ → Flags → Bool → Session → Type 0
+Makes tb c b f finishing d = record { refusal = 0; session = d } ≡ madeStored finishing tb c b f

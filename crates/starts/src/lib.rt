@@ -1,32 +1,66 @@
-// A start in steps on a session where it may be made: seek, choose, and plan. A plan tells the tasks and the numbers that
-// change, and how far it reaches, so that a caller who lends a session stores no more than that.
+// A start in steps, each a function: its own checks, seek, choose, plan. Which task, which rule and whether there is room is
+// known before anything is put, so a refused start's plan changes nothing.
 
-ghost use Prim.Native.Nat.{ℕ, _<_};
 ghost use mathlib.Core.Path.{_≡_};
-ghost use mathlib.Core.Bool.{true};
 ghost use Rattle.model.specs.Flags.{flagsOf};
-ghost use Rattle.session.specs.Stored.{blankAbove};
-ghost use Rattle.model.specs.declared.Mark.{Mark};
+ghost use Rattle.model.specs.Table.{tableRefusal};
+ghost use Rattle.model.specs.Refusals.{refusal as refusalOf};
+ghost use Rattle.session.specs.Stored.{Ready};
 ghost use Rattle.choice.specs.Startable.{Startable};
-ghost use Rattle.starts.specs.Steps.{taskAt, Seeks, Chooses, markOf, closedIn, emptiesIn, Plannable, planOf};
+ghost use Rattle.rules.specs.Starts.{startEntry};
+ghost use Rattle.starts.specs.Steps.{taskAt, noneSought, Seeks, SoughtFrom, Chooses, markOf, Plannable, startPlan, Planned, planStored};
 use model::Deed;
 use model::Flags;
 use model::Found;
 use model::Group;
 use model::Mark;
+use plans::Plan;
 use session::Session;
 use session::Task;
 
+// ---- its own checks
+
+// The checks before it looks for room, where n tasks stand: 3, 4, 21, or 0.
+pub fn entry_refusal(table: &[u8], n: u8, b: u8, word: u32) -> u8
+    requires { ⌜ tableRefusal (now table) ≡ 0 ⌝ }
+    ensures { λ r. ⌜ r ≡ refusalOf (startEntry (now (table .entry)) n b word) ⌝ }
+{
+    if b >= table::size(table) {
+        return 3;
+    }
+    if flags::has_other_bit(word) {
+        return 4;
+    }
+    if n == 0 {
+        return 21;
+    }
+    0
+}
+
 // ---- seek and choose
 
-// What a start of b seeks: the group of rules, the task found, and its index (0, the front task, where none was found).
+// What a start of b seeks: the refusal so far, or 0 and the group of rules, the task found, and its index (0, the front task,
+// where none was found).
 pub struct Sought {
+    pub number: u8,
     pub index: usize,
     pub found: Found,
     pub group: Group,
 }
 
-pub fn seek(table: &[u8], s: Session, b: u8, f: Flags) -> Sought
+// Nothing is sought where the start is refused.
+fn none_sought(number: u8) -> Sought
+    ensures { λ r. ⌜ r ≡ noneSought number ⌝ }
+{
+    Sought {
+        number: number,
+        index: 0,
+        found: Found::Nowhere,
+        group: Group::Near,
+    }
+}
+
+fn seek_task(table: &[u8], s: Session, b: u8, f: Flags) -> Sought
     requires { ⌜ Startable (now table) s b ⌝ }
     ensures { λ r. ⌜ Seeks (now (table .entry)) s b f r ⌝ }
 {
@@ -34,10 +68,26 @@ pub fn seek(table: &[u8], s: Session, b: u8, f: Flags) -> Sought
     let group = choice::group_of(table, front.top(), b, f);
     let found = choice::sought_by(table, s, b, f, group);
     Sought {
+        number: 0,
         index: choice::index_of(found),
         found: found,
         group: group,
     }
+}
+
+// What a start seeks; number is the refusal of the checks before its own.
+pub fn seek(table: &[u8], s: Session, b: u8, word: u32, number: u8) -> Sought
+    requires { ⌜ (number ≡ 0 → Ready (now table) s) ⌝ }
+    ensures { λ r. ⌜ SoughtFrom (now (table .entry)) s b word number r ⌝ }
+{
+    if number != 0 {
+        return none_sought(number);
+    }
+    let own = entry_refusal(table, s.n, b, word);
+    if own != 0 {
+        return none_sought(own);
+    }
+    seek_task(table, s, b, flags::read(word))
 }
 
 // What is chosen: 23, 24 or 0, what is done, and the place of the task found.
@@ -48,7 +98,7 @@ pub struct Chosen {
 }
 
 // t is the task at the index.
-pub fn choose(table: &[u8], s: Session, t: Task, sought: Sought, b: u8, f: Flags) -> Chosen
+fn choose(table: &[u8], s: Session, t: Task, sought: Sought, b: u8, f: Flags) -> Chosen
     requires { ⌜ Startable (now table) s b × Seeks (now table) s b f sought × (t ≡ taskAt s (sought .index)) ⌝ }
     ensures { λ r. ⌜ Chooses (now (table .entry)) s b f (sought .index) r ⌝ }
 {
@@ -65,19 +115,6 @@ pub fn choose(table: &[u8], s: Session, t: Task, sought: Sought, b: u8, f: Flags
 
 // ---- plan
 
-// What is to be put: the front task, the task behind it where tasks go back, how many go back, the numbers, and the marked
-// screen. Alone, no other task changes; near, none but the first five do; otherwise the mark is still to be closed.
-pub struct Plan {
-    pub front: Task,
-    pub second: Task,
-    pub mark: Mark,
-    pub shift: u8,
-    pub n: u8,
-    pub main: u8,
-    pub alone: bool,
-    pub near: bool,
-}
-
 // The mark of a start: none but where it finishes.
 fn mark_of(finishing: bool, deed: Deed, place: u8, same: bool) -> Mark
     ensures { λ r. ⌜ r ≡ markOf finishing deed place same ⌝ }
@@ -88,39 +125,8 @@ fn mark_of(finishing: bool, deed: Deed, place: u8, same: bool) -> Mark
     Mark::Gone
 }
 
-// The task behind so many others without the marked screen.
-fn closed_in(t: Task, mark: Mark, behind: u8) -> Task
-    requires { ⌜ ((i : ℕ) → mark ≡ Mark.Stands behind i → (blankAbove t ≡ true) × (i < t .height)) ⌝ }
-    ensures { λ r. ⌜ r ≡ closedIn behind mark t ⌝ }
-{
-    match mark {
-        Mark::Gone => t,
-        Mark::Stands(k, i) => {
-            if k == behind {
-                return closing::without_screen(t, i);
-            }
-            t
-        }
-    }
-}
-
-// Whether closing the marked screen empties its task: the front one, or the one behind it.
-fn empties(mark: Mark, front: u8, second: u8) -> bool
-    ensures { λ r. ⌜ r ≡ emptiesIn mark front second ⌝ }
-{
-    match mark {
-        Mark::Gone => false,
-        Mark::Stands(k, _) => {
-            if k == 0 {
-                return front <= 1;
-            }
-            second <= 1
-        }
-    }
-}
-
 // t is the task at the index of the task found.
-pub fn plan_start(
+fn start_plan(
     table: &[u8],
     s: Session,
     t: Task,
@@ -130,7 +136,7 @@ pub fn plan_start(
     finishing: bool,
 ) -> Plan
     requires { ⌜ Startable (now table) s b × Plannable (now table) s b (flagsOf word) t chosen ⌝ }
-    ensures { λ r. ⌜ r ≡ planOf finishing b s t chosen ⌝ }
+    ensures { λ r. ⌜ r ≡ startPlan finishing b s t chosen ⌝ }
 {
     let front = s.tasks[0];
     let deed = chosen.deed;
@@ -139,39 +145,28 @@ pub fn plan_start(
     let main = deeds::main_after(deed, chosen.place, s.main);
     let mark = mark_of(finishing, deed, chosen.place, b == front.top());
     let next = deeds::front_after(t, b, deed);
-    let emptied = empties(mark, next.height, front.height);
-    if (shift > 4) | emptied {
-        return Plan {
-            front: next,
-            second: front,
-            mark: mark,
-            shift: shift,
-            n: n,
-            main: main,
-            alone: false,
-            near: false,
-        };
+    plans::closing_plan(mark, next, front.height, shift, n, main)
+}
+
+// The plan of a start of b, or of a finishing one; t is the task at the index.
+pub fn plan(
+    table: &[u8],
+    s: Session,
+    t: Task,
+    sought: Sought,
+    b: u8,
+    word: u32,
+    finishing: bool,
+) -> Plan
+    requires { ⌜ Planned (now table) s b word t sought ⌝ }
+    ensures { λ r. ⌜ r ≡ planStored (sought .number) (now (table .entry)) s b word finishing ⌝ }
+{
+    if sought.number != 0 {
+        return plans::still(s, sought.number);
     }
-    if shift == 0 {
-        return Plan {
-            front: closed_in(next, mark, 0),
-            second: front,
-            mark: mark,
-            shift: shift,
-            n: n,
-            main: main,
-            alone: true,
-            near: true,
-        };
+    let chosen = choose(table, s, t, sought, b, flags::read(word));
+    if chosen.number != 0 {
+        return plans::still(s, chosen.number);
     }
-    Plan {
-        front: next,
-        second: closed_in(front, mark, 1),
-        mark: mark,
-        shift: shift,
-        n: n,
-        main: main,
-        alone: false,
-        near: true,
-    }
+    start_plan(table, s, t, chosen, b, word, finishing)
 }

@@ -1,41 +1,40 @@
--- `calls::back` meets its contract: refused by 21, or within the front task, or out of it.
-use mathlib.Core.Path.{_∙_, sym}
+-- `calls::back` meets its contract: its plan is put.
 use borrow.Author.Needs.{needs}
-use Rattle.session.proofs.Known.{sized}
-use Rattle.calls.proofs.BackSettling.{back-refused, back-some}
+use Rattle.model.specs.Calls.{back}
+use Rattle.session.proofs.Known.{Sized, sized}
+use Rattle.calls.proofs.PlanSettling.{Gives, back-gives, back-plans}
 use Rattle.calls.proofs.back.Statement.{statement}
 use Rattle.calls.proofs.back.Tie as tie
+
+sizes : (c : tie.Start) → Sized (c .args .s)
+sizes c = sized (c .args .s) _ (c .good .1 .0)
 
 back-refusal-requires : tie.Need-back-refusal-requires
 back-refusal-requires c κs = search needs
 
-refuse-requires : tie.Need-refuse-requires
-refuse-requires c κs = search needs
+back-plan-requires : tie.Need-back-plan-requires
+back-plan-requires c κs =
+    let start = c .before .before in
+    let a = start .args in
+    λ e. back-plans (a .table .now) (a .s) (sizes start) (a .shared) (start .pre) (c .back-refusal .result) (c .back-refusal .ensures) e
+
+gives : (c : tie.After-back-plan) → let a = c .before .before .before .args in Gives (a .table .now) (a .s) back (c .back-plan .result)
+gives c =
+    let start = c .before .before .before in
+    let a = start .args in
+    rw (c .back-plan .ensures, c .before .back-refusal .ensures) (back-gives (a .table .now) (a .s) (sizes start) (a .shared) (start .pre))
+
+element-copy-out-second : tie.Need-element-copy-out-second
+element-copy-out-second c = search needs
+
+answer-of-requires : tie.Need-answer-of-requires
+answer-of-requires c κs = gives (c .before) .showable
+
+put-requires : tie.Need-put-requires
+put-requires c κs = let h = gives (c .before .before) .puttable in record { few = h .few; second = h .second }
 
 returns : tie.Need-returns
-returns c =
-    let start = c .before .before .before .before in
-    let a = start .args in
-    back-refused (a .table .now) (a .s) (sized (a .s) _ (start .good .1 .0)) (start .pre) _ (c .before .before .back-refusal .ensures) (c .before .if1 .taken) (c .refuse .ensures)
-
-back-stays-requires : tie.Need-back-stays-requires
-back-stays-requires c κs = search needs
-
-back-within-requires : tie.Need-back-within-requires
-back-within-requires c κs =
-    let number = c .before .before .before in
-    (number .before .before .pre, back-some _ _ (number .back-refusal .ensures) (c .before .before .if1 .left), sym (c .before .back-stays .ensures) ∙ c .if2 .taken)
-
-returns-2 : tie.Need-returns-2
-returns-2 c = c .back-within .ensures
-
-back-out-requires : tie.Need-back-out-requires
-back-out-requires c κs =
-    let number = c .before .before .before in
-    (number .before .before .pre, back-some _ _ (number .back-refusal .ensures) (c .before .before .if1 .left), sym (c .before .back-stays .ensures) ∙ c .if2 .left)
-
-returns-3 : tie.Need-returns-3
-returns-3 c = c .back-out .ensures
+returns c = rw (c .put .ensures, c .before .answer-of .ensures) (gives (c .before .before .before) .gives)
 
 pub back-spec : {M : Type 1} → statement M
-back-spec = tie.close (tie.spec back-refusal-requires refuse-requires returns back-stays-requires back-within-requires returns-2 back-out-requires returns-3)
+back-spec = tie.close (tie.spec back-refusal-requires back-plan-requires element-copy-out-second answer-of-requires put-requires returns)

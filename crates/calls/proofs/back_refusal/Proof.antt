@@ -1,13 +1,17 @@
--- `calls::back_refusal` meets its contract: 21, or 0.
+-- `calls::back_refusal` meets its contract.
 use borrow.Author.Tests.{eq-eqb, ne-eqb}
+use Rattle.starts.proofs.Seeking.{or-first, or-second}
 use Rattle.calls.proofs.back_refusal.Statement.{statement}
 use Rattle.calls.proofs.back_refusal.Tie as tie
 
 returns : tie.Need-returns
-returns c = rw (eq-eqb (c .before .args .tasks) 0 (c .if1 .taken))
+returns c = or-first (c .before .args .shared) _ (c .if1 .taken)
 
 returns-2 : tie.Need-returns-2
-returns-2 c = rw (ne-eqb (c .before .args .tasks) 0 (c .if1 .left))
+returns-2 c = let a = c .before .before .args in rw (eq-eqb (a .n) 0 (c .if2 .taken)) (or-second (a .shared) 21 (c .before .if1 .left))
+
+returns-3 : tie.Need-returns-3
+returns-3 c = let a = c .before .before .args in rw (ne-eqb (a .n) 0 (c .if2 .left)) (or-second (a .shared) 0 (c .before .if1 .left))
 
 pub back-refusal-spec : {M : Type 1} → statement M
-back-refusal-spec = tie.close (tie.spec returns returns-2)
+back-refusal-spec = tie.close (tie.spec returns returns-2 returns-3)

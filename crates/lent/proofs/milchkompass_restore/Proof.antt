@@ -48,9 +48,9 @@ use Rattle.navigator.proofs.restore as core
 use Rattle.navigator.proofs.restore.Met as core-thm
 use Rattle.navigator.proofs.restore.Symbol as core-def
 use Rattle.navigator.proofs.restore.Symbol.{name as #core}
-use Rattle.lent_start.proofs.Lending.{bytesTy, lentTy, ensuring, Shut, Open, answer-is}
-use Rattle.lent_start.proofs.LendingCalls.{a-session, an-answer, a-reply, calls-slices}
-use Rattle.lent_start.proofs.LendingWays.{vacant, holding, freed, opened, of-reply, stores-within}
+use Rattle.lent.proofs.Lending.{bytesTy, lentTy, ensuring, Shut, Open, answer-is}
+use Rattle.lent.proofs.LendingCalls.{a-session, an-answer, a-reply, calls-slices}
+use Rattle.lent.proofs.LendingWays.{vacant, holding, freed, opened, of-reply, stores-within}
 use Rattle.lent.proofs.LendingFacts.{with-fact, both-facts, promised, of-reply-and}
 use Rattle.lent.proofs.milchkompass_restore as outer
 use Rattle.lent.proofs.milchkompass_restore.Code as code

@@ -1,8 +1,6 @@
--- `navigator::back` meets its contract: refused by the shared checks, or what `calls::back` gives on a sound session.
-use mathlib.Core.Path.{sym, _∙_}
+-- `navigator::back` meets its contract: what `calls::back` gives with the refusal of the shared checks.
 use borrow.Author.Needs.{needs}
 use Rattle.model.specs.Calls.{back}
-use Rattle.calls.proofs.Settling.{shared-ready, call-refused}
 use Rattle.navigator.proofs.Promised.{call-promised}
 use Rattle.navigator.proofs.back.Statement.{statement}
 use Rattle.navigator.proofs.back.Tie as tie
@@ -10,25 +8,13 @@ use Rattle.navigator.proofs.back.Tie as tie
 shared-refusal-requires : tie.Need-shared-refusal-requires
 shared-refusal-requires c κs = search needs
 
-refuse-requires : tie.Need-refuse-requires
-refuse-requires c κs = search needs
+back-requires : tie.Need-back-requires
+back-requires c κs = c .shared-refusal .ensures
 
 returns : tie.Need-returns
 returns c =
-    let a = c .before .before .before .before .args in
-    let k = c .before .before .shared-refusal in
-    call-promised (a .table .now) (a .s) (c .refuse .result) back
-    (c .refuse .ensures ∙ sym (call-refused (a .table .now) (a .s) back (k .result) (sym (k .ensures)) (c .before .if1 .taken)))
-
-back-requires : tie.Need-back-requires
-back-requires c κs =
     let a = c .before .before .before .args in
-    shared-ready (a .table .now) (a .s) (sym (c .before .shared-refusal .ensures) ∙ c .if1 .left)
-
-returns-2 : tie.Need-returns-2
-returns-2 c =
-    let a = c .before .before .before .before .args in
     call-promised (a .table .now) (a .s) (c .back .result) back (c .back .ensures)
 
 pub back-spec : {M : Type 1} → statement M
-back-spec = tie.close (tie.spec shared-refusal-requires refuse-requires returns back-requires returns-2)
+back-spec = tie.close (tie.spec shared-refusal-requires back-requires returns)

@@ -1,35 +1,37 @@
 -- The call of a record, by its kind.
 use borrow.Author.Needs.{needs}
-use mathlib.Core.Path.{sym, ap}
+use mathlib.Core.Path.{_≡_, sym, ap}
 use borrow.Author.Tests.{ne-eqb}
 use Rattle.model.specs.Histories.{after}
 use Rattle.model.specs.Player.{requestOf}
 use Rattle.calls.specs.declared.Reply.{Reply}
+use Rattle.calls.specs.StoredCalls.{sharedRefusal}
 use Rattle.calls.proofs.Settling.{shared-passed}
 use Rattle.recording.specs.CallBytes.{callOf}
 use Rattle.recording.proofs.after_record.Statement.{statement}
 use Rattle.recording.proofs.after_record.Tie as tie
 
+-- no shared check refuses
+passed : (c : tie.Start) → 0 ≡ sharedRefusal (c .args .table .now) (c .args .s)
+passed c = sym (shared-passed (c .args .table .now) (c .args .s) (c .pre .good) (c .pre .sound))
+
 launch-requires : tie.Need-launch-requires
-launch-requires c κs = search needs
+launch-requires c κs = passed (c .before .before .before)
 
 start-requires : tie.Need-start-requires
-start-requires c κs = search needs
+start-requires c κs = passed (c .before .before .before)
 
 finish-start-requires : tie.Need-finish-start-requires
-finish-start-requires c κs = search needs
+finish-start-requires c κs = passed (c .before .before .before)
 
 back-requires : tie.Need-back-requires
-back-requires c κs = search needs
+back-requires c κs = passed (c .before .before .before)
 
 look-requires : tie.Need-look-requires
-look-requires c κs = search needs
+look-requires c κs = passed (c .before .before .before)
 
 restore-requires : tie.Need-restore-requires
-restore-requires c κs =
-    let start = c .before .before .before in
-    let a = start .args in
-    sym (shared-passed (a .table .now) (a .s) (start .pre .good) (start .pre .sound))
+restore-requires c κs = passed (c .before .before .before)
 
 returns : tie.Need-returns
 unfolding after callOf requestOf

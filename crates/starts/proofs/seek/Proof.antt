@@ -1,45 +1,67 @@
--- `starts::seek` meets its contract: the group, then the task that it seeks, then that task's index.
-use mathlib.Core.Path.{sym, _∙_}
+-- `starts::seek` meets its contract: refused before, refused at its entry, or sought.
+use mathlib.Core.Path.{_≡_, sym, _∙_}
 use borrow.Author.Needs.{needs}
-use Rattle.session.proofs.Known.{Sized, sized}
-use Rattle.choice.proofs.Tasks.{own-row, top-row, task-filled, front-screen}
+use Rattle.model.specs.Refusals.{refusal}
+use Rattle.choice.specs.Startable.{Startable}
+use Rattle.rules.specs.Starts.{startEntry}
+use Rattle.starts.proofs.Seeking.{or-first, or-second, sought-refused, entered-startable, sought-found}
 use Rattle.starts.proofs.seek.Statement.{statement}
 use Rattle.starts.proofs.seek.Tie as tie
 
-sizes : (c : tie.Start) → Sized (c .args .t2)
-sizes c = sized (c .args .t2) _ (c .good .1 .0)
-
-element-copy-out-front : tie.Need-element-copy-out-front
-element-copy-out-front c = search needs
-
-top-requires : tie.Need-top-requires
-top-requires c κs =
-    let start = c .before .before in
-    let a = start .args in
-    task-filled (a .table .now) (a .t2) (a .b) (sizes start) (start .pre) 0 (start .pre .some)
-
-group-of-requires : tie.Need-group-of-requires
-group-of-requires c κs =
-    let start = c .before .before .before in
-    let a = start .args in
-    (rw (c .top .ensures) (top-row (a .table .now) (a .t2) (a .b) (sizes start) (start .pre) 0 (start .pre .some)), own-row (a .table .now) (a .t2) (a .b) (sizes start) (start .pre))
-
-sought-by-requires : tie.Need-sought-by-requires
-sought-by-requires c κs = c .before .before .before .before .pre
-
-index-of-requires : tie.Need-index-of-requires
-index-of-requires c κs = search needs
+none-sought-requires : tie.Need-none-sought-requires
+none-sought-requires c κs = search needs
 
 returns : tie.Need-returns
 returns c =
-    let found = c .before in
-    let group = found .before in
-    let start = group .before .before .before .before in
-    record {
-      group = group .group-of .ensures _ (front-screen (start .args .t2) (start .pre .some) ∙ sym (group .before .top .ensures));
-      found = found .sought-by .ensures;
-      index = c .index-of .ensures;
-    }
+    let a = c .before .before .before .args in
+    sought-refused (a .table .now) (a .s) (a .b) (a .word) (a .number) (a .number) (c .before .if1 .taken)
+    (or-first (a .number) _ (c .before .if1 .taken)) (c .none-sought .ensures)
+
+entry-refusal-requires : tie.Need-entry-refusal-requires
+entry-refusal-requires c κs = c .before .before .pre (c .if1 .left) .good
+
+none-sought-requires-2 : tie.Need-none-sought-requires-2
+none-sought-requires-2 c κs = search needs
+
+returns-2 : tie.Need-returns-2
+returns-2 c =
+    let a = c .before .before .before .before .before .args in
+    let own = c .before .before .entry-refusal in
+    sought-refused (a .table .now) (a .s) (a .b) (a .word) (a .number) (own .result) (c .before .if2 .taken)
+    (own .ensures ∙ or-second (a .number) _ (c .before .before .before .if1 .left)) (c .none-sought2 .ensures)
+
+read-requires : tie.Need-read-requires
+read-requires c κs = search needs
+
+-- it passed its own checks
+entered : (c : tie.Else2) → let a = c .before .before .before .before .args in refusal (startEntry (a .table .now) (a .s .n) (a .b) (a .word)) ≡ 0
+entered c = sym (c .before .entry-refusal .ensures) ∙ c .if2 .left
+
+startable : (c : tie.Else2) → let a = c .before .before .before .before .args in Startable (a .table .now) (a .s) (a .b)
+startable c =
+    let start = c .before .before .before .before in
+    let a = start .args in
+    entered-startable (a .table .now) (a .s) (a .b) (a .word) (a .number) (start .pre (c .before .before .if1 .left)) (entered c)
+
+seek-task-requires : tie.Need-seek-task-requires
+seek-task-requires c κs = startable (c .before)
+
+returns-3 : tie.Need-returns-3
+returns-3 c =
+    let passed = c .before .before in
+    let a = passed .before .before .before .before .args in
+    sought-found (a .table .now) (a .s) (a .b) (a .word) (a .number) (passed .before .before .if1 .left) (entered passed) (startable passed)
+    (rw (c .before .read .ensures) at (c .seek-task .ensures))
 
 pub seek-spec : {M : Type 1} → statement M
-seek-spec = tie.close (tie.spec element-copy-out-front top-requires group-of-requires sought-by-requires index-of-requires returns)
+seek-spec =
+    tie.close
+    (tie.spec
+    none-sought-requires
+    returns
+    entry-refusal-requires
+    none-sought-requires-2
+    returns-2
+    read-requires
+    seek-task-requires
+    returns-3)

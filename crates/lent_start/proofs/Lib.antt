@@ -1,4 +1,0 @@
-pub mod Lending
-pub mod LendingCalls
-pub mod LendingTask
-pub mod LendingWays

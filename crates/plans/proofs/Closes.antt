@@ -1,0 +1,120 @@
+-- What a plan puts is what the model says: of a marked screen that closes, and of Back.
+use Prim.Native.Nat.{ℕ, zero, suc, _-_, _≤_, _<_}
+use mathlib.Core.Path.{_≡_, refl, sym, _∙_, ap}
+use mathlib.Core.Bool.{Bool, true, false, false≢true}
+use mathlib.Core.List.{List, [], _∷_}
+use native.Mathlib.Omega.{arith}
+use lib.Dec.{leb}
+use lib.ListN.{length, getD}
+use borrow.Author.Tests.{leb-true, leb-false}
+use Rattle.model.specs.declared.Mark.{Mark}
+use Rattle.model.specs.Session.{mostTasks}
+use Rattle.model.specs.Calls.{backed}
+use Rattle.model.specs.Marks.{closeAt, Stands}
+use Rattle.session.specs.declared.Session.{Session}
+use Rattle.session.specs.declared.Task.{Task}
+use Rattle.session.specs.Stored.{view, hold, noTask, storageBlank, Ready}
+use Rattle.session.proofs.Known.{Sized}
+use Rattle.session.proofs.StoredLaws.{held, stored-height}
+use Rattle.session.proofs.SessionLaws.{stored}
+use Rattle.deeds.specs.Rows.{shifted}
+use Rattle.deeds.proofs.Fronts.{counted}
+use Rattle.closing.specs.Closable.{Closable}
+use Rattle.closing.proofs.Closed.{screen-there, screen-closed, top-closed, back-closable}
+use Rattle.plans.specs.declared.Plan.{Plan}
+use Rattle.plans.specs.Puts.{putOf, Puttable}
+use Rattle.plans.specs.Plans.{taskAt, stillOf, closes, Near, Opens}
+use Rattle.plans.proofs.Gone.{task-goes}
+
+-- ---- a marked screen
+
+module _ (c : Session) (t : Task) (k n m : ℕ) where
+  -- the session before it closes
+  abbrev pub putIn : Session
+  putIn = stored (shifted t k (c .tasks)) n m
+
+  module _ (z : Sized putIn) (blank : storageBlank putIn ≡ true) where
+    pub plan-closes : (mark : Mark) → Near mark → Stands mark (view putIn)
+        → (one one′ : Bool) → leb (t .height) 1 ≡ one
+        → ((j i : ℕ) → mark ≡ Mark.Stands (suc j) i → leb (taskAt putIn 1 .height) 1 ≡ one′)
+        → putOf c (closes mark one one′ t k n m) ≡ hold (closeAt mark (view putIn))
+    plan-closes Mark.Gone near there one one′ e f = sym (held putIn z blank)
+    plan-closes (Mark.Stands zero i) near there true one′ e f =
+        task-goes putIn z 0 i (record { blank = blank; there = there }) (leb-true _ _ e)
+    plan-closes (Mark.Stands zero i) near there false one′ e f =
+        let more = leb-false (t .height) 1 e in
+        screen-closed putIn z 0 i (record { blank = blank; there = there }) (λ q. omega arith) refl
+    plan-closes (Mark.Stands (suc zero) i) near there one true e f =
+        task-goes putIn z 1 i (record { blank = blank; there = there }) (leb-true _ _ (f 0 i refl))
+    plan-closes (Mark.Stands (suc zero) zero) near there one false e f =
+        sym (top-closed putIn z 1 (record { blank = blank; there = there }) (leb-false (taskAt putIn 1 .height) 1 (f 0 0 refl)))
+    plan-closes (Mark.Stands (suc zero) (suc i)) near there one false e f = absurd (omega (arith, near .1))
+    plan-closes (Mark.Stands (suc (suc j)) i) near there one one′ e f = absurd (omega (arith, near .0))
+
+    -- and it can be put
+    pub plan-puttable : k < mostTasks → (mark : Mark) → Near mark → Stands mark (view putIn) → (one one′ : Bool)
+        → ((j i : ℕ) → mark ≡ Mark.Stands (suc j) i → leb (taskAt putIn 1 .height) 1 ≡ one′) → Puttable c (closes mark one one′ t k n m)
+    plan-puttable l Mark.Gone near there one one′ f = record { few = l; second = λ e. absurd (false≢true e) }
+    plan-puttable l (Mark.Stands zero i) near there true one′ f = record { few = l; second = λ e. absurd (false≢true e) }
+    plan-puttable l (Mark.Stands zero i) near there false one′ f = record { few = l; second = λ e. absurd (false≢true e) }
+    plan-puttable l (Mark.Stands (suc j) i) near there one true f = record { few = l; second = λ e. absurd (false≢true e) }
+    plan-puttable l (Mark.Stands (suc j) i) near there one false f =
+        let more = leb-false (taskAt putIn 1 .height) 1 (f j i refl) in
+        let stand : 1 < n = omega (arith, near .0, there .0, counted putIn z blank) in
+        record { few = l; second = λ e. (omega arith, stored-height putIn z blank 1 stand) }
+
+-- ---- a refused call
+
+same-row : (ts : List Task) → 1 ≤ length ts → shifted (getD ts 0 noTask) 0 ts ≡ ts
+same-row [] l = absurd (omega arith)
+same-row (t ∷ ts) l = refl
+
+module _ (s : Session) (z : Sized s) where
+  filled : 1 ≤ length (s .tasks)
+  filled = let l = z .tasks in omega arith
+
+  -- the front task is put where it stood
+  pub put-same : putIn s (taskAt s 0) 0 (s .n) (s .main) ≡ s
+  put-same = ap (λ (ts : List Task). stored ts (s .n) (s .main)) (same-row (s .tasks) filled)
+
+  pub still-put : (k : ℕ) → putOf s (stillOf s k) ≡ s
+  still-put k = put-same
+
+pub still-puttable : (s : Session) (k : ℕ) → Puttable s (stillOf s k)
+still-puttable s k = record { few = omega arith; second = λ e. absurd (false≢true e) }
+
+-- ---- Back: the marked screen is the top one of the front task
+
+abbrev pub backMark : Mark
+backMark = Mark.Stands 0 0
+
+module _ (tb : List ℕ) (s : Session) (z : Sized s) (h : Ready tb s) (some : 1 ≤ s .n) (one′ : Bool) where
+  abbrev front : Task
+  front = taskAt s 0
+
+  abbrev pub backPlan : Plan
+  backPlan = closes backMark (leb (front .height) 1) one′ front 0 (s .n) (s .main)
+
+  there : Closable s 0 0
+  there = back-closable tb s z h some
+
+  not-behind : (j i : ℕ) → backMark ≡ Mark.Stands (suc j) i → ⊥
+  not-behind j i e = let q : 0 ≡ suc j = cc in omega arith
+
+  same : putIn s front 0 (s .n) (s .main) ≡ s
+  same = put-same s z
+
+  pub back-put : putOf s backPlan ≡ hold (backed (view s))
+  unfolding backed
+  back-put =
+      plan-closes s front 0 (s .n) (s .main) (rw same z) (rw same (there .blank)) backMark tt (rw same (there .there))
+      (leb (front .height) 1) one′ refl (λ j i e. absurd (not-behind j i e))
+      ∙ ap (λ (c : Session). hold (closeAt backMark (view c))) same
+
+  pub back-puttable : Puttable s backPlan
+  back-puttable =
+      plan-puttable s front 0 (s .n) (s .main) (rw same z) (rw same (there .blank)) (omega arith) backMark tt (rw same (there .there))
+      (leb (front .height) 1) one′ (λ j i e. absurd (not-behind j i e))
+
+  pub back-opens : Opens backMark front
+  back-opens i e = let q : 0 ≡ i = cc in rw (← q) (screen-there s z 0 0 there)

@@ -1,0 +1,77 @@
+-- Plans: of a refused call, and of what comes in front and then loses the marked screen, which Back does too.
+use Prim.Native.Nat.{ℕ, zero, suc, _-_, _<_}
+use mathlib.Core.Path.{_≡_}
+use mathlib.Core.Bool.{Bool, true, false, not, _&&_}
+use lib.Dec.{eqb, ltb}
+use lib.ListN.{getD}
+use Rattle.model.specs.declared.Mark.{Mark}
+use Rattle.model.specs.Lists.{if_then_else_, omit}
+use Rattle.model.specs.Session.{stack}
+use Rattle.model.specs.Deeds.{mainWithout}
+use Rattle.session.specs.declared.Task.{Task}
+use Rattle.session.specs.declared.Session.{Session}
+use Rattle.session.specs.Stored.{viewTask, holdTask, noTask, blankAbove}
+use Rattle.plans.specs.declared.Plan.{Plan}
+
+abbrev pub taskAt : Session → ℕ → Task
+taskAt c i = getD (c .tasks) i noTask
+
+-- ---- a refused call: nothing changes
+
+abbrev pub stillOf : Session → ℕ → Plan
+stillOf s k = record { front = taskAt s 0; main = s .main; shift = 0; n = s .n; gone = 16; pops = false; refusal = k }
+
+-- ---- the three plans: no task goes, the second one pops, the task behind g others goes
+
+abbrev pub keeps : Task → ℕ → ℕ → ℕ → Plan
+keeps t k n m = record { front = t; main = m; shift = k; n = n; gone = 16; pops = false; refusal = 0 }
+
+abbrev pub pops : Task → ℕ → ℕ → ℕ → Plan
+pops t k n m = record { front = t; main = m; shift = k; n = n; gone = 16; pops = true; refusal = 0 }
+
+abbrev pub loses : ℕ → Task → ℕ → ℕ → ℕ → Plan
+loses g t k n m = record { front = t; main = mainWithout (suc g) m; shift = k; n = n - 1; gone = g; pops = false; refusal = 0 }
+
+-- ---- closing the marked screen
+
+-- a task without the screen below i others
+abbrev pub without : ℕ → Task → Task
+without i t = holdTask (stack (t .root) (omit i (viewTask t .screens)))
+
+-- t comes in front and k tasks go back, n and m are so, and the marked screen closes. The tests tell whether t, and the task
+-- behind it, has one screen only
+abbrev pub closes : Mark → Bool → Bool → Task → ℕ → ℕ → ℕ → Plan
+closes Mark.Gone one one′ t k n m = keeps t k n m
+closes (Mark.Stands zero i) true one′ t k n m = loses 0 t k n m
+closes (Mark.Stands zero i) false one′ t k n m = keeps (without i t) k n m
+closes (Mark.Stands (suc j) i) one true t k n m = loses 1 t k n m
+closes (Mark.Stands (suc j) i) one false t k n m = pops t k n m
+
+-- the same, field by field as code makes it; g is the field gone
+abbrev pub goneBy : Mark → Bool → Bool → ℕ
+goneBy Mark.Gone one one′ = 16
+goneBy (Mark.Stands k i) one one′ = if eqb k 0 then (if one then 0 else 16) else (if one′ then 1 else 16)
+
+abbrev pub frontBy : Mark → ℕ → Task → Task
+frontBy Mark.Gone g t = t
+frontBy (Mark.Stands k i) g t = if eqb k 0 && eqb g 16 then without i t else t
+
+abbrev pub popsBy : Mark → ℕ → Bool
+popsBy Mark.Gone g = false
+popsBy (Mark.Stands k i) g = not (eqb k 0) && eqb g 16
+
+abbrev pub countBy : ℕ → ℕ → ℕ
+countBy g n = if ltb g 16 then n - 1 else n
+
+abbrev pub mainBy : ℕ → ℕ → ℕ
+mainBy g m = if ltb g 16 then mainWithout (suc g) m else m
+
+-- what closing it relies on: it stands in the front task, where it is marked there
+abbrev pub Opens : Mark → Task → Type 0
+Opens mark t = (i : ℕ) → mark ≡ Mark.Stands 0 i → (blankAbove t ≡ true) × (i < t .height)
+
+-- it stands in front, or on top of the second task
+abbrev pub Near : Mark → Type 0
+Near Mark.Gone = Unit {0}
+Near (Mark.Stands zero i) = Unit {0}
+Near (Mark.Stands (suc j) i) = (j ≡ 0) × (i ≡ 0)

@@ -1,0 +1,180 @@
+// A call first makes its plan from the session; then one function puts it. The answer is made from the plan.
+
+ghost use Prim.Native.Nat.{_≤_};
+ghost use mathlib.Core.Path.{_≡_};
+ghost use lib.Dec.{leb};
+ghost use Rattle.deeds.specs.Rows.{withTasks};
+ghost use Rattle.plans.specs.Puts.{Puttable, rowOf};
+ghost use Rattle.plans.specs.Plans.{stillOf, closes, goneBy, frontBy, popsBy, countBy, mainBy, Opens};
+ghost use Rattle.plans.specs.Shown.{answerFor, Showable};
+use model::Answer;
+use model::Mark;
+use session::Session;
+use session::Task;
+
+// The front task after the call, how many tasks go one place back, which task goes then (16 or more: none), whether the
+// task behind the front one loses its top screen, and the numbers. A refused call changes nothing.
+pub struct Plan {
+    pub front: Task,
+    pub main: u8,
+    pub shift: u8,
+    pub n: u8,
+    pub gone: u8,
+    pub pops: bool,
+    pub refusal: u8,
+}
+
+// ---- put
+
+// The tasks; the numbers are the caller's to store. One function, so that the compiler keeps one session.
+pub fn put(s: Session, plan: Plan) -> Session
+    requires { ⌜ Puttable s plan ⌝ }
+    ensures { λ r. ⌜ r ≡ withTasks s (rowOf plan (s .tasks)) ⌝ }
+{
+    let front = plan.front;
+    let mut out = s;
+    let mut i = plan.shift as usize;
+    while i > 0 {
+        let x = out.tasks[i - 1];
+        out.tasks[i] = x;
+        i -= 1;
+    }
+    out.tasks[0] = front;
+    if plan.pops {
+        let x = out.tasks[1];
+        out.tasks[1] = x.pop();
+    }
+    let mut j = plan.gone as usize;
+    while j < 15 {
+        let x = out.tasks[j + 1];
+        out.tasks[j] = x;
+        j += 1;
+    }
+    if plan.gone < 16 {
+        let blank = Task {
+            root: 0,
+            height: 0,
+            screens: [0; Session::SCREENS],
+        };
+        out.tasks[15] = blank;
+    }
+    out
+}
+
+// ---- the answer
+
+// The answer of a call with this plan; second is the task behind the front one before the call.
+pub fn answer_of(plan: Plan, second: Task) -> Answer
+    requires { ⌜ Showable plan second ⌝ }
+    ensures { λ r. ⌜ r ≡ answerFor plan second ⌝ }
+{
+    if plan.refusal != 0 {
+        return answer::refused(plan.refusal);
+    }
+    if plan.gone == 0 {
+        return answer::of_front(second, plan.n, plan.main);
+    }
+    let front = plan.front;
+    answer::of_front(front, plan.n, plan.main)
+}
+
+// ---- plans
+
+// A refused call's plan.
+pub fn still(s: Session, number: u8) -> Plan
+    ensures { λ r. ⌜ r ≡ stillOf s number ⌝ }
+{
+    let front = s.tasks[0];
+    Plan {
+        front: front,
+        main: s.main,
+        shift: 0,
+        n: s.n,
+        gone: 16,
+        pops: false,
+        refusal: number,
+    }
+}
+
+// The task that goes since the marked screen is its only one: 0 the front one, 1 the one behind it, 16 none.
+fn gone_by(mark: Mark, front: u8, second: u8) -> u8
+    ensures { λ r. ⌜ r ≡ goneBy mark (leb front 1) (leb second 1) ⌝ }
+{
+    match mark {
+        Mark::Gone => 16,
+        Mark::Stands(k, _) => {
+            if k == 0 {
+                if front <= 1 {
+                    return 0;
+                }
+                return 16;
+            }
+            if second <= 1 {
+                return 1;
+            }
+            16
+        }
+    }
+}
+
+// The front task, without the marked screen where it stands there with others.
+fn front_by(mark: Mark, gone: u8, t: Task) -> Task
+    requires { ⌜ Opens mark t ⌝ }
+    ensures { λ r. ⌜ r ≡ frontBy mark gone t ⌝ }
+{
+    match mark {
+        Mark::Gone => t,
+        Mark::Stands(k, i) => {
+            if (k == 0) & (gone == 16) {
+                return closing::without_screen(t, i);
+            }
+            t
+        }
+    }
+}
+
+// The marked screen is the top of the task behind the front one, and that task stays.
+fn pops_by(mark: Mark, gone: u8) -> bool
+    ensures { λ r. ⌜ r ≡ popsBy mark gone ⌝ }
+{
+    match mark {
+        Mark::Gone => false,
+        Mark::Stands(k, _) => (k != 0) & (gone == 16),
+    }
+}
+
+fn count_by(gone: u8, n: u8) -> u8
+    requires { ⌜ 1 ≤ n ⌝ }
+    ensures { λ r. ⌜ r ≡ countBy gone n ⌝ }
+{
+    if gone < 16 {
+        return n - 1;
+    }
+    n
+}
+
+fn main_by(gone: u8, main: u8) -> u8
+    ensures { λ r. ⌜ r ≡ mainBy gone main ⌝ }
+{
+    if gone < 16 {
+        return closing::main_without(gone + 1, main);
+    }
+    main
+}
+
+// t comes in front and so many tasks go back, and then the marked screen closes; second is the height of the task behind t.
+pub fn closing_plan(mark: Mark, t: Task, second: u8, shift: u8, n: u8, main: u8) -> Plan
+    requires { ⌜ Opens mark t × (1 ≤ n) ⌝ }
+    ensures { λ r. ⌜ r ≡ closes mark (leb (t .height) 1) (leb second 1) t shift n main ⌝ }
+{
+    let gone = gone_by(mark, t.height, second);
+    Plan {
+        front: front_by(mark, gone, t),
+        main: main_by(gone, main),
+        shift: shift,
+        n: count_by(gone, n),
+        gone: gone,
+        pops: pops_by(mark, gone),
+        refusal: 0,
+    }
+}

@@ -1,2 +1,0 @@
-pub mod StartSettling
-pub mod StartSteps

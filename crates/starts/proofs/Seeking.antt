@@ -1,0 +1,106 @@
+-- What was sought and what is planned, by the refusals on the way.
+use Prim.Native.Nat.{ℕ, zero, suc, _<_}
+use mathlib.Core.Path.{_≡_, refl, sym, _∙_, ap}
+use mathlib.Core.Bool.{Bool}
+use mathlib.Core.List.{List}
+use native.Mathlib.Omega.{arith}
+use Rattle.model.specs.Refusals.{refusal}
+use Rattle.model.specs.Session.{mostTasks}
+use Rattle.model.specs.Flags.{flagsOf}
+use Rattle.session.specs.declared.Session.{Session}
+use Rattle.session.specs.declared.Task.{Task}
+use Rattle.session.specs.Stored.{Ready}
+use Rattle.session.proofs.Known.{Sized}
+use Rattle.choice.specs.Startable.{Startable}
+use Rattle.choice.proofs.Tasks.{index-inside, index-stands}
+use Rattle.rules.specs.Starts.{startEntry, roomRefusal}
+use Rattle.rules.proofs.Entries.{start-entered}
+use Rattle.plans.specs.declared.Plan.{Plan}
+use Rattle.plans.specs.Plans.{stillOf}
+use Rattle.starts.specs.declared.Sought.{Sought}
+use Rattle.starts.specs.declared.Chosen.{Chosen}
+use Rattle.starts.specs.Steps.{taskAt, noneSought, Seeks, orElse, SoughtFrom, Chooses, Plannable, startPlan, chosenStored, planUnless, planStored, Planned}
+
+-- ---- the first of two refusals
+
+pub or-first : (k j : ℕ) → (k ≡ 0 → ⊥) → k ≡ orElse k j
+or-first zero j n = absurd (n refl)
+or-first (suc k) j n = refl
+
+pub or-second : (k j : ℕ) → k ≡ 0 → j ≡ orElse k j
+or-second k j e = rw e
+
+-- ---- sought
+
+module _ (tb : List ℕ) (c : Session) (b w k : ℕ) where
+  pub sought-refused : (n : ℕ) → (n ≡ 0 → ⊥) → n ≡ orElse k (refusal (startEntry tb (c .n) b w)) → {x : Sought} → x ≡ noneSought n
+      → SoughtFrom tb c b w k x
+  sought-refused n f q {x} e =
+      let m : x .number ≡ n = ap (λ (y : Sought). y .number) e in
+      record {
+        number = m ∙ q;
+        none = λ g. e ∙ ap noneSought (sym m);
+        seeks = λ g. absurd (f (sym m ∙ g));
+      }
+
+  pub entered-startable : Ready tb c → refusal (startEntry tb (c .n) b w) ≡ 0 → Startable tb c b
+  entered-startable h e = let i = start-entered tb (c .n) b w e in record { ready = h; known = i .known; some = i .some }
+
+  pub sought-found : k ≡ 0 → refusal (startEntry tb (c .n) b w) ≡ 0 → Startable tb c b → {x : Sought} → Seeks tb c b (flagsOf w) x
+      → SoughtFrom tb c b w k x
+  sought-found z e h s =
+      record {
+        number = s .number ∙ sym e ∙ or-second k _ z;
+        none = λ n. absurd (n (s .number));
+        seeks = λ g. (h, s);
+      }
+
+  -- the index is one of the storage
+  pub sought-inside : Sized c → {x : Sought} → SoughtFrom tb c b w k x → x .index < mostTasks
+  sought-inside z {x} s = go (x .number) refl
+    where
+      go : (n : ℕ) → x .number ≡ n → x .index < mostTasks
+      go zero e =
+          let (h, q) = s .seeks e in
+          index-inside tb c b z h (x .index) (index-stands tb c b z h (flagsOf w) (x .group) (q .found) (q .index))
+      go (suc n) e = let q = ap (λ (y : Sought). y .index) (s .none (λ o. omega arith)) in omega (arith, q)
+
+  -- and planning may go on
+  pub sought-planned : {x : Sought} → SoughtFrom tb c b w k x → {t : Task} → t ≡ taskAt c (x .index) → Planned tb c b w t x
+  sought-planned s task e = let (h, q) = s .seeks e in (h, (q, task))
+
+-- ---- planned
+
+pub unless-refused : (k : ℕ) (c : Session) (p : Plan) → (k ≡ 0 → ⊥) → stillOf c k ≡ planUnless k c p
+unless-refused zero c p n = absurd (n refl)
+unless-refused (suc k) c p n = refl
+
+pub unless-passed : (k : ℕ) (c : Session) (p : Plan) → k ≡ 0 → p ≡ planUnless k c p
+unless-passed k c p e = rw e
+
+module _ (tb : List ℕ) (c : Session) (b w k : ℕ) (passed : k ≡ 0) (fin : Bool) where
+  -- refused for want of room
+  pub planned-full : (n : ℕ) → n ≡ roomRefusal tb c b (flagsOf w) → (n ≡ 0 → ⊥) → stillOf c n ≡ planStored k tb c b w fin
+  planned-full n e f = rw e (unless-refused (roomRefusal tb c b (flagsOf w)) c _ (λ z. f (e ∙ z))) ∙ unless-passed k c _ passed
+
+  module _ {j : ℕ} {x : Chosen} (chooses : Chooses tb c b (flagsOf w) j x) where
+    chosen-is : x ≡ chosenStored tb c b (flagsOf w)
+    chosen-is =
+        let n = chooses .number in
+        let d = chooses .deed in
+        let p = chooses .place in
+        λ i. record { number = n i; deed = d i; place = p i }
+
+    module _ (room : x .number ≡ 0) {t : Task} (task : t ≡ taskAt c j) where
+      pub chosen-plannable : Plannable tb c b (flagsOf w) t x
+      chosen-plannable =
+          record {
+            chosen = record { number = chooses .number; deed = chooses .deed; place = chooses .place; index = refl };
+            task = task ∙ ap (taskAt c) (chooses .index);
+            room = room;
+          }
+
+      pub planned-roomy : startPlan fin b c t x ≡ planStored k tb c b w fin
+      planned-roomy =
+          rw (chosen-is, task, chooses .index) (unless-passed (roomRefusal tb c b (flagsOf w)) c _ (sym (chooses .number) ∙ room))
+          ∙ unless-passed k c _ passed

@@ -1,0 +1,94 @@
+-- `starts::start_plan` meets its contract.
+use Prim.Native.Nat.{ℕ}
+use mathlib.Core.Path.{_≡_, refl, sym, _∙_}
+use borrow.Author.Needs.{needs}
+use Rattle.model.specs.Flags.{flagsOf}
+use Rattle.model.specs.Rules.{choose}
+use Rattle.session.specs.Stored.{view}
+use Rattle.session.proofs.Known.{Sized, sized}
+use Rattle.session.proofs.StoredLaws.{blank-few, sound-blank}
+use Rattle.choice.specs.Shows.{indexOf}
+use Rattle.choice.proofs.Tasks.{task-filled}
+use Rattle.deeds.specs.Carriable.{Carriable}
+use Rattle.deeds.proofs.Fronts.{placed, main-low}
+use Rattle.rules.specs.Starts.{roomRefusal}
+use Rattle.rules.proofs.Picks.{Picked, picked-carriable, picked-changeable}
+use Rattle.starts.proofs.Planning.{closing-requires, plan-is}
+use Rattle.starts.proofs.start_plan.Statement.{statement}
+use Rattle.starts.proofs.start_plan.Tie as tie
+
+sizes : (c : tie.Start) → Sized (c .args .t2)
+sizes c = sized (c .args .t2) _ (c .good .1 .0)
+
+-- ---- what was chosen
+
+abbrev index : tie.Start → ℕ
+index c = let a = c .args in indexOf (choose (a .table .now) (view (a .t2)) (a .b) (flagsOf (a .word)) .found)
+
+room : (c : tie.Start) → let a = c .args in roomRefusal (a .table .now) (a .t2) (a .b) (flagsOf (a .word)) ≡ 0
+room c = sym (c .pre .1 .chosen .number) ∙ c .pre .1 .room
+
+picks : (c : tie.Start) → let a = c .args in Picked (a .table .now) (a .t2) (a .b) (flagsOf (a .word)) (index c) (a .chosen .deed) (a .chosen .place)
+picks c = record { index = refl; deed = c .pre .1 .chosen .deed; place = c .pre .1 .chosen .place }
+
+carriable : (c : tie.Start) → Carriable (c .args .t2) (c .args .chosen .deed) (c .args .chosen .place)
+carriable c = picked-carriable (sizes c) (c .pre .0) (room c) (picks c)
+
+element-copy-out-front : tie.Need-element-copy-out-front
+element-copy-out-front c = search needs
+
+shift-of-requires : tie.Need-shift-of-requires
+shift-of-requires c κs = let start = c .before .before in placed (start .args .t2) (sizes start) (start .args .chosen .place) (start .args .chosen .deed) (carriable start)
+
+count-after-requires : tie.Need-count-after-requires
+count-after-requires c κs =
+    let start = c .before .before .before in
+    blank-few (start .args .t2) (sound-blank (start .args .table .now) (start .args .t2) (start .pre .0 .ready .sound))
+
+main-after-requires : tie.Need-main-after-requires
+main-after-requires c κs =
+    let start = c .before .before .before .before in
+    main-low (start .args .t2) (sizes start) (start .args .chosen .place) (start .args .chosen .deed) (carriable start)
+
+top-requires : tie.Need-top-requires
+top-requires c κs =
+    let start = c .before .before .before .before .before in
+    let a = start .args in
+    task-filled (a .table .now) (a .t2) (a .b) (sizes start) (start .pre .0) 0 (start .pre .0 .some)
+
+mark-of-requires : tie.Need-mark-of-requires
+mark-of-requires c κs = search needs
+
+front-after-requires : tie.Need-front-after-requires
+front-after-requires c κs =
+    let start = c .before .before .before .before .before .before .before in
+    rw (start .pre .1 .task) (picked-changeable (sizes start) (start .pre .0) (room start) (picks start))
+
+closing-plan-requires : tie.Need-closing-plan-requires
+closing-plan-requires c κs =
+    let start = c .before .before .before .before .before .before .before .before in
+    closing-requires (sizes start) (start .pre .0) (start .pre .1) (start .args .finishing) (c .before .before .top .ensures)
+    (c .before .mark-of .ensures) (c .front-after .ensures) (c .before .before .before .before .count-after .ensures)
+
+returns : tie.Need-returns
+returns c =
+    let made = c .before in
+    let start = made .before .before .before .before .before .before .before .before in
+    c .closing-plan .ensures
+    ∙ plan-is (sizes start) (start .pre .0) (start .pre .1) (start .args .finishing) (made .before .before .top .ensures)
+    (made .before .mark-of .ensures) (made .front-after .ensures) (made .before .before .before .before .count-after .ensures)
+    (made .before .before .before .before .before .shift-of .ensures) (made .before .before .before .main-after .ensures)
+
+pub start-plan-spec : {M : Type 1} → statement M
+start-plan-spec =
+    tie.close
+    (tie.spec
+    element-copy-out-front
+    shift-of-requires
+    count-after-requires
+    main-after-requires
+    top-requires
+    mark-of-requires
+    front-after-requires
+    closing-plan-requires
+    returns)
