@@ -1,43 +1,54 @@
--- Back and starts by their plans: each can be put, and what it puts with its answer is what the call gives.
+-- Calls by their plans: each can be put, and what it puts with its answer is what the call gives.
 use Prim.Native.Nat.{ℕ, zero, suc, _≤_}
 use mathlib.Core.Path.{_≡_, refl, sym, _∙_, ap}
-use mathlib.Core.Bool.{Bool, true, false}
-use mathlib.Core.List.{List, _++_}
+use mathlib.Core.Bool.{Bool, true, false, not, false≢true}
+use mathlib.Core.List.{List, [], _++_}
 use native.Mathlib.Omega.{arith}
 use lib.Dec.{eqb, leb}
 use borrow.Author.Tests.{ne-eqb}
 use Rattle.model.specs.Lists.{if_then_else_}
 use Rattle.model.specs.Refusals.{refusal}
+use Rattle.model.specs.Session.{mostTasks}
 use Rattle.model.specs.Flags.{flagsOf}
 use Rattle.model.specs.Answers.{refused}
-use Rattle.model.specs.Calls.{Call, chosen, back, started, finished, startChecks, roomChecks, ownChecks, done}
+use Rattle.model.specs.Calls.{Call, chosen, launch, back, look, launched, started, finished, startChecks, roomChecks, ownChecks, done}
 use Rattle.model.proofs.RefusalLaws.{refusal-append-refused, refusal-append-passed}
 use Rattle.session.specs.declared.Session.{Session}
-use Rattle.session.specs.Stored.{view, hold, Ready}
+use Rattle.session.specs.Stored.{view, hold, holdTask, pad, blankTask, Ready}
 use Rattle.session.proofs.Known.{Sized}
-use Rattle.session.proofs.StoredLaws.{sound-blank}
+use Rattle.session.proofs.StoredLaws.{held, sound-blank}
 use Rattle.answer.specs.Seen.{Seen}
 use Rattle.choice.specs.Startable.{Startable}
 use Rattle.rules.specs.Starts.{Started, startEntry, roomRefusal, startStored, finishStored, madeStored}
 use Rattle.rules.proofs.Entries.{start-numbers, start-split}
 use Rattle.plans.specs.declared.Plan.{Plan}
 use Rattle.plans.specs.Puts.{putOf, Puttable}
-use Rattle.plans.specs.Plans.{taskAt, stillOf, closes, Opens}
+use Rattle.plans.specs.Plans.{taskAt, stillOf, keeps, closes, Opens}
 use Rattle.plans.specs.Shown.{answerFor, Showable, Uncovers}
 use Rattle.plans.proofs.Closes.{still-put, still-puttable, back-put, back-puttable, back-opens}
 use Rattle.plans.proofs.Answered.{showable, answers-look, refused-showable}
 use Rattle.starts.specs.Steps.{orElse, Makes, Plannable, chosenStored, roomyPlan, planUnless, planStored}
 use Rattle.starts.proofs.Planning.{start-put, start-puttable, start-uncovers, start-accepts}
 use Rattle.starts.proofs.Seeking.{entered-startable}
+use Rattle.calls.specs.declared.Reply.{Reply}
 use Rattle.calls.specs.StoredCalls.{reply, sharedRefusal, callStored, startCall}
-use Rattle.calls.specs.BackPlans.{backMark, backPlan}
-use Rattle.calls.proofs.Settling.{shared-ready, call-refused, own-refused, own-accepted, own-seen, own-sized, empty-view, filled-view, back-own, back-21}
+use Rattle.calls.specs.CallPlans.{launchRefusal, mainTask, launchPlan, backRefusal, backMark, backPlan}
+use Rattle.calls.proofs.Settling.{shared-ready, call-refused, own-refused, own-accepted, own-seen, own-sized, empty-view, filled-view, launch-own, launch-22, back-own, back-21}
 
--- the call k on c by the plan p
-pub record Gives (tb : List ℕ) (c : Session) (k : Call) (p : Plan) : Type 0 where
+-- the plan p on c gives the reply r
+pub record Gives (c : Session) (p : Plan) (r : Reply) : Type 0 where
   pub puttable : Puttable c p
   pub showable : Showable p (taskAt c 1)
-  pub gives : reply (putOf c p) (answerFor p (taskAt c 1)) ≡ callStored tb c k
+  pub gives : reply (putOf c p) (answerFor p (taskAt c 1)) ≡ r
+
+-- refused
+pub still-gives : (c : Session) → Sized c → (n : ℕ) → Gives c (stillOf c (suc n)) (reply c (refused (suc n)))
+still-gives c z n =
+    record {
+      puttable = still-puttable c (suc n);
+      showable = refused-showable (stillOf c (suc n)) (taskAt c 1) (λ q. omega (arith, q));
+      gives = ap (λ (d : Session). reply d (refused (suc n))) (still-put c z (suc n));
+    }
 
 -- what a plan has to be for an accepted call
 pub record Makes-by (tb : List ℕ) (c : Session) (k : Call) (p : Plan) : Type 0 where
@@ -47,16 +58,11 @@ pub record Makes-by (tb : List ℕ) (c : Session) (k : Call) (p : Plan) : Type 0
   pub makes : putOf c p ≡ hold (done tb (view c) k)
 
 module _ (tb : List ℕ) (c : Session) (z : Sized c) (k : Call) where
-  gives-refused : (n : ℕ) → callStored tb c k ≡ reply c (refused (suc n)) → Gives tb c k (stillOf c (suc n))
-  gives-refused n e =
-      record {
-        puttable = still-puttable c (suc n);
-        showable = refused-showable (stillOf c (suc n)) (taskAt c 1) (λ q. omega (arith, q));
-        gives = ap (λ (d : Session). reply d (refused (suc n))) (still-put c z (suc n)) ∙ sym e;
-      }
+  gives-refused : (n : ℕ) → callStored tb c k ≡ reply c (refused (suc n)) → Gives c (stillOf c (suc n)) (callStored tb c k)
+  gives-refused n e = rw e (still-gives c z n)
 
   module _ (h : Ready tb c) (own : refusal (ownChecks tb (view c) k) ≡ 0) where
-    gives-accepted : (p : Plan) → Makes-by tb c k p → Gives tb c k p
+    gives-accepted : (p : Plan) → Makes-by tb c k p → Gives c p (callStored tb c k)
     gives-accepted p m =
         let sizes : Sized (putOf c p) = rw (m .makes) (own-sized tb c k h own) in
         let seen : Seen (putOf c p) = rw (m .makes) (own-seen tb c k h own) in
@@ -70,10 +76,10 @@ module _ (tb : List ℕ) (c : Session) (z : Sized c) (k : Call) where
   -- m is the refusal of the shared checks, j that of the call's own
   module _ (m j : ℕ) (shared : m ≡ sharedRefusal tb c) (own : Ready tb c → j ≡ refusal (ownChecks tb (view c) k))
       (p : Plan) (makes : Ready tb c → j ≡ 0 → Makes-by tb c k p) where
-    pub gives-plan : Gives tb c k (planUnless (orElse m j) c p)
+    pub gives-plan : Gives c (planUnless (orElse m j) c p) (callStored tb c k)
     gives-plan = go m j refl refl
       where
-        go : (l i : ℕ) → m ≡ l → j ≡ i → Gives tb c k (planUnless (orElse l i) c p)
+        go : (l i : ℕ) → m ≡ l → j ≡ i → Gives c (planUnless (orElse l i) c p) (callStored tb c k)
         go (suc l) i q r = gives-refused l (call-refused tb c k (suc l) (sym shared ∙ q) (λ o. omega arith))
         go zero (suc i) q r =
             let h = shared-ready tb c (sym shared ∙ q) in
@@ -81,6 +87,64 @@ module _ (tb : List ℕ) (c : Session) (z : Sized c) (k : Call) where
         go zero zero q r =
             let h = shared-ready tb c (sym shared ∙ q) in
             gives-accepted h (sym (own h) ∙ r) p (makes h r)
+
+-- ---- look
+
+module _ (tb : List ℕ) (c : Session) (z : Sized c) where
+  look-makes : Ready tb c → Makes-by tb c look (stillOf c 0)
+  unfolding done
+  look-makes h =
+      record {
+        accepted = refl;
+        puttable = still-puttable c 0;
+        uncovers = λ e. absurd (omega (arith, e));
+        makes = still-put c z 0 ∙ sym (held c z (sound-blank tb c (h .sound)));
+      }
+
+  look-number : refusal (ownChecks tb (view c) look) ≡ 0
+  unfolding ownChecks refusal
+  look-number = refl
+
+  pub look-gives : (m : ℕ) → m ≡ sharedRefusal tb c → Gives c (stillOf c m) (callStored tb c look)
+  look-gives m shared =
+      rw (sym (still m)) (gives-plan tb c z look m 0 shared (λ h. sym look-number) (stillOf c 0) (λ h e. look-makes h))
+    where
+      still : (n : ℕ) → planUnless (orElse n 0) c (stillOf c 0) ≡ stillOf c n
+      still zero = refl
+      still (suc n) = refl
+
+-- ---- launch
+
+-- no task stands where the check passes
+launch-empty : (n : ℕ) → _≡_ {A = ℕ} (if not (eqb n 0) then 22 else 0) 0 → n ≡ 0
+launch-empty zero e = refl
+launch-empty (suc n) e = absurd (let f : 22 ≡ 0 = rw (ne-eqb (suc n) 0 (λ q. omega arith)) at e in omega arith)
+
+module _ (tb : List ℕ) (c : Session) (z : Sized c) where
+  launch-number : Ready tb c → launchRefusal c ≡ refusal (ownChecks tb (view c) launch)
+  launch-number h = go (c .n) refl
+    where
+      go : (n : ℕ) → c .n ≡ n → (if not (eqb n 0) then 22 else 0) ≡ refusal (ownChecks tb (view c) launch)
+      go zero e = sym (launch-own tb c (empty-view tb c e))
+      go (suc n) e = rw (ne-eqb (suc n) 0 (λ q. omega arith)) (sym (launch-22 tb c (filled-view tb c z h (λ none. omega arith))))
+
+  -- the main task in front of none
+  launch-put : Ready tb c → c .n ≡ 0 → putOf c (keeps (mainTask tb) 0 1 1) ≡ hold (launched tb)
+  unfolding view hold holdTask pad launched
+  launch-put h e =
+      let none : c .tasks ≡ pad mostTasks blankTask [] = sym (ap (λ (d : Session). d .tasks) (held c z (sound-blank tb c (h .sound)))) ∙ rw e in
+      rw none
+
+  pub launch-gives : (m : ℕ) → m ≡ sharedRefusal tb c → Gives c (launchPlan m tb c) (callStored tb c launch)
+  unfolding done
+  launch-gives m shared =
+      gives-plan tb c z launch m (launchRefusal c) shared launch-number (keeps (mainTask tb) 0 1 1) (λ h e.
+      record {
+        accepted = refl;
+        puttable = record { few = omega arith; second = λ p. absurd (false≢true p) };
+        uncovers = λ g. absurd (omega (arith, g));
+        makes = launch-put h (launch-empty (c .n) e);
+      })
 
 -- ---- Back
 
@@ -93,12 +157,12 @@ back-accepted c true = refl
 back-accepted c false = refl
 
 -- a task stands where the check passes
-back-some : (n : ℕ) → _≡_ {A = ℕ} (if eqb n 0 then 21 else 0) 0 → 1 ≤ n
+pub back-some : (n : ℕ) → _≡_ {A = ℕ} (if eqb n 0 then 21 else 0) 0 → 1 ≤ n
 back-some zero e = absurd (omega arith)
 back-some (suc n) e = omega arith
 
 module _ (tb : List ℕ) (c : Session) (z : Sized c) where
-  back-number : Ready tb c → (if eqb (c .n) 0 then 21 else 0) ≡ refusal (ownChecks tb (view c) back)
+  back-number : Ready tb c → backRefusal c ≡ refusal (ownChecks tb (view c) back)
   back-number h = go (c .n) refl
     where
       go : (n : ℕ) → c .n ≡ n → (if eqb n 0 then 21 else 0) ≡ refusal (ownChecks tb (view c) back)
@@ -106,7 +170,7 @@ module _ (tb : List ℕ) (c : Session) (z : Sized c) where
       go (suc n) e = rw (ne-eqb (suc n) 0 (λ q. omega arith)) (sym (back-own tb c (filled-view tb c z h (λ none. omega arith))))
 
   module _ (m : ℕ) (shared : m ≡ sharedRefusal tb c) where
-    pub back-gives : Gives tb c back (backPlan (orElse m (if eqb (c .n) 0 then 21 else 0)) c)
+    pub back-gives : Gives c (backPlan m c) (callStored tb c back)
     unfolding done
     back-gives =
         gives-plan tb c z back m _ shared back-number _ (λ h e.
@@ -120,14 +184,8 @@ module _ (tb : List ℕ) (c : Session) (z : Sized c) where
         })
 
     -- what its plan requires
-    pub back-plans : (n : ℕ) → n ≡ orElse m (if eqb (c .n) 0 then 21 else 0) → n ≡ 0 → Opens backMark (taskAt c 0) × (1 ≤ c .n)
-    back-plans n e q = go m refl
-      where
-        go : (l : ℕ) → m ≡ l → Opens backMark (taskAt c 0) × (1 ≤ c .n)
-        go (suc l) r = absurd (let f : suc l ≡ 0 = rw r at (sym e ∙ q) in omega arith)
-        go zero r =
-            let some = back-some (c .n) (rw r at (sym e ∙ q)) in
-            (back-opens tb c z (shared-ready tb c (sym shared ∙ r)) some (leb 0 1), some)
+    pub back-plans : m ≡ 0 → 1 ≤ c .n → Opens backMark (taskAt c 0)
+    back-plans e some = back-opens tb c z (shared-ready tb c (sym shared ∙ e)) some (leb 0 1)
 
 -- ---- starts
 
@@ -191,7 +249,7 @@ module _ (tb : List ℕ) (c : Session) (z : Sized c) (b w : ℕ) (fin : Bool) wh
             makes = made-done room _ (start-put z s ok fin);
           }
 
-  pub start-gives : (m : ℕ) → m ≡ sharedRefusal tb c → {n : ℕ} → n ≡ orElse m entry → Gives tb c does (planStored n tb c b w fin)
+  pub start-gives : (m : ℕ) → m ≡ sharedRefusal tb c → {n : ℕ} → n ≡ orElse m entry → Gives c (planStored n tb c b w fin) (callStored tb c does)
   start-gives m shared {n} e =
       rw (e, unless-unless (orElse m entry) roomOf c (roomyPlan tb c b (flagsOf w) fin), or-or m entry roomOf)
       (gives-plan tb c z does m (orElse entry roomOf) shared start-number (roomyPlan tb c b (flagsOf w) fin) start-makes)

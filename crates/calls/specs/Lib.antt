@@ -1,2 +1,2 @@
 pub mod StoredCalls
-pub mod BackPlans
+pub mod CallPlans

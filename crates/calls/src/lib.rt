@@ -1,20 +1,19 @@
 // Look, launch, Back and the starts on any session under any table. Each takes the refusal of the checks that all calls share
-// (0 if none), makes its own checks in document 01's order, and gives the whole call. Back and the starts are plans that are put;
-// each has the put in its own body, since the compiler copies the session once more where they share it.
+// (0 if none), makes its own checks in document 01's order, and gives the whole call. Launch, Back and the starts are plans that
+// are put; each has the put in its own body, since the compiler copies the session once more where they share it.
 
 ghost use Prim.Native.Nat.{_≤_};
 ghost use mathlib.Core.Path.{_≡_};
-ghost use lib.Dec.{eqb};
 ghost use Rattle.model.specs.Lists.{if_then_else_};
-ghost use Rattle.model.specs.Answers.{lookAt, refused as refusedAnswer};
+ghost use Rattle.model.specs.Answers.{refused as refusedAnswer};
 ghost use Rattle.model.specs.Calls.{Call};
-ghost use Rattle.session.specs.Stored.{view};
-ghost use Rattle.answer.specs.Seen.{Seen};
+ghost use Rattle.model.specs.Table.{tableRefusal};
 ghost use Rattle.plans.specs.Plans.{taskAt, Opens};
 ghost use Rattle.starts.specs.Steps.{orElse};
 ghost use Rattle.calls.specs.StoredCalls.{reply, sharedRefusal, callStored};
-ghost use Rattle.calls.specs.BackPlans.{backMark, backPlan};
+ghost use Rattle.calls.specs.CallPlans.{launchPlan, backMark, backPlan};
 use model::Answer;
+use model::Deed;
 use model::Mark;
 use plans::Plan;
 use session::Session;
@@ -36,17 +35,6 @@ pub fn refuse(s: Session, number: u8) -> Reply
     }
 }
 
-// An accepted call: the session that it made, and what a look at it shows.
-fn accept(s: Session) -> Reply
-    requires { ⌜ Seen s ⌝ }
-    ensures { λ r. ⌜ r ≡ reply s (lookAt (view s)) ⌝ }
-{
-    Reply {
-        session: s,
-        answer: answer::look_at(s),
-    }
-}
-
 // Look changes nothing.
 pub fn look(table: &[u8], s: Session, shared: u8) -> Reply
     requires { ⌜ shared ≡ sharedRefusal (now table) s ⌝ }
@@ -55,7 +43,53 @@ pub fn look(table: &[u8], s: Session, shared: u8) -> Reply
     if shared != 0 {
         return refuse(s, shared);
     }
-    accept(s)
+    Reply {
+        session: s,
+        answer: answer::look_at(s),
+    }
+}
+
+// ---- launch and Back
+
+// The first of the shared refusal and the call's own, which may apply.
+fn first_refusal(shared: u8, applies: bool, own: u8) -> u8
+    ensures { λ r. ⌜ r ≡ orElse shared (if applies then own else 0) ⌝ }
+{
+    if shared != 0 {
+        return shared;
+    }
+    if applies {
+        return own;
+    }
+    0
+}
+
+// The plan of a launch: on an empty session, a new task of the main screen.
+pub fn launch_plan(table: &[u8], s: Session, shared: u8) -> Plan
+    requires { ⌜ (shared ≡ 0 → tableRefusal (now table) ≡ 0) ⌝ }
+    ensures { λ r. ⌜ r ≡ launchPlan shared (now (table .entry)) s ⌝ }
+{
+    let number = first_refusal(shared, s.n != 0, 22);
+    if number != 0 {
+        return plans::still(s, number);
+    }
+    let b = table::main_screen(table);
+    let blank = s.tasks[0];
+    let front = deeds::front_after(blank, b, Deed::New);
+    plans::closing_plan(Mark::Gone, front, 0, 0, 1, 1)
+}
+
+// The plan of a Back: the top screen of the front task closes, as a marked one does.
+pub fn back_plan(s: Session, shared: u8) -> Plan
+    requires { ⌜ (shared ≡ 0 → 1 ≤ s .n → Opens backMark (taskAt s 0)) ⌝ }
+    ensures { λ r. ⌜ r ≡ backPlan shared s ⌝ }
+{
+    let number = first_refusal(shared, s.n == 0, 21);
+    if number != 0 {
+        return plans::still(s, number);
+    }
+    let front = s.tasks[0];
+    plans::closing_plan(Mark::Stands(0, 0), front, 0, 0, s.n, s.main)
 }
 
 // Launch, on an empty session.
@@ -63,40 +97,16 @@ pub fn launch(table: &[u8], s: Session, shared: u8) -> Reply
     requires { ⌜ shared ≡ sharedRefusal (now table) s ⌝ }
     ensures { λ r. ⌜ r ≡ callStored (now (table .entry)) s Call.launch ⌝ }
 {
-    if shared != 0 {
-        return refuse(s, shared);
+    let mut out = s;
+    let plan = launch_plan(table, s, shared);
+    let second = out.tasks[1];
+    let answer = plans::answer_of(plan, second);
+    out.n = plan.n;
+    out.main = plan.main;
+    Reply {
+        session: plans::put(out, plan),
+        answer: answer,
     }
-    if s.n != 0 {
-        return refuse(s, 22);
-    }
-    accept(rules::launch(table))
-}
-
-// ---- Back
-
-// The refusal of a Back where n tasks stand.
-fn back_refusal(shared: u8, n: u8) -> u8
-    ensures { λ r. ⌜ r ≡ orElse shared (if eqb n 0 then 21 else 0) ⌝ }
-{
-    if shared != 0 {
-        return shared;
-    }
-    if n == 0 {
-        return 21;
-    }
-    0
-}
-
-// Its plan: the top screen of the front task closes, as a marked one does.
-fn back_plan(s: Session, number: u8) -> Plan
-    requires { ⌜ (number ≡ 0 → Opens backMark (taskAt s 0) × (1 ≤ s .n)) ⌝ }
-    ensures { λ r. ⌜ r ≡ backPlan number s ⌝ }
-{
-    if number != 0 {
-        return plans::still(s, number);
-    }
-    let front = s.tasks[0];
-    plans::closing_plan(Mark::Stands(0, 0), front, 0, 0, s.n, s.main)
 }
 
 // Back, on a session that is not empty.
@@ -105,8 +115,7 @@ pub fn back(table: &[u8], s: Session, shared: u8) -> Reply
     ensures { λ r. ⌜ r ≡ callStored (now (table .entry)) s Call.back ⌝ }
 {
     let mut out = s;
-    let number = back_refusal(shared, s.n);
-    let plan = back_plan(s, number);
+    let plan = back_plan(s, shared);
     let second = out.tasks[1];
     let answer = plans::answer_of(plan, second);
     out.n = plan.n;

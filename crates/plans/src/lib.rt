@@ -4,7 +4,7 @@ ghost use Prim.Native.Nat.{_≤_};
 ghost use mathlib.Core.Path.{_≡_};
 ghost use lib.Dec.{leb};
 ghost use Rattle.deeds.specs.Rows.{withTasks};
-ghost use Rattle.plans.specs.Puts.{Puttable, rowOf};
+ghost use Rattle.plans.specs.Puts.{Puttable, rowOf, frontAlone};
 ghost use Rattle.plans.specs.Plans.{stillOf, closes, goneBy, frontBy, popsBy, countBy, mainBy, Opens};
 ghost use Rattle.plans.specs.Shown.{answerFor, Showable};
 use model::Answer;
@@ -59,6 +59,13 @@ pub fn put(s: Session, plan: Plan) -> Session
         out.tasks[15] = blank;
     }
     out
+}
+
+// The plan changes no task but the front one.
+pub fn front_alone(plan: Plan) -> bool
+    ensures { λ r. ⌜ r ≡ frontAlone plan ⌝ }
+{
+    (plan.shift == 0) & (plan.gone >= 16) & !plan.pops
 }
 
 // ---- the answer

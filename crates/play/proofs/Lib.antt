@@ -1,7 +1,5 @@
-pub mod Entry
+pub mod Requests
 pub mod Replies
-pub mod OtherCalls
-pub mod Starting
 pub mod Records
 pub mod Playing
 pub mod BlockLaws

@@ -6,23 +6,19 @@ use native.Mathlib.Nat.{zero-add}
 use native.Mathlib.Omega.{arith}
 use lib.ListN.{length, length-append}
 use Rattle.model.specs.Session.{State}
-use Rattle.model.specs.Answers.{Outcome, refused}
-use Rattle.model.specs.Player.{Record, recordOf, Request, unplayable, reply, lineOf, textOf, sessionAfter}
-use Rattle.model.proofs.Sound.{Sound}
+use Rattle.model.specs.Answers.{refused}
+use Rattle.model.specs.Player.{Record, recordOf, unplayable, reply, lineOf, textOf, sessionAfter}
+use Rattle.model.specs.Written.{written}
+use Rattle.model.proofs.WrittenLaws.{Wrote, wrote-nil, wrote-append}
 use Rattle.session.specs.declared.Session.{Session}
 use Rattle.session.specs.Stored.{view, hold}
 use Rattle.session.proofs.Known.{Sized}
-use Rattle.session.proofs.StoredLaws.{held, view-hold, sound-view}
-use Rattle.model.specs.Written.{written}
-use Rattle.model.proofs.WrittenLaws.{Wrote, wrote-nil, wrote-append}
-use Rattle.answer.specs.Seen.{Seen}
-use Rattle.answer.proofs.LookLaws.{sound-seen}
-use Rattle.rules.specs.Starts.{Started}
+use Rattle.session.proofs.StoredLaws.{held}
+use Rattle.calls.specs.declared.Reply.{Reply}
 use Rattle.play.specs.declared.Played.{Played}
-use Rattle.play.specs.Steps.{Playable, entryRefusal}
+use Rattle.play.specs.Steps.{Playable, replyStored}
 use Rattle.play.specs.Fitting.{longestLine, fitting, bytesOf, Plays}
-use Rattle.play.proofs.Entry.{entry-good}
-use Rattle.play.proofs.Replies.{stepOf, answerAfter, answer-after, sound-playable, sound-sized, reply-sound, entry-refused}
+use Rattle.play.proofs.Replies.{reply-session, reply-answer, reply-playable}
 
 module _ (tb : List ℕ) where
   pub after-append : (rs qs : List Record) (s : State ℕ) → sessionAfter tb s (rs ++ qs) ≡ sessionAfter tb (sessionAfter tb s rs) qs
@@ -45,67 +41,30 @@ pub record Reached (tb : List ℕ) (v : State ℕ) (rs : List Record) (d : List 
   pub sized : Sized c
   pub wrote : Wrote d 0 (textOf tb v rs) d′ at
 
--- the session that one record leaves
-pub record Left (tb : List ℕ) (c : Session) (r : Record) (c′ : Session) : Type 0 where
-  pub session : view c′ ≡ reply tb (view c) (r .request) .session
-  pub playable : Playable tb c′
-  pub sized : Sized c′
-
 pub reached-none : (tb d : List ℕ) (c : Session) → Playable tb c → Sized c → Reached tb (view c) [] d c d 0
 unfolding textOf sessionAfter
 reached-none tb d c p z = record { session = refl; playable = p; sized = z; wrote = wrote-nil d 0 }
 
--- one record more
-pub reached-more : {tb d d′ d″ : List ℕ} {v : State ℕ} {rs : List Record} {c c′ : Session} {at next : ℕ}
-    → Reached tb v rs d c d′ at → at ≤ length d → (r : Record) → Left tb c r c′
-    → Wrote d′ at (lineOf (r .kind) (reply tb (view c) (r .request) .answer)) d″ next
-    → Reached tb v (rs ++ (r ∷ [])) d c′ d″ next
+-- one record more, which gave d
+pub reached-more : {tb out out′ out″ : List ℕ} {v : State ℕ} {rs : List Record} {c : Session} {at next : ℕ}
+    → Reached tb v rs out c out′ at → at ≤ length out → (r : Record) {d : Reply} → d ≡ replyStored tb c (r .request)
+    → Wrote out′ at (lineOf (r .kind) (d .answer)) out″ next
+    → Reached tb v (rs ++ (r ∷ [])) out (d .session) out″ next
 unfolding textOf sessionAfter
-reached-more {tb} {d} {d′} {d″} {v} {rs} {c} {c′} {at} {next} h fits r k w =
-    let line = lineOf (r .kind) (reply tb (view c) (r .request) .answer) in
-    let e : textOf tb v (rs ++ (r ∷ [])) ≡ textOf tb v rs ++ line =
+reached-more {tb} {out} {out′} {out″} {v} {rs} {c} {at} {next} h fits r {d} e w =
+    let q = r .request in
+    let line = lineOf (r .kind) (reply tb (view c) q .answer) in
+    let told : d .answer ≡ reply tb (view c) q .answer = ap (λ (x : Reply). x .answer) e ∙ reply-answer tb c (h .sized) (h .playable) q in
+    let k : textOf tb v (rs ++ (r ∷ [])) ≡ textOf tb v rs ++ line =
     text-append tb rs (r ∷ []) v ∙ rw (← (h .session)) (ap (λ (l : List ℕ). textOf tb v rs ++ l) (append-nil line)) in
+    let (playable, sizes) = reply-playable tb c (h .sized) (h .playable) q in
     record {
-      session = k .session ∙ rw (h .session) (sym (after-append tb rs (r ∷ []) v));
-      playable = k .playable;
-      sized = k .sized;
-      wrote = rw e (wrote-append (h .wrote) fits w);
+      session = ap (λ (x : Reply). view (x .session)) e ∙ reply-session tb c (h .sized) (h .playable) q
+          ∙ rw (h .session) (sym (after-append tb rs (r ∷ []) v));
+      playable = rw e playable;
+      sized = rw e sizes;
+      wrote = rw k (wrote-append (h .wrote) fits (rw told at w));
     }
-
--- ---- a record that its checks refuse
-
-pub reached-refused : {tb d d′ d″ : List ℕ} {v : State ℕ} {rs : List Record} {c : Session} {at next : ℕ}
-    → Reached tb v rs d c d′ at → at ≤ length d → (r : Record) (n : ℕ) → entryRefusal tb (c .n) (r .request) ≡ n → (n ≡ 0 → ⊥)
-    → Wrote d′ at (lineOf (r .kind) (refused n)) d″ next → Reached tb v (rs ++ (r ∷ [])) d c d″ next
-reached-refused {tb} {d} {d′} {d″} {v} {rs} {c} {at} {next} h fits r n e f w =
-    let k = entry-refused tb c (h .sized) (h .playable) (r .request) n e f in
-    reached-more h fits r
-    (record { session = sym (ap (λ (o : Outcome). o .session) k); playable = h .playable; sized = h .sized })
-    (rw k w)
-
--- ---- a record whose call was made
-
-module _ (tb : List ℕ) (c : Session) (p : Playable tb c) (q : Request) (e : entryRefusal tb (c .n) q ≡ 0) where
-  sound-after : Sound tb (reply tb (view c) q .session)
-  sound-after = let ok = entry-good tb (c .n) q e in reply-sound tb ok (view c) (sound-view tb c (p .sound ok)) q
-
-  -- what it leaves can be looked at
-  pub performed-seen : (o : Started) → o ≡ stepOf tb c q → Seen (o .session)
-  unfolding stepOf
-  performed-seen o f = rw f (sound-seen tb (reply tb (view c) q .session) sound-after)
-
-pub reached-performed : {tb d d′ d″ : List ℕ} {v : State ℕ} {rs : List Record} {c : Session} {at next : ℕ}
-    → Reached tb v rs d c d′ at → at ≤ length d → (r : Record) → entryRefusal tb (c .n) (r .request) ≡ 0
-    → (o : Started) → o ≡ stepOf tb c (r .request) → Wrote d′ at (lineOf (r .kind) (answerAfter (o .refusal) (o .session))) d″ next
-    → Reached tb v (rs ++ (r ∷ [])) d (o .session) d″ next
-unfolding stepOf
-reached-performed {tb} {d} {d′} {d″} {v} {rs} {c} {at} {next} h fits r e o f w =
-    let s = sound-after tb c (h .playable) (r .request) e in
-    let u = reply tb (view c) (r .request) .session in
-    let a : answerAfter (o .refusal) (o .session) ≡ reply tb (view c) (r .request) .answer = rw f (answer-after tb c (r .request)) in
-    reached-more h fits r
-    (rw f (record { session = view-hold u; playable = sound-playable tb u s; sized = sound-sized tb u s }))
-    (rw (← a) w)
 
 -- ---- all of them
 

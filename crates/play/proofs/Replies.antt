@@ -1,64 +1,37 @@
--- What a record gives on a stored session: refused at its checks, or by what the call made of the session. The session
--- after it can be played on and looked at.
-use Prim.Native.Nat.{ℕ, zero, suc, _≤_}
+-- What a record gives on a stored session: its plan gives it, and it is what the rules give, stored. The session after it
+-- can be played on.
+use Prim.Native.Nat.{ℕ, zero, suc, _<_}
 use mathlib.Core.Path.{_≡_, refl, sym, _∙_, ap}
-use mathlib.Core.List.{List, [], _++_}
-use Rattle.model.specs.Refusals.{Check, refusal}
+use mathlib.Core.Bool.{Bool, true, false}
+use mathlib.Core.List.{List}
+use native.Mathlib.Omega.{arith}
 use Rattle.model.specs.Table.{tableRefusal}
-use Rattle.model.specs.Session.{State, fresh, sound}
-use Rattle.model.specs.Flags.{flagsOf}
-use Rattle.model.specs.Image.{imageChecks}
-use Rattle.model.specs.declared.Answer.{Answer}
-use Rattle.model.specs.Answers.{Outcome, outcome, lookAt, refused, settle}
-use Rattle.model.specs.Calls.{Call, launch, start, finishingStart, back, look, restore, chosen, roomChecks, ownChecks, launched, backed, started, finished, done, refusalOf, call}
-use Rattle.model.specs.Player.{Request, unplayable, asks, reply}
-use Rattle.model.proofs.RefusalLaws.{refusal-append-refused, refusal-append-passed, checks-bad-table}
+use Rattle.model.specs.Session.{State, fresh, mostTasks, sound}
+use Rattle.model.specs.Answers.{Outcome, outcome, refused, settle}
+use Rattle.model.specs.Calls.{Call, ownChecks, done, refusalOf, call}
+use Rattle.model.specs.Player.{Request, unplayable, asks, requestOf}
+use Rattle.model.specs.Player as player
+use Rattle.model.proofs.RefusalLaws.{checks-bad-table}
 use Rattle.model.proofs.Sound.{Sound}
-use Rattle.model.proofs.Keeps.{settled, fresh-sound, call-sound}
+use Rattle.model.proofs.Keeps.{fresh-sound, call-sound}
 use Rattle.session.specs.declared.Session.{Session}
+use Rattle.session.specs.declared.Task.{Task}
 use Rattle.session.specs.Stored.{freshSession, view, hold, Ready}
 use Rattle.session.proofs.Known.{Sized}
 use Rattle.session.proofs.StoredLaws.{fresh-held, held, view-hold, hold-sound, hold-blank, hold-sized, sound-fits, sound-view}
-use Rattle.choice.specs.Startable.{Startable}
-use Rattle.rules.specs.Starts.{Started, startEntry, settleRoom, startStored, finishStored}
-use Rattle.rules.proofs.Entries.{refusal-none, start-entered, empty, start-split}
-use Rattle.play.specs.Steps.{Playable, firstOf, entryChecks, entryRefusal}
-use Rattle.play.proofs.Entry.{entry-numbers, entry-none, back-entered}
+use Rattle.plans.specs.Plans.{taskAt}
+use Rattle.starts.specs.declared.Sought.{Sought}
+use Rattle.starts.specs.Steps.{Planned}
+use Rattle.starts.proofs.Seeking.{sought-inside, sought-planned}
+use Rattle.calls.specs.declared.Reply.{Reply}
+use Rattle.calls.specs.StoredCalls.{reply, sharedRefusal, callStored}
+use Rattle.calls.proofs.Settling.{shared-bad-table, shared-passed, call-refused}
+use Rattle.calls.proofs.PlanSettling.{Gives, still-gives, look-gives, launch-gives, back-gives, start-gives}
+use Rattle.calls.proofs.HistoryLaws.{storedOutcome, call-held}
+use Rattle.play.specs.Steps.{Playable, replyStored, isStart, SoughtFor, PlannedFor, planFor}
+use Rattle.play.proofs.Requests.{Kind, launches, starts, finishes, backs, looks, unknown, kind-of, request-1, request-2, request-3, request-4, request-5}
 
--- ---- the call
-
--- the refusal (0 if none) and the stored session of what a call gives
-abbrev pub stored : Outcome → Started
-stored o = record { refusal = o .answer .refusal; session = hold (o .session) }
-
--- what a record leaves of the stored session c
-unfoldable pub stepOf : List ℕ → Session → Request → Started
-stepOf tb c q = stored (reply tb (view c) q)
-
--- its answer, by that refusal and that session
-abbrev pub answerAfter : ℕ → Session → Answer
-answerAfter zero c = lookAt (view c)
-answerAfter (suc k) c = refused (suc k)
-
--- ---- the answer
-
-pub after-refused : (n : ℕ) (c : Session) → (n ≡ 0 → ⊥) → answerAfter n c ≡ refused n
-after-refused zero c f = absurd (f refl)
-after-refused (suc n) c f = refl
-
-answer-settled : (n : ℕ) (s s′ : State ℕ) → settle n s s′ .answer ≡ answerAfter (stored (settle n s s′) .refusal) (stored (settle n s s′) .session)
-unfolding lookAt
-answer-settled zero s s′ = ap lookAt (sym (view-hold s′))
-answer-settled (suc n) s s′ = refl
-
--- it is the one by the refusal and the session that the record leaves
-pub answer-after : (tb : List ℕ) (c : Session) (q : Request)
-    → answerAfter (stepOf tb c q .refusal) (stepOf tb c q .session) ≡ reply tb (view c) q .answer
-unfolding stepOf reply call
-answer-after tb c unplayable = refl
-answer-after tb c (asks k) = sym (answer-settled (refusalOf tb (view c) k) (view c) (done tb (view c) k))
-
--- ---- the session
+-- ---- sessions that can be played on
 
 module _ (tb : List ℕ) (v : State ℕ) (h : Sound tb v) where
   pub sound-playable : Playable tb (hold v)
@@ -71,114 +44,104 @@ module _ (tb : List ℕ) (v : State ℕ) (h : Sound tb v) where
 pub fresh-playable : (tb : List ℕ) → Playable tb freshSession
 fresh-playable tb = rw fresh-held at (sound-playable tb fresh (fresh-sound tb))
 
-pub reply-sound : (tb : List ℕ) → tableRefusal tb ≡ 0 → (s : State ℕ) → Sound tb s → (q : Request) → Sound tb (reply tb s q .session)
-unfolding reply
-reply-sound tb ok s h unplayable = h
-reply-sound tb ok s h (asks k) = call-sound tb ok s h k
+pub playable-ready : (tb : List ℕ) (c : Session) → Playable tb c → tableRefusal tb ≡ 0 → Ready tb c
+playable-ready tb c p e = record { good = e; sound = p .sound e }
+
+-- ---- what is sought
+
+module _ (tb : List ℕ) (c : Session) (b w k : ℕ) (x : Sought) where
+  -- an index of the storage
+  pub sought-in : Sized c → (starts : Bool) → SoughtFor starts tb c b w k x → x .index < mostTasks
+  sought-in z true s = sought-inside tb c b w k z s
+  sought-in z false s = let e = ap (λ (y : Sought). y .index) s in omega (arith, e)
+
+  -- and planning may go on
+  pub sought-for : (k ≡ 0 → Ready tb c) → (starts : Bool) → SoughtFor starts tb c b w k x → {t : Task} → t ≡ taskAt c (x .index)
+      → PlannedFor starts tb c b w t x
+  sought-for h true s task = (λ e. s .seeks e .0 .ready, sought-planned tb c b w k s task)
+  sought-for h false s task = (λ e. h (sym (ap (λ (y : Sought). y .number) s) ∙ e), tt)
+
+-- ---- the plan
 
 module _ (tb : List ℕ) (c : Session) (z : Sized c) (p : Playable tb c) where
+  -- the table's refusal is the one that all calls share: the session is sound
+  table-shared : tableRefusal tb ≡ sharedRefusal tb c
+  table-shared = go (tableRefusal tb) refl
+    where
+      go : (n : ℕ) → tableRefusal tb ≡ n → n ≡ sharedRefusal tb c
+      go zero e = sym (shared-passed tb c e (p .sound e))
+      go (suc n) e = sym (shared-bad-table tb c (suc n) e (λ o. omega arith))
+
+  pub plan-gives : (kind b w : ℕ) (x : Sought) → SoughtFor (isStart kind) tb c b w (tableRefusal tb) x
+      → Gives c (planFor (x .number) tb c (requestOf kind b w)) (replyStored tb c (requestOf kind b w))
+  unfolding planFor
+  plan-gives kind b w x s = go (kind-of kind)
+    where
+      -- nothing was sought
+      number : isStart kind ≡ false → x .number ≡ sharedRefusal tb c
+      number e = ap (λ (y : Sought). y .number) (rw e at s) ∙ table-shared
+
+      go : Kind kind → Gives c (planFor (x .number) tb c (requestOf kind b w)) (replyStored tb c (requestOf kind b w))
+      go (launches e) = rw (request-1 kind b w e) (launch-gives tb c z (x .number) (number (rw e)))
+      go (starts e) = rw (request-2 kind b w e) (start-gives tb c z b w false (tableRefusal tb) table-shared ((rw e at s) .number))
+      go (finishes e) = rw (request-3 kind b w e) (start-gives tb c z b w true (tableRefusal tb) table-shared ((rw e at s) .number))
+      go (backs e) = rw (request-4 kind b w e) (back-gives tb c z (x .number) (number (rw e)))
+      go (looks e) = rw (request-5 kind b w e) (look-gives tb c z (x .number) (number (rw e)))
+      go (unknown e n) = rw (e b w) (still-gives c z 8)
+
+  -- ---- by the rules
+
   same : hold (view c) ≡ c
   same = held c z (p .blank)
 
-  -- ---- the checks of a call: those at its entry, and the rest
+  -- under a refused table every call is refused
+  bad-stored : (n : ℕ) → tableRefusal tb ≡ suc n → (q : Request) → replyStored tb c q ≡ storedOutcome (player.reply tb (view c) q)
+  unfolding player.reply call refusalOf
+  bad-stored n e unplayable = ap (λ (d : Session). reply d (refused 9)) (sym same)
+  bad-stored n e (asks k) =
+      call-refused tb c k (suc n) (shared-bad-table tb c (suc n) e (λ o. omega arith)) (λ o. omega arith)
+      ∙ ap (λ (d : Session). reply d (refused (suc n))) (sym same)
+      ∙ sym (ap (λ (m : ℕ). storedOutcome (settle m (view c) (done tb (view c) k)))
+      (checks-bad-table tb n (sound tb (view c)) (ownChecks tb (view c) k) e))
 
-  abbrev rest : Call → List Check
-  rest launch = []
-  rest (start b w) = roomChecks (chosen tb (view c) b w) (view c)
-  rest (finishingStart b w) = roomChecks (chosen tb (view c) b w) (view c)
-  rest back = []
-  rest look = []
-  rest (restore bytes) = imageChecks tb bytes
+  good-stored : tableRefusal tb ≡ 0 → (q : Request) → replyStored tb c q ≡ storedOutcome (player.reply tb (view c) q)
+  unfolding player.reply
+  good-stored e unplayable = ap (λ (d : Session). reply d (refused 9)) (sym same)
+  good-stored e (asks k) = rw same at (call-held tb e (view c) (sound-view tb c (p .sound e)) k)
 
-  own-split : (k : Call) → ownChecks tb (view c) k ≡ entryChecks tb (c .n) k ++ rest k
-  unfolding ownChecks entryChecks
-  own-split launch = rw (empty c z (p .blank))
-  own-split (start b w) = start-split c z (p .blank) tb b w
-  own-split (finishingStart b w) = start-split c z (p .blank) tb b w
-  own-split back = rw (empty c z (p .blank))
-  own-split look = refl
-  own-split (restore bytes) = refl
+  pub reply-stored : (q : Request) → replyStored tb c q ≡ storedOutcome (player.reply tb (view c) q)
+  reply-stored q = go (tableRefusal tb) refl
+    where
+      go : (n : ℕ) → tableRefusal tb ≡ n → replyStored tb c q ≡ storedOutcome (player.reply tb (view c) q)
+      go zero e = good-stored e q
+      go (suc n) e = bad-stored n e q
 
-  -- ---- refused at its entry
+  -- ---- the session after it
 
-  abbrev Refused : Request → ℕ → Type 0
-  Refused q n = reply tb (view c) q ≡ outcome (view c) (refused n)
+  reply-sound : tableRefusal tb ≡ 0 → (q : Request) → Sound tb (player.reply tb (view c) q .session)
+  unfolding player.reply
+  reply-sound e unplayable = sound-view tb c (p .sound e)
+  reply-sound e (asks k) = call-sound tb e (view c) (sound-view tb c (p .sound e)) k
 
-  call-refused : (k : Call) (n j : ℕ) → tableRefusal tb ≡ j → firstOf j (refusal (entryChecks tb (c .n) k)) ≡ suc n → Refused (asks k) (suc n)
-  unfolding reply call refusalOf
-  call-refused k n zero ok e =
-      settled tb ok (view c) (sound-view tb c (p .sound ok)) k
-      ∙ ap (λ (m : ℕ). settle m (view c) (done tb (view c) k))
-      (ap refusal (own-split k) ∙ refusal-append-refused n (entryChecks tb (c .n) k) (rest k) e)
-  call-refused k n (suc j) bad e =
-      ap (λ (m : ℕ). settle m (view c) (done tb (view c) k))
-      (checks-bad-table tb j (sound tb (view c)) (ownChecks tb (view c) k) bad ∙ e)
+  bad-kept : (n : ℕ) → tableRefusal tb ≡ suc n → (q : Request) → player.reply tb (view c) q .session ≡ view c
+  unfolding player.reply call refusalOf
+  bad-kept n e unplayable = refl
+  bad-kept n e (asks k) =
+      ap (λ (m : ℕ). settle m (view c) (done tb (view c) k) .session)
+      (checks-bad-table tb n (sound tb (view c)) (ownChecks tb (view c) k) e)
 
-  pub entry-refused : (q : Request) (n : ℕ) → entryRefusal tb (c .n) q ≡ n → (n ≡ 0 → ⊥) → Refused q n
-  unfolding entryRefusal reply
-  entry-refused q zero e f = absurd (f refl)
-  entry-refused unplayable (suc n) e f = ap (λ (m : ℕ). outcome (view c) (refused m)) e
-  entry-refused (asks k) (suc n) e f = call-refused k n (tableRefusal tb) refl e
+  pub reply-playable : (q : Request) → Playable tb (replyStored tb c q .session) × Sized (replyStored tb c q .session)
+  reply-playable q = rw (reply-stored q) (go (tableRefusal tb) refl)
+    where
+      u : State ℕ
+      u = player.reply tb (view c) q .session
 
-  -- ---- passed
+      go : (n : ℕ) → tableRefusal tb ≡ n → Playable tb (hold u) × Sized (hold u)
+      go zero e = let h = reply-sound e q in (sound-playable tb u h, sound-sized tb u h)
+      go (suc n) e = rw (bad-kept n e q, same) (p, z)
 
-  step-settled : (n : ℕ) (s : State ℕ) → stored (settle n (view c) s) ≡ settleRoom n c s
-  unfolding lookAt
-  step-settled zero s = refl
-  step-settled (suc n) s = ap (λ (d : Session). record { refusal = suc n; session = d }) same
+  pub reply-session : (q : Request) → view (replyStored tb c q .session) ≡ player.reply tb (view c) q .session
+  reply-session q = ap (λ (r : Reply). view (r .session)) (reply-stored q) ∙ view-hold (player.reply tb (view c) q .session)
 
-  module _ (k : Call) (e : entryRefusal tb (c .n) (asks k) ≡ 0) where
-    pub passed : (tableRefusal tb ≡ 0) × (refusal (entryChecks tb (c .n) k) ≡ 0)
-    passed = entry-none tb (c .n) k e
-
-    pub passed-ready : Ready tb c
-    passed-ready = record { good = passed .0; sound = p .sound (passed .0) }
-
-    -- with the checks of a start
-    pub passed-startable : (b w : ℕ) → entryChecks tb (c .n) k ≡ startEntry tb (c .n) b w → Startable tb c b
-    passed-startable b w f =
-        let h = start-entered tb (c .n) b w (sym (ap refusal f) ∙ passed .1) in
-        record { ready = passed-ready; known = h .known; some = h .some }
-
-    pub step-passed : stepOf tb c (asks k) ≡ settleRoom (refusal (rest k)) c (done tb (view c) k)
-    unfolding stepOf reply
-    step-passed =
-        ap stored (settled tb (passed .0) (view c) (sound-view tb c (p .sound (passed .0))) k
-        ∙ ap (λ (m : ℕ). settle m (view c) (done tb (view c) k))
-        (ap refusal (own-split k) ∙ refusal-append-passed (entryChecks tb (c .n) k) (rest k) (entry-numbers tb (c .n) k) (passed .1)))
-        ∙ step-settled (refusal (rest k)) (done tb (view c) k)
-
-  pub back-ready : entryRefusal tb (c .n) (asks back) ≡ 0 → Ready tb c × (1 ≤ c .n)
-  back-ready e = (passed-ready back e, back-entered tb (c .n) (entry-none tb (c .n) back e .1))
-
-  abbrev Accepted : Call → Session → Type 0
-  Accepted k d = stepOf tb c (asks k) ≡ record { refusal = 0; session = d }
-
-  pub step-launch : entryRefusal tb (c .n) (asks launch) ≡ 0 → Accepted launch (hold (launched tb))
-  unfolding done
-  step-launch e = step-passed launch e ∙ rw refusal-none
-
-  pub step-back : entryRefusal tb (c .n) (asks back) ≡ 0 → Accepted back (hold (backed (view c)))
-  unfolding done
-  step-back e = step-passed back e ∙ rw refusal-none
-
-  pub step-look : entryRefusal tb (c .n) (asks look) ≡ 0 → Accepted look c
-  unfolding done
-  step-look e = step-passed look e ∙ rw (refusal-none, same)
-
-  module _ (b w : ℕ) where
-    pub startable : entryRefusal tb (c .n) (asks (start b w)) ≡ 0 → Startable tb c b
-    unfolding entryChecks
-    startable e = passed-startable (start b w) e b w refl
-
-    pub finishable : entryRefusal tb (c .n) (asks (finishingStart b w)) ≡ 0 → Startable tb c b
-    unfolding entryChecks
-    finishable e = passed-startable (finishingStart b w) e b w refl
-
-    pub step-start : entryRefusal tb (c .n) (asks (start b w)) ≡ 0 → stepOf tb c (asks (start b w)) ≡ startStored tb c b (flagsOf w)
-    unfolding done started startStored
-    step-start e = step-passed (start b w) e
-
-    pub step-finish : entryRefusal tb (c .n) (asks (finishingStart b w)) ≡ 0 → stepOf tb c (asks (finishingStart b w)) ≡ finishStored tb c b (flagsOf w)
-    unfolding done finished finishStored
-    step-finish e = step-passed (finishingStart b w) e
+  pub reply-answer : (q : Request) → replyStored tb c q .answer ≡ player.reply tb (view c) q .answer
+  reply-answer q = ap (λ (r : Reply). r .answer) (reply-stored q)

@@ -4,7 +4,6 @@ use Prim.Native.Nat.{ℕ, _+_, _*_, _/_, _≤_, min}
 use mathlib.Core.Path.{_≡_}
 use mathlib.Core.List.{List}
 use lib.ListN.{length, getD, take}
-use Rattle.model.specs.Flags.{flagsOf}
 use Rattle.model.specs.Player.{Record, recordsIn, textOf, sessionAfter}
 use Rattle.session.specs.declared.Session.{Session}
 use Rattle.flags.specs.Words.{wordAt}
@@ -28,7 +27,7 @@ bytesOf input rs = min (length input) (6 * length rs)
 
 -- the fields of that record: "kind .., screen, flag word high byte first"
 abbrev pub fieldsAt : List ℕ → ℕ → Fields
-fieldsAt l p = record { kind = getD l p 0; screen = getD l (p + 1) 0; word = wordAt l p; flags = flagsOf (wordAt l p) }
+fieldsAt l p = record { kind = getD l p 0; screen = getD l (p + 1) 0; word = wordAt l p }
 
 -- what playing the records rs from the session c gives
 pub record Plays (tb : List ℕ) (c : Session) (rs : List Record) (out out′ : List ℕ) (r : Played) : Type 0 where

@@ -1,39 +1,56 @@
--- What can be played on; and the checks of a record, which read no more of the session than the number of tasks.
-use Prim.Native.Nat.{ℕ, zero, suc}
+-- What can be played on; and the plan of a record.
+use Prim.Native.Nat.{ℕ}
 use mathlib.Core.Path.{_≡_}
-use mathlib.Core.Bool.{true, not}
-use mathlib.Core.List.{List, [], _∷_}
+use mathlib.Core.Bool.{Bool, true, false, _||_}
+use mathlib.Core.List.{List}
 use lib.Dec.{eqb}
-use Rattle.model.specs.Refusals.{Check, check, refusal}
 use Rattle.model.specs.Table.{tableRefusal}
-use Rattle.model.specs.Calls.{Call, launch, start, finishingStart, back, look, restore}
+use Rattle.model.specs.Answers.{refused}
+use Rattle.model.specs.Calls.{launch, start, finishingStart, back, look, restore}
 use Rattle.model.specs.Player.{Request, unplayable, asks}
 use Rattle.session.specs.declared.Session.{Session}
-use Rattle.session.specs.Stored.{storageBlank, soundStored}
-use Rattle.rules.specs.Starts.{startEntry}
+use Rattle.session.specs.declared.Task.{Task}
+use Rattle.session.specs.Stored.{storageBlank, soundStored, Ready}
+use Rattle.plans.specs.declared.Plan.{Plan}
+use Rattle.plans.specs.Plans.{stillOf}
+use Rattle.starts.specs.declared.Sought.{Sought}
+use Rattle.starts.specs.Steps.{noneSought, SoughtFrom, Planned, planStored}
+use Rattle.calls.specs.declared.Reply.{Reply}
+use Rattle.calls.specs.StoredCalls.{reply, callStored}
+use Rattle.calls.specs.CallPlans.{launchPlan, backPlan}
 
 -- storage beyond what stands in it holds 0; and under a table that is not refused the session is sound
 pub record Playable (tb : List ℕ) (c : Session) : Type 0 where
   pub blank : storageBlank c ≡ true
   pub sound : tableRefusal tb ≡ 0 → soundStored tb c ≡ true
 
--- ---- checks
+-- what a record gives on a stored session: "Refusal 9 comes before all checks of the call"
+abbrev pub replyStored : List ℕ → Session → Request → Reply
+replyStored tb c unplayable = reply c (refused 9)
+replyStored tb c (asks k) = callStored tb c k
 
--- the checks named for a call, but for 23 and 24, where n tasks stand. No record asks for a restore.
-unfoldable pub entryChecks : List ℕ → ℕ → Call → List Check
-entryChecks tb n launch = check 22 (not (eqb n 0)) ∷ []
-entryChecks tb n (start b w) = startEntry tb n b w
-entryChecks tb n (finishingStart b w) = startEntry tb n b w
-entryChecks tb n back = check 21 (eqb n 0) ∷ []
-entryChecks tb n look = []
-entryChecks tb n (restore bytes) = []
+-- ---- its plan
 
--- the first of two refusals, where 0 is none
-abbrev pub firstOf : ℕ → ℕ → ℕ
-firstOf zero k = k
-firstOf (suc j) k = suc j
+-- "2 start, 3 finishing start"
+abbrev pub isStart : ℕ → Bool
+isStart kind = eqb kind 2 || eqb kind 3
 
--- "Refusal 9 comes before all checks of the call"; then the table's, and those of the call
-unfoldable pub entryRefusal : List ℕ → ℕ → Request → ℕ
-entryRefusal tb n unplayable = 9
-entryRefusal tb n (asks k) = firstOf (tableRefusal tb) (refusal (entryChecks tb n k))
+-- a start seeks a task, any other record does not; k is the refusal of the table
+abbrev pub SoughtFor : Bool → List ℕ → Session → ℕ → ℕ → ℕ → Sought → Type 0
+SoughtFor true tb c b w k x = SoughtFrom tb c b w k x
+SoughtFor false tb c b w k x = x ≡ noneSought k
+
+-- what planning relies on: where nothing refused so far, the session is sound; for a start t is the task that it sought
+abbrev pub PlannedFor : Bool → List ℕ → Session → ℕ → ℕ → Task → Sought → Type 0
+PlannedFor true tb c b w t x = (x .number ≡ 0 → Ready tb c) × Planned tb c b w t x
+PlannedFor false tb c b w t x = (x .number ≡ 0 → Ready tb c) × Unit {0}
+
+-- the plan of what a record asks for, by the refusal k so far. No record asks for a restore.
+unfoldable pub planFor : ℕ → List ℕ → Session → Request → Plan
+planFor k tb c unplayable = stillOf c 9
+planFor k tb c (asks launch) = launchPlan k tb c
+planFor k tb c (asks (start b w)) = planStored k tb c b w false
+planFor k tb c (asks (finishingStart b w)) = planStored k tb c b w true
+planFor k tb c (asks back) = backPlan k c
+planFor k tb c (asks look) = stillOf c k
+planFor k tb c (asks (restore bytes)) = stillOf c k

@@ -30,6 +30,11 @@ or-first (suc k) j n = refl
 pub or-second : (k j : ℕ) → k ≡ 0 → j ≡ orElse k j
 or-second k j e = rw e
 
+-- neither refuses
+pub or-none : (k j : ℕ) → orElse k j ≡ 0 → (k ≡ 0) × (j ≡ 0)
+or-none zero j e = (refl, e)
+or-none (suc k) j e = absurd (omega arith)
+
 -- ---- sought
 
 module _ (tb : List ℕ) (c : Session) (b w k : ℕ) where
@@ -78,10 +83,14 @@ unless-refused (suc k) c p n = refl
 pub unless-passed : (k : ℕ) (c : Session) (p : Plan) → k ≡ 0 → p ≡ planUnless k c p
 unless-passed k c p e = rw e
 
+-- by a number that was found
+pub unless-found : {n k : ℕ} (c : Session) (p : Plan) → n ≡ k → (n ≡ 0 → ⊥) → stillOf c n ≡ planUnless k c p
+unless-found {n} {k} c p e f = rw e (unless-refused k c p (λ z. f (e ∙ z)))
+
 module _ (tb : List ℕ) (c : Session) (b w k : ℕ) (passed : k ≡ 0) (fin : Bool) where
   -- refused for want of room
   pub planned-full : (n : ℕ) → n ≡ roomRefusal tb c b (flagsOf w) → (n ≡ 0 → ⊥) → stillOf c n ≡ planStored k tb c b w fin
-  planned-full n e f = rw e (unless-refused (roomRefusal tb c b (flagsOf w)) c _ (λ z. f (e ∙ z))) ∙ unless-passed k c _ passed
+  planned-full n e f = unless-found c _ e f ∙ unless-passed k c _ passed
 
   module _ {j : ℕ} {x : Chosen} (chooses : Chooses tb c b (flagsOf w) j x) where
     chosen-is : x ≡ chosenStored tb c b (flagsOf w)

@@ -49,7 +49,7 @@ pub struct Sought {
 }
 
 // Nothing is sought where the start is refused.
-fn none_sought(number: u8) -> Sought
+pub fn none_sought(number: u8) -> Sought
     ensures { λ r. ⌜ r ≡ noneSought number ⌝ }
 {
     Sought {

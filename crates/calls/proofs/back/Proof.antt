@@ -2,6 +2,7 @@
 use borrow.Author.Needs.{needs}
 use Rattle.model.specs.Calls.{back}
 use Rattle.session.proofs.Known.{Sized, sized}
+use Rattle.calls.specs.StoredCalls.{callStored}
 use Rattle.calls.proofs.PlanSettling.{Gives, back-gives, back-plans}
 use Rattle.calls.proofs.back.Statement.{statement}
 use Rattle.calls.proofs.back.Tie as tie
@@ -9,20 +10,18 @@ use Rattle.calls.proofs.back.Tie as tie
 sizes : (c : tie.Start) → Sized (c .args .s)
 sizes c = sized (c .args .s) _ (c .good .1 .0)
 
-back-refusal-requires : tie.Need-back-refusal-requires
-back-refusal-requires c κs = search needs
-
 back-plan-requires : tie.Need-back-plan-requires
 back-plan-requires c κs =
+    let start = c .before in
+    let a = start .args in
+    back-plans (a .table .now) (a .s) (sizes start) (a .shared) (start .pre)
+
+gives : (c : tie.After-back-plan)
+    → let a = c .before .before .args in Gives (a .s) (c .back-plan .result) (callStored (a .table .now) (a .s) back)
+gives c =
     let start = c .before .before in
     let a = start .args in
-    λ e. back-plans (a .table .now) (a .s) (sizes start) (a .shared) (start .pre) (c .back-refusal .result) (c .back-refusal .ensures) e
-
-gives : (c : tie.After-back-plan) → let a = c .before .before .before .args in Gives (a .table .now) (a .s) back (c .back-plan .result)
-gives c =
-    let start = c .before .before .before in
-    let a = start .args in
-    rw (c .back-plan .ensures, c .before .back-refusal .ensures) (back-gives (a .table .now) (a .s) (sizes start) (a .shared) (start .pre))
+    rw (c .back-plan .ensures) (back-gives (a .table .now) (a .s) (sizes start) (a .shared) (start .pre))
 
 element-copy-out-second : tie.Need-element-copy-out-second
 element-copy-out-second c = search needs
@@ -37,4 +36,4 @@ returns : tie.Need-returns
 returns c = rw (c .put .ensures, c .before .answer-of .ensures) (gives (c .before .before .before) .gives)
 
 pub back-spec : {M : Type 1} → statement M
-back-spec = tie.close (tie.spec back-refusal-requires back-plan-requires element-copy-out-second answer-of-requires put-requires returns)
+back-spec = tie.close (tie.spec back-plan-requires element-copy-out-second answer-of-requires put-requires returns)

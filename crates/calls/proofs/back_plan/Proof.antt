@@ -1,25 +1,38 @@
 -- `calls::back_plan` meets its contract: refused, or the top screen of the front task closes.
-use mathlib.Core.Path.{_∙_}
+use mathlib.Core.Path.{_≡_, sym, _∙_}
 use borrow.Author.Needs.{needs}
-use Rattle.starts.proofs.Seeking.{unless-refused, unless-passed}
+use Rattle.starts.proofs.Seeking.{or-none, unless-found, unless-passed}
+use Rattle.calls.specs.CallPlans.{backRefusal}
+use Rattle.calls.proofs.PlanSettling.{back-some}
 use Rattle.calls.proofs.back_plan.Statement.{statement}
 use Rattle.calls.proofs.back_plan.Tie as tie
+
+first-refusal-requires : tie.Need-first-refusal-requires
+first-refusal-requires c κs = search needs
 
 still-requires : tie.Need-still-requires
 still-requires c κs = search needs
 
 returns : tie.Need-returns
-returns c = let a = c .before .before .args in c .still .ensures ∙ unless-refused (a .number) (a .t1) _ (c .before .if1 .taken)
+returns c = c .still .ensures ∙ unless-found _ _ (c .before .before .first-refusal .ensures) (c .before .if1 .taken)
 
 element-copy-out-front : tie.Need-element-copy-out-front
 element-copy-out-front c = search needs
 
+-- neither check refuses
+passed : (c : tie.Else1) → let a = c .before .before .args in (a .shared ≡ 0) × (backRefusal (a .t1) ≡ 0)
+passed c = or-none _ _ (sym (c .before .first-refusal .ensures) ∙ c .if1 .left)
+
 closing-plan-requires : tie.Need-closing-plan-requires
-closing-plan-requires c κs = c .before .before .pre (c .before .if1 .left)
+closing-plan-requires c κs =
+    let start = c .before .before .before in
+    let (shared, own) = passed (c .before) in
+    let some = back-some (start .args .t1 .n) own in
+    (start .pre shared some, some)
 
 returns-2 : tie.Need-returns-2
 returns-2 c =
-    let a = c .before .before .before .args in c .closing-plan .ensures ∙ unless-passed (a .number) (a .t1) _ (c .before .before .if1 .left)
+    c .closing-plan .ensures ∙ unless-passed _ _ _ (sym (c .before .before .before .first-refusal .ensures) ∙ c .before .before .if1 .left)
 
 pub back-plan-spec : {M : Type 1} → statement M
-back-plan-spec = tie.close (tie.spec still-requires returns element-copy-out-front closing-plan-requires returns-2)
+back-plan-spec = tie.close (tie.spec first-refusal-requires still-requires returns element-copy-out-front closing-plan-requires returns-2)

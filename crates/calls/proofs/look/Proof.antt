@@ -16,8 +16,8 @@ returns c =
     let a = start .args in
     c .refuse .ensures ∙ sym (call-refused (a .table .now) (a .s) look (a .shared) (sym (start .pre)) (c .before .if1 .taken))
 
-accept-requires : tie.Need-accept-requires
-accept-requires c κs =
+look-at-requires : tie.Need-look-at-requires
+look-at-requires c κs =
     let start = c .before .before in
     let a = start .args in
     ready-seen (a .table .now) (a .s) (sized (a .s) _ (start .good .1 .0)) (shared-ready (a .table .now) (a .s) (sym (start .pre) ∙ c .if1 .left))
@@ -26,8 +26,8 @@ returns-2 : tie.Need-returns-2
 returns-2 c =
     let start = c .before .before .before in
     let a = start .args in
-    c .accept .ensures
-    ∙ sym (look-settled (a .table .now) (a .s) (sized (a .s) _ (start .good .1 .0)) (shared-ready (a .table .now) (a .s) (sym (start .pre) ∙ c .before .if1 .left)))
+    rw (c .look-at .ensures)
+    (sym (look-settled (a .table .now) (a .s) (sized (a .s) _ (start .good .1 .0)) (shared-ready (a .table .now) (a .s) (sym (start .pre) ∙ c .before .if1 .left))))
 
 pub look-spec : {M : Type 1} → statement M
-look-spec = tie.close (tie.spec refuse-requires returns accept-requires returns-2)
+look-spec = tie.close (tie.spec refuse-requires returns look-at-requires returns-2)

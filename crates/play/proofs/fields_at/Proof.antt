@@ -18,11 +18,8 @@ add-t7 c = search needs
 shared-slice-read-t9 : tie.Need-shared-slice-read-t9
 shared-slice-read-t9 c = search needs
 
-read-requires : tie.Need-read-requires
-read-requires c κs = search needs
-
 returns : tie.Need-returns
-returns c = rw (c .read .ensures, c .before .before .before .word-at .ensures)
+returns c = rw (c .before .before .word-at .ensures)
 
 pub fields-at-spec : {M : Type 1} → statement M
 fields-at-spec =
@@ -33,5 +30,4 @@ fields-at-spec =
     shared-slice-read-t6
     add-t7
     shared-slice-read-t9
-    read-requires
     returns)

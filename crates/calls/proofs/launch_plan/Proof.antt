@@ -1,0 +1,63 @@
+-- `calls::launch_plan` meets its contract: refused, or a new task of the main screen.
+use Prim.Native.Nat.{ℕ}
+use mathlib.Core.Path.{_≡_, sym, _∙_, ap}
+use native.Mathlib.Omega.{arith}
+use borrow.Author.Needs.{needs}
+use Rattle.model.specs.declared.Mark.{Mark}
+use Rattle.model.specs.Table.{tableRefusal}
+use Rattle.model.proofs.Tables.{good-shaped}
+use Rattle.starts.proofs.Seeking.{or-none, unless-found, unless-passed}
+use Rattle.calls.proofs.launch_plan.Statement.{statement}
+use Rattle.calls.proofs.launch_plan.Tie as tie
+
+first-refusal-requires : tie.Need-first-refusal-requires
+first-refusal-requires c κs = search needs
+
+still-requires : tie.Need-still-requires
+still-requires c κs = search needs
+
+returns : tie.Need-returns
+returns c = c .still .ensures ∙ unless-found _ _ (c .before .before .first-refusal .ensures) (c .before .if1 .taken)
+
+main-screen-requires : tie.Need-main-screen-requires
+main-screen-requires c κs =
+    let start = c .before .before .before in
+    let shared = or-none _ _ (sym (c .before .first-refusal .ensures) ∙ c .if1 .left) .0 in
+    let g = good-shaped (start .args .table .now) (start .pre shared) in
+    omega arith
+
+element-copy-out-blank : tie.Need-element-copy-out-blank
+element-copy-out-blank c = search needs
+
+front-after-requires : tie.Need-front-after-requires
+front-after-requires c κs = search needs
+
+-- no screen is marked
+gone-stands : {A : Type 0} (i : ℕ) → Mark.Gone ≡ Mark.Stands 0 i → A
+gone-stands i e = absurd (let f : 0 ≡ 1 = ap stands e in omega (arith, f))
+  where
+    stands : Mark → ℕ
+    stands Mark.Gone = 0
+    stands (Mark.Stands k j) = 1
+
+closing-plan-requires : tie.Need-closing-plan-requires
+closing-plan-requires c κs = (λ i e. gone-stands i e, omega arith)
+
+returns-2 : tie.Need-returns-2
+returns-2 c =
+    c .closing-plan .ensures
+    ∙ rw (c .before .front-after .ensures, c .before .before .before .main-screen .ensures)
+    (unless-passed _ _ _ (sym (c .before .before .before .before .before .first-refusal .ensures) ∙ c .before .before .before .before .if1 .left))
+
+pub launch-plan-spec : {M : Type 1} → statement M
+launch-plan-spec =
+    tie.close
+    (tie.spec
+    first-refusal-requires
+    still-requires
+    returns
+    main-screen-requires
+    element-copy-out-blank
+    front-after-requires
+    closing-plan-requires
+    returns-2)
