@@ -19,15 +19,15 @@ use Rattle.session.proofs.Known.{Sized}
 use Rattle.session.proofs.StoredLaws.{held, sound-blank}
 use Rattle.answer.specs.Seen.{Seen}
 use Rattle.choice.specs.Startable.{Startable}
-use Rattle.rules.specs.Starts.{Started, startEntry, roomRefusal, startStored, finishStored, madeStored}
-use Rattle.rules.proofs.Entries.{start-numbers, start-split}
+use Rattle.starts.specs.Checks.{startEntry, roomRefusal}
+use Rattle.starts.proofs.Entries.{start-numbers, start-split}
 use Rattle.plans.specs.declared.Plan.{Plan}
 use Rattle.plans.specs.Puts.{putOf, Puttable}
 use Rattle.plans.specs.Plans.{taskAt, stillOf, keeps, closes, Opens}
 use Rattle.plans.specs.Shown.{answerFor, Showable, Uncovers}
 use Rattle.plans.proofs.Closes.{still-put, still-puttable, back-put, back-puttable, back-opens}
 use Rattle.plans.proofs.Answered.{showable, answers-look, refused-showable}
-use Rattle.starts.specs.Steps.{orElse, Makes, Plannable, chosenStored, roomyPlan, planUnless, planStored}
+use Rattle.starts.specs.Steps.{orElse, made, Plannable, chosenStored, roomyPlan, planUnless, planStored}
 use Rattle.starts.proofs.Planning.{start-put, start-puttable, start-uncovers, start-accepts}
 use Rattle.starts.proofs.Seeking.{entered-startable}
 use Rattle.calls.specs.declared.Reply.{Reply}
@@ -224,14 +224,11 @@ module _ (tb : List ℕ) (c : Session) (z : Sized c) (b w : ℕ) (fin : Bool) wh
       go zero e = sym (refusal-append-passed (startEntry tb (c .n) b w) (roomChecks (chosen tb (view c) b w) (view c)) (start-numbers tb (c .n) b w) e)
       go (suc n) e = sym (refusal-append-refused n (startEntry tb (c .n) b w) (roomChecks (chosen tb (view c) b w) (view c)) e)
 
-  -- the session that it makes where there is room
-  made-done : roomOf ≡ 0 → (d : Session) → Makes tb c b (flagsOf w) fin d → d ≡ hold (done tb (view c) does)
-  unfolding startStored finishStored done started finished
-  made-done room d m = ap (λ (x : Started). x .session) m ∙ go fin
-    where
-      go : (f : Bool) → madeStored f tb c b (flagsOf w) .session ≡ hold (done tb (view c) (startCall f b w))
-      go true = rw room
-      go false = rw room
+  -- the session that it makes
+  made-done : (f : Bool) → hold (made f tb c b (flagsOf w)) ≡ hold (done tb (view c) (startCall f b w))
+  unfolding done started finished
+  made-done true = refl
+  made-done false = refl
 
   start-makes : Ready tb c → orElse entry roomOf ≡ 0 → Makes-by tb c does (roomyPlan tb c b (flagsOf w) fin)
   start-makes h e = go entry refl e
@@ -246,7 +243,7 @@ module _ (tb : List ℕ) (c : Session) (z : Sized c) (b w : ℕ) (fin : Bool) wh
             accepted = start-accepts z s ok fin;
             puttable = start-puttable z s ok fin;
             uncovers = start-uncovers z s ok fin;
-            makes = made-done room _ (start-put z s ok fin);
+            makes = start-put z s ok fin ∙ made-done fin;
           }
 
   pub start-gives : (m : ℕ) → m ≡ sharedRefusal tb c → {n : ℕ} → n ≡ orElse m entry → Gives c (planStored n tb c b w fin) (callStored tb c does)

@@ -1,2 +1,5 @@
+pub mod Entries
+pub mod StartLaws
+pub mod Picks
 pub mod Planning
 pub mod Seeking

@@ -1,7 +1,7 @@
 -- What a start's plan puts is what the start makes, and it can be put. First the session before the marked screen closes, then
 -- where that screen stands: in front, or on top of the second task, to which the front task went.
 use Prim.Native.Nat.{ℕ, zero, suc, pred, _≤_}
-use mathlib.Core.Path.{_≡_, refl, sym, _∙_, ap, subst}
+use mathlib.Core.Path.{_≡_, refl, sym, _∙_, ap}
 use mathlib.Core.Bool.{Bool, true, false}
 use mathlib.Core.List.{List, [], _∷_}
 use native.Mathlib.Omega.{arith}
@@ -29,16 +29,15 @@ use Rattle.deeds.proofs.Fronts.{shift-low}
 use Rattle.closing.specs.Closable.{Markable}
 use Rattle.closing.proofs.Closed.{screen-there}
 use Rattle.closing.proofs.Marked.{closable, closed-gone}
-use Rattle.rules.specs.Starts.{roomRefusal}
-use Rattle.rules.proofs.StartLaws.{start-accepted}
-use Rattle.rules.proofs.Picks.{Picked, picked-carriable, picked-put, picked-sized, picked-markable, picked-finished}
+use Rattle.starts.specs.Checks.{roomRefusal}
+use Rattle.starts.proofs.Picks.{Picked, picked-carriable, picked-put, picked-sized, picked-markable, picked-finished}
 use Rattle.plans.specs.declared.Plan.{Plan}
 use Rattle.plans.specs.Puts.{putOf, Puttable}
 use Rattle.plans.specs.Plans.{closes, Near, Opens}
 use Rattle.plans.specs.Shown.{Uncovers}
 use Rattle.plans.proofs.Closes.{putIn, plan-closes, plan-puttable}
 use Rattle.starts.specs.declared.Chosen.{Chosen}
-use Rattle.starts.specs.Steps.{taskAt, markOf, Makes, Plannable, planShift, planMark, planNext, startPlan}
+use Rattle.starts.specs.Steps.{taskAt, markOf, made, Plannable, planShift, planMark, planNext, startPlan}
 
 -- ---- where a marked screen may stand
 
@@ -151,15 +150,12 @@ module _ {tb : List ℕ} {c : Session} {b : ℕ} {f : Flags} (z : Sized c) (h : 
       go true = markable .marked
       go false = tt
 
-  put-makes : Makes tb c b f fin (hold (closeAt mark (view put)))
+  put-makes : hold (closeAt mark (view put)) ≡ hold (made fin tb c b f)
   put-makes = go fin
     where
-      go : (fin : Bool) → Makes tb c b f fin (hold (closeAt (markOf fin (x .deed) (x .place) isB) (view put)))
+      go : (fin : Bool) → hold (closeAt (markOf fin (x .deed) (x .place) isB) (view put)) ≡ hold (made fin tb c b f)
       go true = picked-finished z h room picks put-started refl refl
-      go false =
-          ap (λ (s : Session). record { refusal = 0; session = s })
-          (sym (closed-gone put put-sized put-blank {m = Mark.Gone} refl) ∙ put-started)
-          ∙ sym (start-accepted tb c b f z h room)
+      go false = sym (closed-gone put put-sized put-blank {m = Mark.Gone} refl) ∙ put-started
 
   -- ---- the mark
 
@@ -177,9 +173,8 @@ module _ {tb : List ℕ} {c : Session} {b : ℕ} {f : Flags} (z : Sized c) (h : 
   abbrev plan : Plan
   plan = startPlan fin b c t x
 
-  pub start-put : Makes tb c b f fin (putOf c plan)
-  start-put =
-      subst (Makes tb c b f fin) (sym (plan-closes c next shift _ _ put-sized put-blank mark (stands .0) put-marked _ _ refl same)) put-makes
+  pub start-put : putOf c plan ≡ hold (made fin tb c b f)
+  start-put = plan-closes c next shift _ _ put-sized put-blank mark (stands .0) put-marked _ _ refl same ∙ put-makes
 
   pub start-puttable : Puttable c plan
   start-puttable =

@@ -13,8 +13,8 @@ use Rattle.session.specs.Stored.{Ready}
 use Rattle.session.proofs.Known.{Sized}
 use Rattle.choice.specs.Startable.{Startable}
 use Rattle.choice.proofs.Tasks.{index-inside, index-stands}
-use Rattle.rules.specs.Starts.{startEntry, roomRefusal}
-use Rattle.rules.proofs.Entries.{start-entered}
+use Rattle.starts.specs.Checks.{startEntry, roomRefusal}
+use Rattle.starts.proofs.Entries.{start-entered}
 use Rattle.plans.specs.declared.Plan.{Plan}
 use Rattle.plans.specs.Plans.{stillOf}
 use Rattle.starts.specs.declared.Sought.{Sought}

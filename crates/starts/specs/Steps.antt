@@ -10,11 +10,12 @@ use Rattle.model.specs.declared.Found.{Found}
 use Rattle.model.specs.declared.Group.{Group}
 use Rattle.model.specs.declared.Mark.{Mark}
 use Rattle.model.specs.Refusals.{refusal}
-use Rattle.model.specs.Session.{top}
+use Rattle.model.specs.Session.{State, top}
 use Rattle.model.specs.Flags.{flagsOf}
 use Rattle.model.specs.Search.{placeOf}
 use Rattle.model.specs.Rules.{groupOf, soughtBy, choose}
 use Rattle.model.specs.Deeds.{deedOf}
+use Rattle.model.specs.Calls.{startedBy, finishedBy}
 use Rattle.model.specs.Marks.{markAfter}
 use Rattle.session.specs.declared.Session.{Session}
 use Rattle.session.specs.declared.Task.{Task}
@@ -22,7 +23,7 @@ use Rattle.session.specs.Stored.{view, viewTask}
 use Rattle.choice.specs.Shows.{indexOf}
 use Rattle.choice.specs.Startable.{Startable}
 use Rattle.deeds.specs.Fronted.{shiftOf, frontAfter, countAfter, mainAfter}
-use Rattle.rules.specs.Starts.{startEntry, roomRefusal, madeStored}
+use Rattle.starts.specs.Checks.{startEntry, roomRefusal}
 use Rattle.plans.specs.declared.Plan.{Plan}
 use Rattle.plans.specs.Plans as plans
 use Rattle.plans.specs.Plans.{stillOf, closes}
@@ -118,6 +119,7 @@ planStored k tb c b w finishing =
 abbrev pub Planned : List ℕ → Session → ℕ → ℕ → Task → Sought → Type 0
 Planned tb c b w t x = x .number ≡ 0 → Startable tb c b × (Seeks tb c b (flagsOf w) x × (t ≡ taskAt c (x .index)))
 
--- the session d is the one that the start makes
-abbrev pub Makes : List ℕ → Session → ℕ → Flags → Bool → Session → Type 0
-Makes tb c b f finishing d = record { refusal = 0; session = d } ≡ madeStored finishing tb c b f
+-- the session that a finishing start, or a start, makes where there is room
+abbrev pub made : Bool → List ℕ → Session → ℕ → Flags → State ℕ
+made true tb c b f = finishedBy (choose tb (view c) b f) b (view c)
+made false tb c b f = startedBy (choose tb (view c) b f) b (view c)

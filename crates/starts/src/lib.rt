@@ -7,7 +7,7 @@ ghost use Rattle.model.specs.Table.{tableRefusal};
 ghost use Rattle.model.specs.Refusals.{refusal as refusalOf};
 ghost use Rattle.session.specs.Stored.{Ready};
 ghost use Rattle.choice.specs.Startable.{Startable};
-ghost use Rattle.rules.specs.Starts.{startEntry};
+ghost use Rattle.starts.specs.Checks.{startEntry};
 ghost use Rattle.starts.specs.Steps.{taskAt, noneSought, Seeks, SoughtFrom, Chooses, markOf, Plannable, startPlan, Planned, planStored};
 use model::Deed;
 use model::Flags;

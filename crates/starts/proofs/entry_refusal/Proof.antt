@@ -7,7 +7,7 @@ use borrow.Author.Needs.{needs}
 use Rattle.model.specs.Table.{sizeOf}
 use Rattle.model.specs.Flags.{hasOtherBit}
 use Rattle.model.proofs.Tables.{good-shaped}
-use Rattle.rules.proofs.Entries.{start-3, start-4, start-21, start-0}
+use Rattle.starts.proofs.Entries.{start-3, start-4, start-21, start-0}
 use Rattle.starts.proofs.entry_refusal.Statement.{statement}
 use Rattle.starts.proofs.entry_refusal.Tie as tie
 

@@ -11,8 +11,8 @@ use Rattle.choice.specs.Shows.{indexOf}
 use Rattle.choice.proofs.Tasks.{task-filled}
 use Rattle.deeds.specs.Carriable.{Carriable}
 use Rattle.deeds.proofs.Fronts.{placed, main-low}
-use Rattle.rules.specs.Starts.{roomRefusal}
-use Rattle.rules.proofs.Picks.{Picked, picked-carriable, picked-changeable}
+use Rattle.starts.specs.Checks.{roomRefusal}
+use Rattle.starts.proofs.Picks.{Picked, picked-carriable, picked-changeable}
 use Rattle.starts.proofs.Planning.{closing-requires, plan-is}
 use Rattle.starts.proofs.start_plan.Statement.{statement}
 use Rattle.starts.proofs.start_plan.Tie as tie

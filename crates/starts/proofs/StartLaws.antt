@@ -1,17 +1,18 @@
 -- What a start on a sound session gives the functions that it calls: the choice's task is there, the deed finds room where
 -- no 23 or 24 is given, and a screen stands at the mark afterwards.
-use Prim.Native.Nat.{ℕ, zero, suc, _≤_}
-use mathlib.Core.Path.{_≡_, refl}
-use mathlib.Core.Bool.{Bool, true, false, _&&_}
+use Prim.Native.Nat.{ℕ, _≤_}
+use mathlib.Core.Path.{_≡_, ap}
+use mathlib.Core.Bool.{false, _&&_}
 use mathlib.Core.List.{List}
 use lib.Dec.{eqb}
+use lib.ListN.{getD}
 use Rattle.model.specs.declared.Choice.{Choice}
 use Rattle.model.specs.declared.Flags.{Flags}
-use Rattle.model.specs.Session.{frontScreen, count, mostTasks}
+use Rattle.model.specs.Session.{frontScreen, top, count, mostTasks}
 use Rattle.model.specs.Search.{placeOf}
 use Rattle.model.specs.Rules.{choose}
 use Rattle.model.specs.Deeds.{deedOf}
-use Rattle.model.specs.Calls.{startedBy, makesTask, overfills}
+use Rattle.model.specs.Calls.{startedBy, finishedBy, makesTask, overfills}
 use Rattle.model.specs.Marks.{closeAt}
 use Rattle.model.proofs.RefusalLaws.{refusal-skip}
 use Rattle.model.proofs.Sound.{Sound}
@@ -19,14 +20,14 @@ use Rattle.model.proofs.Deeds.{Ready as DeedReady, carry-sound}
 use Rattle.model.proofs.Start.{choose-ready}
 use Rattle.model.proofs.Finish.{markOf, finished-by, marked-stands}
 use Rattle.session.specs.declared.Session.{Session}
-use Rattle.session.specs.Stored.{view, hold}
+use Rattle.session.specs.Stored.{view, viewTask, hold, noTask}
 use Rattle.session.proofs.Known.{Sized}
-use Rattle.session.proofs.StoredLaws.{view-hold, view-count, blank-few, sound-blank, sound-view, sound-fits, hold-blank, hold-sized}
+use Rattle.session.proofs.StoredLaws.{view-at, view-hold, view-count, blank-few, sound-blank, sound-view, sound-fits, hold-blank, hold-sized}
 use Rattle.choice.specs.Startable.{Startable}
 use Rattle.deeds.specs.Carriable.{Carriable}
 use Rattle.deeds.proofs.Carried.{carriable}
 use Rattle.closing.specs.Closable.{Markable}
-use Rattle.rules.specs.Starts.{roomRefusal, startStored, finishStored, madeStored}
+use Rattle.starts.specs.Checks.{roomRefusal}
 
 -- ---- a start
 
@@ -71,25 +72,11 @@ module _ (tb : List ℕ) (c : Session) (b : ℕ) (f : Flags) (z : Sized c) (h : 
           marked = rw (view-hold (startedBy chosen b (view c))) (marked-stands tb b f (view c) sound-v some);
         }
 
-    pub start-accepted : startStored tb c b f ≡ record { refusal = 0; session = hold (startedBy chosen b (view c)) }
-    unfolding startStored
-    start-accepted = rw room
+    -- a finishing start closes it
+    pub finish-closes : hold (finishedBy chosen b (view c))
+        ≡ hold (closeAt (markOf chosen b (view c)) (view (hold (startedBy chosen b (view c)))))
+    finish-closes = rw (view-hold (startedBy chosen b (view c)), finished-by tb b f (view c) sound-v some)
 
-    pub finish-accepted : finishStored tb c b f
-        ≡ record { refusal = 0; session = hold (closeAt (markOf chosen b (view c)) (view (hold (startedBy chosen b (view c))))) }
-    unfolding finishStored
-    finish-accepted = rw (room, view-hold (startedBy chosen b (view c)), finished-by tb b f (view c) sound-v some)
-
-  pub start-refused : (k : ℕ) → roomRefusal tb c b f ≡ k → (k ≡ 0 → ⊥) → startStored tb c b f ≡ record { refusal = k; session = c }
-  unfolding startStored
-  start-refused zero e n = absurd (n refl)
-  start-refused (suc k) e n = rw e
-
-  pub finish-refused : (k : ℕ) → roomRefusal tb c b f ≡ k → (k ≡ 0 → ⊥) → finishStored tb c b f ≡ record { refusal = k; session = c }
-  unfolding finishStored
-  finish-refused zero e n = absurd (n refl)
-  finish-refused (suc k) e n = rw e
-
-  pub made-refused : (finishing : Bool) (k : ℕ) → roomRefusal tb c b f ≡ k → (k ≡ 0 → ⊥) → madeStored finishing tb c b f ≡ record { refusal = k; session = c }
-  made-refused true = finish-refused
-  made-refused false = start-refused
+  -- the front screen as code reads it
+  pub front-top : frontScreen (view c) ≡ top (viewTask (getD (c .tasks) 0 noTask))
+  front-top = ap top (view-at c 0 (h .some))

@@ -18,7 +18,7 @@ use Rattle.session.specs.declared.Session.{Session}
 use Rattle.session.specs.Stored.{view, storageBlank}
 use Rattle.session.proofs.Known.{Sized}
 use Rattle.session.proofs.StoredLaws.{view-count, blank-few}
-use Rattle.rules.specs.Starts.{startEntry}
+use Rattle.starts.specs.Checks.{startEntry}
 
 pub refusal-none : refusal [] ≡ 0
 unfolding refusal

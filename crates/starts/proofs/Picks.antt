@@ -4,16 +4,14 @@ use Prim.Native.Nat.{ℕ}
 use mathlib.Core.Path.{_≡_, refl, sym, _∙_, ap}
 use mathlib.Core.List.{List}
 use lib.Dec.{eqb}
-use Rattle.model.specs.declared.Choice.{Choice}
 use Rattle.model.specs.declared.Deed.{Deed}
 use Rattle.model.specs.declared.Flags.{Flags}
 use Rattle.model.specs.declared.Found.{Found}
-use Rattle.model.specs.declared.Rule.{Rule}
 use Rattle.model.specs.Session.{top}
 use Rattle.model.specs.Search.{placeOf}
 use Rattle.model.specs.Rules.{choose}
 use Rattle.model.specs.Deeds.{deedOf}
-use Rattle.model.specs.Calls.{startedBy}
+use Rattle.model.specs.Calls.{startedBy, finishedBy}
 use Rattle.model.specs.Marks.{markAfter, closeAt}
 use Rattle.session.specs.declared.Session.{Session}
 use Rattle.session.specs.declared.Task.{Task}
@@ -29,9 +27,8 @@ use Rattle.deeds.specs.Fronted.{shiftOf, frontAfter, countAfter, mainAfter}
 use Rattle.deeds.specs.Rows.{shifted}
 use Rattle.deeds.proofs.Fronts.{changeable, carried}
 use Rattle.closing.specs.Closable.{Markable}
-use Rattle.rules.specs.Starts.{roomRefusal, finishStored}
-use Rattle.rules.proofs.LaunchLaws.{front-top}
-use Rattle.rules.proofs.StartLaws.{start-carriable, start-sized, start-markable, finish-accepted}
+use Rattle.starts.specs.Checks.{roomRefusal}
+use Rattle.starts.proofs.StartLaws.{start-carriable, start-sized, start-markable, finish-closes, front-top}
 
 -- ---- the task at the index of the task found is the one that the deed changes
 
@@ -54,15 +51,6 @@ pub record Picked (tb : List ℕ) (c : Session) (b : ℕ) (f : Flags) (k : ℕ) 
   pub index : k ≡ indexOf (choose tb (view c) b f .found)
   pub deed : d ≡ deedOf (choose tb (view c) b f .rule)
   pub place : p ≡ placeOf (choose tb (view c) b f .found)
-
-pub picked : {tb : List ℕ} {c : Session} {b : ℕ} {f : Flags} {r : Rule} {t : Found} → record { rule = r; found = t } ≡ choose tb (view c) b f
-    → {k : ℕ} → k ≡ indexOf t → {d : Deed} → d ≡ deedOf r → {p : ℕ} → p ≡ placeOf t → Picked tb c b f k d p
-picked e i g q =
-    record {
-      index = i ∙ ap (λ (x : Choice). indexOf (x .found)) e;
-      deed = g ∙ ap (λ (x : Choice). deedOf (x .rule)) e;
-      place = q ∙ ap (λ (x : Choice). placeOf (x .found)) e;
-    }
 
 -- where there is room
 module _ {tb : List ℕ} {c : Session} {b : ℕ} {f : Flags} (z : Sized c) (h : Startable tb c b) (room : roomRefusal tb c b f ≡ 0)
@@ -98,8 +86,8 @@ module _ {tb : List ℕ} {c : Session} {b : ℕ} {f : Flags} (z : Sized c) (h : 
 
   module _ {u : Session} (e : u ≡ hold (startedBy (choose tb (view c) b f) b (view c))) {a : ℕ} (g : a ≡ top (viewTask (storedAt c 0))) where
     pub picked-markable : Markable u d p (eqb b a)
-    picked-markable = rw (e, i .deed, i .place, g, ← front-top tb c z (h .ready) (h .some)) (start-markable tb c b f z h room)
+    picked-markable = rw (e, i .deed, i .place, g, ← front-top tb c b f z h) (start-markable tb c b f z h room)
 
-    pub picked-finished : {v : Session} → v ≡ hold (closeAt (markAfter d p (eqb b a)) (view u)) → record { refusal = 0; session = v } ≡ finishStored tb c b f
+    pub picked-finished : {v : Session} → v ≡ hold (closeAt (markAfter d p (eqb b a)) (view u)) → v ≡ hold (finishedBy (choose tb (view c) b f) b (view c))
     picked-finished q =
-        rw (q, e, i .deed, i .place, g, ← front-top tb c z (h .ready) (h .some)) (sym (finish-accepted tb c b f z h room))
+        rw (q, e, i .deed, i .place, g, ← front-top tb c b f z h) (sym (finish-closes tb c b f z h room))

@@ -1,4 +1,0 @@
-pub mod StartLaws
-pub mod LaunchLaws
-pub mod Picks
-pub mod Entries
