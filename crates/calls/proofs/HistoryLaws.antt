@@ -8,8 +8,8 @@ use Rattle.model.specs.declared.Answer.{Answer}
 use Rattle.model.specs.Refusals.{refusal}
 use Rattle.model.specs.Table.{tableRefusal}
 use Rattle.model.specs.Session.{State, fresh}
-use Rattle.model.specs.Answers.{Outcome, settle}
-use Rattle.model.specs.Calls.{Call, ownChecks, done, call}
+use Rattle.model.specs.Answers.{Outcome, outcome, settle}
+use Rattle.model.specs.Calls.{Call, ownChecks, done, answerTo, call}
 use Rattle.model.specs.Histories.{after, answers, AnswerAlike, byRules}
 use Rattle.model.proofs.Sound.{Sound}
 use Rattle.model.proofs.Keeps.{settled, fresh-sound, call-sound}
@@ -18,7 +18,7 @@ use Rattle.session.specs.Stored.{freshSession, view, hold, Ready}
 use Rattle.session.proofs.Known.{Sized}
 use Rattle.session.proofs.StoredLaws.{fresh-held, held, view-hold, hold-sound, sound-blank, sound-view}
 use Rattle.calls.specs.declared.Reply.{Reply}
-use Rattle.calls.specs.StoredCalls.{reply, settleStored, callStored, byProgram, KeepsSound}
+use Rattle.calls.specs.StoredCalls.{reply, callStored, byProgram, KeepsSound}
 use Rattle.calls.proofs.Settling.{call-settled, call-keeps}
 
 -- what a call gives, stored
@@ -41,11 +41,11 @@ module _ (tb : List ℕ) (ok : tableRefusal tb ≡ 0) where
   pub call-held : (v : State ℕ) → Sound tb v → (k : Call) → callStored tb (hold v) k ≡ storedOutcome (call tb v k)
   call-held v h k =
       call-settled tb (hold v) k (record { good = ok; sound = hold-sound tb v h })
-      ∙ ap (λ (u : State ℕ). settleStored (refusal (ownChecks tb u k)) (hold v) (done tb u k)) (view-hold v)
+      ∙ ap (λ (u : State ℕ). settle reply (refusal (ownChecks tb u k)) (hold v) (hold (done tb u k)) (answerTo tb u k)) (view-hold v)
       ∙ go (refusal (ownChecks tb v k))
       ∙ ap storedOutcome (sym (settled tb ok v h k))
     where
-      go : (n : ℕ) → settleStored n (hold v) (done tb v k) ≡ storedOutcome (settle n v (done tb v k))
+      go : (n : ℕ) → settle reply n (hold v) (hold (done tb v k)) (answerTo tb v k) ≡ storedOutcome (settle outcome n v (done tb v k) (answerTo tb v k))
       go zero = refl
       go (suc n) = refl
 

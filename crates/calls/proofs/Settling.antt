@@ -11,8 +11,9 @@ use Rattle.model.specs.Lists.{isEmpty}
 use Rattle.model.specs.Refusals.{Check, refusal}
 use Rattle.model.specs.Table.{tableRefusal, tableShaped, tableFilled}
 use Rattle.model.specs.Session.{Stack, State}
-use Rattle.model.specs.Answers.{lookAt, refused}
-use Rattle.model.specs.Calls.{Call, launch, back, look, checksIn, ownChecks, done}
+use Rattle.model.specs.declared.Answer.{Answer}
+use Rattle.model.specs.Answers.{lookAt, refused, answerBy, settle}
+use Rattle.model.specs.Calls.{Call, launch, back, look, checksIn, ownChecks, done, answerTo}
 use Rattle.model.proofs.RefusalLaws.{refusal-skip, refusal-passes, refusal-append-refused, checks-bad-table, checks-unsound, checks-own}
 use Rattle.model.proofs.Keeps.{done-sound}
 use Rattle.session.specs.declared.Session.{Session}
@@ -22,24 +23,20 @@ use Rattle.session.proofs.Known.{Sized}
 use Rattle.session.proofs.StoredLaws.{held, view-hold, view-count, hold-sound, hold-sized, sound-fits, sound-blank, blank-few, sound-view}
 use Rattle.answer.proofs.LookLaws.{sound-seen}
 use Rattle.calls.specs.declared.Reply.{Reply}
-use Rattle.calls.specs.StoredCalls.{reply, settleStored, settled, refusalStored, sharedRefusal, callStored, KeepsSound}
+use Rattle.calls.specs.StoredCalls.{reply, refusalStored, sharedRefusal, callStored, KeepsSound}
 
 -- ---- the answer, by the refusal
 
-pub settle-refused : (c : Session) (k : ℕ) → (k ≡ 0 → ⊥) → settled k c ≡ reply c (refused k)
-settle-refused c zero n = absurd (n refl)
-settle-refused c (suc k) n = refl
+pub answer-refused : (a : Answer) (k : ℕ) → (k ≡ 0 → ⊥) → answerBy k a ≡ refused k
+answer-refused a zero n = absurd (n refl)
+answer-refused a (suc k) n = refl
 
-pub settle-accepted : (c : Session) (k : ℕ) → k ≡ 0 → settled k c ≡ reply c (lookAt (view c))
-settle-accepted c k e = rw e
-
-pub settle-told : (c : Session) (k : ℕ) → reply c (settled k c .answer) ≡ settled k c
-settle-told c zero = refl
-settle-told c (suc k) = refl
+pub answer-accepted : (a : Answer) (k : ℕ) → k ≡ 0 → answerBy k a ≡ a
+answer-accepted a k e = rw e
 
 -- the call k on c left the session s, with the refusal n
 pub record Left (tb : List ℕ) (c : Session) (k : Call) (n : ℕ) (s : Session) : Type 0 where
-  pub settles : settled n s ≡ callStored tb c k
+  pub settles : reply s (answerBy n (lookAt (view s))) ≡ callStored tb c k
   pub seen : n ≡ 0 → Seen s
 
 -- ---- the shared checks
@@ -81,6 +78,10 @@ module _ (tb : List ℕ) (c : Session) where
   -- ---- calls
 
   module _ (k : Call) where
+    -- what the call gives by its refusal
+    abbrev pub settledBy : ℕ → Reply
+    settledBy n = settle reply n c (hold (done tb (view c) k)) (answerTo tb (view c) k)
+
     -- the number of a call that one of the shared checks refuses, and of one that they pass
     pub number-shared : (n : ℕ) → sharedRefusal tb c ≡ n → (n ≡ 0 → ⊥) → refusalStored tb c k ≡ n
     unfolding refusalStored sharedRefusal
@@ -95,12 +96,12 @@ module _ (tb : List ℕ) (c : Session) where
     pub call-refused : (n : ℕ) → sharedRefusal tb c ≡ n → (n ≡ 0 → ⊥) → callStored tb c k ≡ reply c (refused n)
     unfolding callStored
     call-refused zero e z = absurd (z refl)
-    call-refused (suc n) e z = ap (λ (r : ℕ). settleStored r c (done tb (view c) k)) (number-shared (suc n) e z)
+    call-refused (suc n) e z = ap settledBy (number-shared (suc n) e z)
 
     -- only the call's own checks are left
-    pub call-settled : Ready tb c → callStored tb c k ≡ settleStored (refusal (ownChecks tb (view c) k)) c (done tb (view c) k)
+    pub call-settled : Ready tb c → callStored tb c k ≡ settledBy (refusal (ownChecks tb (view c) k))
     unfolding callStored
-    call-settled h = ap (λ (r : ℕ). settleStored r c (done tb (view c) k)) (number-own h)
+    call-settled h = ap settledBy (number-own h)
 
     -- refused by any check, with its number
     pub call-numbered : (n : ℕ) → n ≡ refusalStored tb c k → (n ≡ 0 → ⊥) → callStored tb c k ≡ reply c (refused n)
@@ -113,7 +114,7 @@ module _ (tb : List ℕ) (c : Session) where
     call-keeps g e =
         rw (call-settled (record { good = g; sound = e })) (go (refusal (ownChecks tb (view c) k)) refl)
       where
-        go : (n : ℕ) → refusal (ownChecks tb (view c) k) ≡ n → soundStored tb (settleStored n c (done tb (view c) k) .session) ≡ true
+        go : (n : ℕ) → refusal (ownChecks tb (view c) k) ≡ n → soundStored tb (settledBy n .session) ≡ true
         go zero f = hold-sound tb (done tb (view c) k) (done-sound tb g (view c) (sound-view tb c e) k f)
         go (suc n) f = e
 
@@ -124,13 +125,13 @@ module _ (tb : List ℕ) (c : Session) where
     -- refused by a check of its own
     pub own-refused : Ready tb c → (n : ℕ) → refusal (ownChecks tb (view c) k) ≡ n → (n ≡ 0 → ⊥) → callStored tb c k ≡ reply c (refused n)
     own-refused h zero e z = absurd (z refl)
-    own-refused h (suc n) e z = call-settled h ∙ ap (λ (r : ℕ). settleStored r c (done tb (view c) k)) e
+    own-refused h (suc n) e z = call-settled h ∙ ap settledBy e
 
     -- accepted: the session that it makes, and a look at it
     pub own-accepted : Ready tb c → refusal (ownChecks tb (view c) k) ≡ 0
         → callStored tb c k ≡ reply (hold (done tb (view c) k)) (lookAt (view (hold (done tb (view c) k))))
     own-accepted h e =
-        call-settled h ∙ ap (λ (r : ℕ). settleStored r c (done tb (view c) k)) e
+        call-settled h ∙ ap settledBy e
         ∙ ap (λ (v : State ℕ). reply (hold (done tb (view c) k)) (lookAt v)) (sym (view-hold (done tb (view c) k)))
 
     -- which can be looked at
@@ -146,13 +147,13 @@ module _ (tb : List ℕ) (c : Session) where
 
     -- refused, the session as it was
     pub left-refused : (n : ℕ) → callStored tb c k ≡ reply c (refused n) → (n ≡ 0 → ⊥) → Left tb c k n c
-    left-refused n e z = record { settles = settle-refused c n z ∙ sym e; seen = λ q. absurd (z q) }
+    left-refused n e z = record { settles = ap (reply c) (answer-refused _ n z) ∙ sym e; seen = λ q. absurd (z q) }
 
     -- accepted, the session that it makes
     pub left-made : Ready tb c → refusal (ownChecks tb (view c) k) ≡ 0 → {n : ℕ} {d : Session} → n ≡ 0 → d ≡ hold (done tb (view c) k) → Left tb c k n d
     left-made h e {n} {d} z m =
         record {
-          settles = settle-accepted d n z ∙ rw m (sym (own-accepted h e));
+          settles = ap (reply d) (answer-accepted _ n z) ∙ rw m (sym (own-accepted h e));
           seen = λ q. rw m (own-seen h e);
         }
 

@@ -1,14 +1,13 @@
 -- Calls on stored sessions: what the program gives for each, refused or not.
-use Prim.Native.Nat.{ℕ, zero, suc}
+use Prim.Native.Nat.{ℕ}
 use mathlib.Core.Path.{_≡_}
 use mathlib.Core.Bool.{Bool, true, false}
 use mathlib.Core.List.{List, []}
 use Rattle.model.specs.declared.Answer.{Answer}
 use Rattle.model.specs.Refusals.{refusal}
 use Rattle.model.specs.Table.{tableRefusal}
-use Rattle.model.specs.Session.{State}
-use Rattle.model.specs.Answers.{lookAt, refused}
-use Rattle.model.specs.Calls.{Call, start, finishingStart, checksIn, ownChecks, done}
+use Rattle.model.specs.Answers.{settle}
+use Rattle.model.specs.Calls.{Call, start, finishingStart, checksIn, ownChecks, done, answerTo}
 use Rattle.model.specs.Histories.{Machine}
 use Rattle.session.specs.declared.Session.{Session}
 use Rattle.session.specs.Stored.{view, hold, soundStored}
@@ -16,11 +15,6 @@ use Rattle.calls.specs.declared.Reply.{Reply}
 
 abbrev pub reply : Session → Answer → Reply
 reply c a = record { session = c; answer = a }
-
--- a call with the refusal k (0 if none), on the stored session c, that would make the session v
-abbrev pub settleStored : ℕ → Session → State ℕ → Reply
-settleStored zero c v = reply (hold v) (lookAt v)
-settleStored (suc k) c v = reply c (refused (suc k))
 
 -- "The checks go in the order 1, 2, 20, then those named for the call."
 unfoldable pub refusalStored : List ℕ → Session → Call → ℕ
@@ -31,7 +25,7 @@ unfoldable pub sharedRefusal : List ℕ → Session → ℕ
 sharedRefusal tb c = refusal (checksIn tb (soundStored tb c) [])
 
 unfoldable pub callStored : List ℕ → Session → Call → Reply
-callStored tb c k = settleStored (refusalStored tb c k) c (done tb (view c) k)
+callStored tb c k = settle reply (refusalStored tb c k) c (hold (done tb (view c) k)) (answerTo tb (view c) k)
 
 -- the program's calls under the table tb, one after the other (document 01, "Lists in demand 3")
 abbrev pub byProgram : List ℕ → Machine Session Call Answer
@@ -41,11 +35,6 @@ byProgram tb = record { next = λ c k. callStored tb c k .session; answer = λ c
 abbrev pub startCall : Bool → ℕ → ℕ → Call
 startCall true b w = finishingStart b w
 startCall false b w = start b w
-
--- a call that left the session c, with the refusal k (0 if none)
-abbrev pub settled : ℕ → Session → Reply
-settled zero c = reply c (lookAt (view c))
-settled (suc k) c = reply c (refused (suc k))
 
 -- under a good table a sound session stays sound
 abbrev pub KeepsSound : List ℕ → Session → Session → Type 0

@@ -3,11 +3,12 @@
 
 ghost use mathlib.Core.Path.{_≡_};
 ghost use Rattle.model.specs.Lists.{if_then_else_};
+ghost use Rattle.model.specs.Answers.{lookAt, answerBy};
 ghost use Rattle.model.specs.Calls.{Call};
 ghost use Rattle.model.specs.Table.{tableRefusal};
-ghost use Rattle.session.specs.Stored.{soundStored, Ready};
+ghost use Rattle.session.specs.Stored.{view, soundStored, Ready};
 ghost use Rattle.answer.specs.Seen.{Seen};
-ghost use Rattle.calls.specs.StoredCalls.{sharedRefusal, settled, callStored};
+ghost use Rattle.calls.specs.StoredCalls.{sharedRefusal, callStored};
 ghost use Rattle.image_calls.specs.StoredSaves.{saved, saveStored};
 use calls::Reply;
 use model::Answer;
@@ -16,7 +17,7 @@ use session::Session;
 // The answer of a call that left this session: refused by this number, or by 0 accepted.
 fn told(number: u8, s: Session) -> Answer
     requires { ⌜ (number ≡ 0 → Seen s) ⌝ }
-    ensures { λ r. ⌜ r ≡ settled number s .answer ⌝ }
+    ensures { λ r. ⌜ r ≡ answerBy number (lookAt (view s)) ⌝ }
 {
     if number != 0 {
         return answer::refused(number);

@@ -46,7 +46,7 @@ module _ (tb : List ℕ) (ok : tableRefusal tb ≡ 0) where
 
   pub back-gives : (s : State ℕ) → Sound tb s → 1 ≤ count s → call tb s back ≡ outcome (backed s) (lookAt (backed s))
   unfolding ownChecks done refusal
-  back-gives s h some = settled tb ok s h back ∙ ap (λ (u : State ℕ). settle (refusal (ownChecks tb u back)) s (backed s)) (fronted tb s h some .is)
+  back-gives s h some = settled tb ok s h back ∙ ap (λ (u : State ℕ). settle outcome (refusal (ownChecks tb u back)) s (backed s) (lookAt (backed s))) (fronted tb s h some .is)
 
 -- ---- screens
 

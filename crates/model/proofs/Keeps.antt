@@ -8,9 +8,9 @@ use borrow.Author.Tests.{ltb-true, not-false}
 use Rattle.model.specs.Refusals.{refusal}
 use Rattle.model.specs.Table.{sizeOf, mainScreen, tableShaped, tableFilled, tableRefusal}
 use Rattle.model.specs.Session.{State, fresh, sound}
-use Rattle.model.specs.Answers.{settle}
+use Rattle.model.specs.Answers.{outcome, settle}
 use Rattle.model.specs.Image.{imageShaped, imageReadable, imageChecks, sessionIn}
-use Rattle.model.specs.Calls.{Call, launch, start, finishingStart, back, look, restore, launched, ownChecks, done, refusalOf, call}
+use Rattle.model.specs.Calls.{Call, launch, start, finishingStart, back, look, restore, launched, ownChecks, done, answerTo, refusalOf, call}
 use Rattle.model.specs.Histories.{after, byRules}
 use Rattle.model.proofs.Logic.{and-left}
 use Rattle.model.proofs.RefusalLaws.{refusal-skip, checks-own}
@@ -46,9 +46,9 @@ unfolding refusalOf
 refusal-own tb ok s h c = rw (sound-decides tb s .shows h) (checks-own tb (ownChecks tb s c) ok)
 
 pub settled : (tb : List ℕ) → tableRefusal tb ≡ 0 → (s : State ℕ) → Sound tb s → (c : Call)
-    → call tb s c ≡ settle (refusal (ownChecks tb s c)) s (done tb s c)
+    → call tb s c ≡ settle outcome (refusal (ownChecks tb s c)) s (done tb s c) (answerTo tb s c)
 unfolding call
-settled tb ok s h c = ap (λ (k : ℕ). settle k s (done tb s c)) (refusal-own tb ok s h c)
+settled tb ok s h c = ap (λ (k : ℕ). settle outcome k s (done tb s c) (answerTo tb s c)) (refusal-own tb ok s h c)
 
 -- ---- soundness
 
@@ -79,7 +79,7 @@ module _ (tb : List ℕ) (ok : tableRefusal tb ≡ 0) where
   pub call-sound : (s : State ℕ) → Sound tb s → (c : Call) → Sound tb (call tb s c .session)
   call-sound s h c = rw (settled tb ok s h c) (go (refusal (ownChecks tb s c)) refl)
     where
-      go : (n : ℕ) → refusal (ownChecks tb s c) ≡ n → Sound tb (settle n s (done tb s c) .session)
+      go : (n : ℕ) → refusal (ownChecks tb s c) ≡ n → Sound tb (settle outcome n s (done tb s c) (answerTo tb s c) .session)
       go zero e = done-sound s h c e
       go (suc k) e = h
 

@@ -33,8 +33,13 @@ pub record Outcome : Type 0 where
 abbrev pub outcome : State ℕ → Answer → Outcome
 outcome s a = record { session = s; answer = a }
 
--- a call with the refusal k (0 if none), the session before it and the session that it would make: "Session and
--- buffers are unchanged" where it is refused
-abbrev pub settle : ℕ → State ℕ → State ℕ → Outcome
-settle zero s s′ = outcome s′ (lookAt s′)
-settle (suc k) s s′ = outcome s (refused (suc k))
+-- the answer of a call with the refusal k (0 if none), which is a where it is accepted
+abbrev pub answerBy : ℕ → Answer → Answer
+answerBy zero a = a
+answerBy (suc k) a = refused (suc k)
+
+-- what a call gives, by its refusal k: the session s′ that it makes and the answer a, or the session s before it, "Session and
+-- buffers are unchanged". Sessions may be of any kind; `give` joins one with an answer.
+abbrev pub settle : {S R : Type 0} → (S → Answer → R) → ℕ → S → S → Answer → R
+settle give zero s s′ a = give s′ a
+settle give (suc k) s s′ a = give s (refused (suc k))

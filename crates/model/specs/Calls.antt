@@ -4,6 +4,7 @@ use mathlib.Core.Bool.{Bool, true, false, not, _&&_}
 use mathlib.Core.List.{List, [], _∷_, _++_, map}
 use lib.Dec.{ltb, eqb}
 use lib.ListN.{length, getD, drop}
+use Rattle.model.specs.declared.Answer.{Answer}
 use Rattle.model.specs.declared.Choice.{Choice}
 use Rattle.model.specs.declared.Change.{Change}
 use Rattle.model.specs.declared.Deed.{Deed}
@@ -15,7 +16,7 @@ use Rattle.model.specs.Flags.{flagsOf, hasOtherBit}
 use Rattle.model.specs.Search.{placeOf}
 use Rattle.model.specs.Rules.{choose}
 use Rattle.model.specs.Deeds.{deedOf, carryOut, close}
-use Rattle.model.specs.Answers.{Outcome, settle}
+use Rattle.model.specs.Answers.{Outcome, outcome, lookAt, settle}
 use Rattle.model.specs.Image.{image, imageChecks, sessionIn}
 
 -- "with any screen, flag word or image bytes"
@@ -161,9 +162,13 @@ done tb s (restore bytes) = sessionIn bytes
 unfoldable pub refusalOf : List ℕ → State ℕ → Call → ℕ
 refusalOf tb s c = refusal (checksIn tb (sound tb s) (ownChecks tb s c))
 
+-- the answer to a call that is not refused: "front screen, front root, front height, n, m, after the call"
+abbrev pub answerTo : List ℕ → State ℕ → Call → Answer
+answerTo tb s c = lookAt (done tb s c)
+
 -- the session and the answer that a call gives, refused or not
 unfoldable pub call : List ℕ → State ℕ → Call → Outcome
-call tb s c = settle (refusalOf tb s c) s (done tb s c)
+call tb s c = settle outcome (refusalOf tb s c) s (done tb s c) (answerTo tb s c)
 
 -- ---- save
 

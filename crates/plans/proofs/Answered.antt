@@ -8,7 +8,7 @@ use lib.Dec.{ltb}
 use lib.ListN.{length, getD}
 use Rattle.model.specs.Lists.{omit}
 use Rattle.model.specs.Session.{mostTasks}
-use Rattle.model.specs.Answers.{lookAt, refused}
+use Rattle.model.specs.Answers.{lookAt, refused, answerBy}
 use Rattle.session.specs.declared.Session.{Session}
 use Rattle.session.specs.declared.Task.{Task}
 use Rattle.session.specs.Stored.{view, noTask, blankTask}
@@ -19,7 +19,7 @@ use Rattle.deeds.specs.Rows.{shifted}
 use Rattle.plans.specs.declared.Plan.{Plan}
 use Rattle.plans.specs.Puts.{poppedIf, goneIf, rowOf, putOf}
 use Rattle.plans.specs.Plans.{taskAt}
-use Rattle.plans.specs.Shown.{shownBy, answerBy, answerFor, Showable, Uncovers}
+use Rattle.plans.specs.Shown.{shownBy, answerFor, Showable, Uncovers}
 
 -- ---- the first task of the row that is put
 

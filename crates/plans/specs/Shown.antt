@@ -4,7 +4,7 @@ use mathlib.Core.Path.{_≡_}
 use mathlib.Core.Bool.{false}
 use Rattle.model.specs.declared.Answer.{Answer}
 use Rattle.model.specs.Session.{mostHeight}
-use Rattle.model.specs.Answers.{refused}
+use Rattle.model.specs.Answers.{answerBy}
 use Rattle.session.specs.declared.Task.{Task}
 use Rattle.answer.specs.Seen.{answerOf}
 use Rattle.plans.specs.declared.Plan.{Plan}
@@ -13,11 +13,6 @@ use Rattle.plans.specs.declared.Plan.{Plan}
 abbrev pub shownBy : ℕ → Task → Task → Task
 shownBy zero front second = second
 shownBy (suc g) front second = front
-
--- by the refusal, 0 if none
-abbrev pub answerBy : ℕ → Answer → Answer
-answerBy zero a = a
-answerBy (suc k) a = refused (suc k)
 
 -- second is the task behind the front one before the call
 abbrev pub answerFor : Plan → Task → Answer

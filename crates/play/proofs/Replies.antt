@@ -8,7 +8,7 @@ use native.Mathlib.Omega.{arith}
 use Rattle.model.specs.Table.{tableRefusal}
 use Rattle.model.specs.Session.{State, fresh, mostTasks, sound}
 use Rattle.model.specs.Answers.{Outcome, outcome, refused, settle}
-use Rattle.model.specs.Calls.{Call, ownChecks, done, refusalOf, call}
+use Rattle.model.specs.Calls.{Call, ownChecks, done, answerTo, refusalOf, call}
 use Rattle.model.specs.Player.{Request, unplayable, asks, requestOf}
 use Rattle.model.specs.Player as player
 use Rattle.model.proofs.RefusalLaws.{checks-bad-table}
@@ -101,7 +101,7 @@ module _ (tb : List ℕ) (c : Session) (z : Sized c) (p : Playable tb c) where
   bad-stored n e (asks k) =
       call-refused tb c k (suc n) (shared-bad-table tb c (suc n) e (λ o. omega arith)) (λ o. omega arith)
       ∙ ap (λ (d : Session). reply d (refused (suc n))) (sym same)
-      ∙ sym (ap (λ (m : ℕ). storedOutcome (settle m (view c) (done tb (view c) k)))
+      ∙ sym (ap (λ (m : ℕ). storedOutcome (settle outcome m (view c) (done tb (view c) k) (answerTo tb (view c) k)))
       (checks-bad-table tb n (sound tb (view c)) (ownChecks tb (view c) k) e))
 
   good-stored : tableRefusal tb ≡ 0 → (q : Request) → replyStored tb c q ≡ storedOutcome (player.reply tb (view c) q)
@@ -127,7 +127,7 @@ module _ (tb : List ℕ) (c : Session) (z : Sized c) (p : Playable tb c) where
   unfolding player.reply call refusalOf
   bad-kept n e unplayable = refl
   bad-kept n e (asks k) =
-      ap (λ (m : ℕ). settle m (view c) (done tb (view c) k) .session)
+      ap (λ (m : ℕ). settle outcome m (view c) (done tb (view c) k) (answerTo tb (view c) k) .session)
       (checks-bad-table tb n (sound tb (view c)) (ownChecks tb (view c) k) e)
 
   pub reply-playable : (q : Request) → Playable tb (replyStored tb c q .session) × Sized (replyStored tb c q .session)

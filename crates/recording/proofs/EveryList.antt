@@ -13,7 +13,7 @@ use Rattle.model.specs.Lists.{if_then_else_, All}
 use Rattle.model.specs.Refusals.{Check, check, refusal}
 use Rattle.model.specs.Table.{tableShaped, tableFilled}
 use Rattle.model.specs.Session.{State, sound}
-use Rattle.model.specs.Answers.{Outcome, settle}
+use Rattle.model.specs.Answers.{Outcome, outcome, settle}
 use Rattle.model.specs.Image.{trailerIn, lengthIn, imageShaped}
 use Rattle.model.specs.Calls.{Call, launch, start, finishingStart, back, look, restore, ownChecks, done, refusalOf, call}
 use Rattle.model.specs.Histories.{after, answers, IsByte, wordCount, IsWord, Passable, byRules}
@@ -41,20 +41,20 @@ empty-unshaped = refl
 
 -- what 5 refuses is refused whatever else the image holds
 module _ (tb : List ℕ) (s : State ℕ) where
-  refused-5 : (a b c : Bool) (own own′ : List Check) (t t′ : State ℕ)
-      → settle (refusal (check 1 a ∷ check 2 b ∷ check 20 c ∷ check 5 true ∷ own)) s t
-      ≡ settle (refusal (check 1 a ∷ check 2 b ∷ check 20 c ∷ check 5 true ∷ own′)) s t′
+  refused-5 : (a b c : Bool) (own own′ : List Check) (t t′ : State ℕ) (x x′ : Answer)
+      → settle outcome (refusal (check 1 a ∷ check 2 b ∷ check 20 c ∷ check 5 true ∷ own)) s t x
+      ≡ settle outcome (refusal (check 1 a ∷ check 2 b ∷ check 20 c ∷ check 5 true ∷ own′)) s t′ x′
   unfolding refusal
-  refused-5 true b c own own′ t t′ = refl
-  refused-5 false true c own own′ t t′ = refl
-  refused-5 false false true own own′ t t′ = refl
-  refused-5 false false false own own′ t t′ = refl
+  refused-5 true b c own own′ t t′ x x′ = refl
+  refused-5 false true c own own′ t t′ x x′ = refl
+  refused-5 false false true own own′ t t′ x x′ = refl
+  refused-5 false false false own own′ t t′ x x′ = refl
 
   unshaped-alike : (bytes bytes′ : List ℕ) → imageShaped bytes ≡ false → imageShaped bytes′ ≡ false
       → call tb s (restore bytes) ≡ call tb s (restore bytes′)
   unfolding call refusalOf ownChecks
   unshaped-alike bytes bytes′ e e′ =
-      rw (e, e′) (refused-5 (not (tableShaped tb)) (not (tableFilled tb)) (not (sound tb s)) _ _ (done tb s (restore bytes)) (done tb s (restore bytes′)))
+      rw (e, e′) (refused-5 (not (tableShaped tb)) (not (tableFilled tb)) (not (sound tb s)) _ _ _ _ _ _)
 
 -- ---- every list has bytes
 

@@ -1,4 +1,4 @@
--- `calls::restore` meets its contract: refused by a shared check or by 5, 6 or 7, or the session that was read.
+-- `image_calls::restore` meets its contract: refused by a shared check or by 5, 6 or 7, or the session that was read.
 use mathlib.Core.Path.{_≡_, sym, _∙_, ap}
 use mathlib.Core.Logic.{⊎-elim}
 use mathlib.Core.Bool.{true}
@@ -7,7 +7,7 @@ use Rattle.model.specs.Calls.{restore}
 use Rattle.model.specs.Image.{imageShaped}
 use Rattle.session.specs.Stored.{Ready}
 use Rattle.calls.specs.StoredCalls.{reply}
-use Rattle.calls.proofs.Settling.{settle-told, Left, left-refused, shared-ready, call-refused}
+use Rattle.calls.proofs.Settling.{Left, left-refused, shared-ready, call-refused}
 use Rattle.image_calls.proofs.RestoreSettling.{unshaped-left, read-left, restored-left}
 use Rattle.image_calls.proofs.restore.Statement.{statement}
 use Rattle.image_calls.proofs.restore.Tie as tie
@@ -56,8 +56,7 @@ told-requires c κs = left c .seen
 
 returns : tie.Need-returns
 returns c =
-    let out = c .before .if1 .out in
-    ap (reply out) (c .told .ensures) ∙ settle-told out (c .before .if1 .number) ∙ left (c .before) .settles
+    ap (reply (c .before .if1 .out)) (c .told .ensures) ∙ left (c .before) .settles
 
 pub restore-spec : {M : Type 1} → statement M
 restore-spec = tie.close (tie.spec shaped-requires read-requires image-refusal-requires told-requires returns)

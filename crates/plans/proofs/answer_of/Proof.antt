@@ -3,10 +3,10 @@ use Prim.Native.Nat.{ℕ, zero, suc}
 use mathlib.Core.Path.{_≡_, refl, _∙_, ap}
 use borrow.Author.Needs.{needs}
 use Rattle.model.specs.declared.Answer.{Answer}
-use Rattle.model.specs.Answers.{refused}
+use Rattle.model.specs.Answers.{refused, answerBy}
 use Rattle.session.specs.declared.Task.{Task}
 use Rattle.answer.specs.Seen.{answerOf}
-use Rattle.plans.specs.Shown.{shownBy, answerBy}
+use Rattle.plans.specs.Shown.{shownBy}
 use Rattle.plans.proofs.answer_of.Statement.{statement}
 use Rattle.plans.proofs.answer_of.Tie as tie
 
