@@ -5,9 +5,10 @@ use mathlib.Core.List.{List, [], _∷_}
 use native.Mathlib.Nat.{not-suc-le-zero}
 use native.Mathlib.Omega.{arith}
 use lib.ListN.{length, getD}
+use Rattle.model.specs.declared.Answer.{Answer}
 use Rattle.model.specs.Lists.{All}
 use Rattle.model.specs.Session.{Stack, State, state, height, top, mostHeight}
-use Rattle.model.specs.Answers.{lookAt}
+use Rattle.model.specs.Answers.{lookAt, refused, answerBy}
 use Rattle.model.proofs.Logic.{All-at}
 use Rattle.model.proofs.Sound.{TaskSound, Sound}
 use Rattle.session.specs.declared.Task.{Task}
@@ -17,6 +18,17 @@ use Rattle.session.proofs.Known.{Sized, Screens32}
 use Rattle.session.proofs.StoredLaws.{view-at, view-count}
 use Rattle.session.proofs.TaskLaws.{view-height}
 use Rattle.answer.specs.Seen.{Seen, answerOf}
+
+-- ---- by the refusal
+
+pub answer-refused : (a : Answer) (k : ℕ) → (k ≡ 0 → ⊥) → refused k ≡ answerBy k a
+answer-refused a zero n = absurd (n refl)
+answer-refused a (suc k) n = refl
+
+pub answer-accepted : (a : Answer) (k : ℕ) → k ≡ 0 → a ≡ answerBy k a
+answer-accepted a k e = rw e
+
+-- ---- a look
 
 look-empty : (c : Session) → c .n ≡ 0 → lookAt (view c) ≡ answerOf noTask 0 (c .main)
 unfolding view lookAt

@@ -11,7 +11,6 @@ use Rattle.model.specs.Lists.{isEmpty}
 use Rattle.model.specs.Refusals.{Check, refusal}
 use Rattle.model.specs.Table.{tableRefusal, tableShaped, tableFilled}
 use Rattle.model.specs.Session.{Stack, State}
-use Rattle.model.specs.declared.Answer.{Answer}
 use Rattle.model.specs.Answers.{lookAt, refused, answerBy, settle}
 use Rattle.model.specs.Calls.{Call, launch, back, look, checksIn, ownChecks, done, answerTo}
 use Rattle.model.proofs.RefusalLaws.{refusal-skip, refusal-passes, refusal-append-refused, checks-bad-table, checks-unsound, checks-own}
@@ -21,18 +20,9 @@ use Rattle.session.specs.Stored.{view, hold, soundStored, Ready}
 use Rattle.answer.specs.Seen.{Seen}
 use Rattle.session.proofs.Known.{Sized}
 use Rattle.session.proofs.StoredLaws.{held, view-hold, view-count, hold-sound, hold-sized, sound-fits, sound-blank, blank-few, sound-view}
-use Rattle.answer.proofs.LookLaws.{sound-seen}
+use Rattle.answer.proofs.LookLaws.{answer-refused, answer-accepted, sound-seen}
 use Rattle.calls.specs.declared.Reply.{Reply}
 use Rattle.calls.specs.StoredCalls.{reply, refusalStored, sharedRefusal, callStored, KeepsSound}
-
--- ---- the answer, by the refusal
-
-pub answer-refused : (a : Answer) (k : ℕ) → (k ≡ 0 → ⊥) → answerBy k a ≡ refused k
-answer-refused a zero n = absurd (n refl)
-answer-refused a (suc k) n = refl
-
-pub answer-accepted : (a : Answer) (k : ℕ) → k ≡ 0 → answerBy k a ≡ a
-answer-accepted a k e = rw e
 
 -- the call k on c left the session s, with the refusal n
 pub record Left (tb : List ℕ) (c : Session) (k : Call) (n : ℕ) (s : Session) : Type 0 where
@@ -147,13 +137,13 @@ module _ (tb : List ℕ) (c : Session) where
 
     -- refused, the session as it was
     pub left-refused : (n : ℕ) → callStored tb c k ≡ reply c (refused n) → (n ≡ 0 → ⊥) → Left tb c k n c
-    left-refused n e z = record { settles = ap (reply c) (answer-refused _ n z) ∙ sym e; seen = λ q. absurd (z q) }
+    left-refused n e z = record { settles = ap (reply c) (sym (answer-refused _ n z)) ∙ sym e; seen = λ q. absurd (z q) }
 
     -- accepted, the session that it makes
     pub left-made : Ready tb c → refusal (ownChecks tb (view c) k) ≡ 0 → {n : ℕ} {d : Session} → n ≡ 0 → d ≡ hold (done tb (view c) k) → Left tb c k n d
     left-made h e {n} {d} z m =
         record {
-          settles = ap (reply d) (answer-accepted _ n z) ∙ rw m (sym (own-accepted h e));
+          settles = ap (reply d) (sym (answer-accepted _ n z)) ∙ rw m (sym (own-accepted h e));
           seen = λ q. rw m (own-seen h e);
         }
 

@@ -10,8 +10,8 @@ use borrow.Author.Tests.{le-leb, lt-leb}
 use borrow.Rule.Slice.PartMut.{midOf}
 use Rattle.model.specs.Table.{sizeOf}
 use Rattle.model.specs.Session.{fresh}
-use Rattle.model.specs.Player.{textOf, startsWithTable, tableIn, recordBytes, playerText}
-use Rattle.play.specs.Fitting.{longestLine, fitting}
+use Rattle.model.specs.Player.{textOf, startsWithTable, tableIn, recordBytes, playerText, longestLine}
+use Rattle.play.specs.Fitting.{fitting}
 use Rattle.play.proofs.BlockLaws.{fitting-all}
 use Rattle.input.specs.Texts.{stopLine, fittingText, Roomy}
 

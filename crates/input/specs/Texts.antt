@@ -7,8 +7,8 @@ use lib.ListN.{length}
 use Rattle.model.specs.Lists.{if_then_else_}
 use Rattle.model.specs.Session.{fresh}
 use Rattle.model.specs.Answers.{refused}
-use Rattle.model.specs.Player.{lineOf, textOf, recordsIn, startsWithTable, tableIn, recordBytes}
-use Rattle.play.specs.Fitting.{longestLine, fitting}
+use Rattle.model.specs.Player.{lineOf, textOf, recordsIn, startsWithTable, tableIn, recordBytes, longestLine}
+use Rattle.play.specs.Fitting.{fitting}
 
 -- "0 and the answer of refusal 1"
 abbrev pub stopLine : List ℕ

@@ -3,7 +3,7 @@
 ghost use Prim.Native.Nat.{_≤_};
 ghost use mathlib.Core.Path.{_≡_};
 ghost use lib.ListN.{length};
-ghost use Rattle.model.specs.Player.{playerText};
+ghost use Rattle.model.specs.Player.{longestLine, playerText};
 ghost use Rattle.model.specs.Written.{written};
 ghost use Rattle.input.specs.Texts.{stopLine, fittingText, Roomy};
 use session::Session;
@@ -11,10 +11,10 @@ use table::Beginning;
 
 // Writes the line with which the player stops where the input begins with no table. Yields its length.
 pub fn write_stop(out: &mut [u8]) -> usize
-    requires { ⌜ 28 ≤ length (now out) ⌝ }
+    requires { ⌜ longestLine ≤ length (now out) ⌝ }
     ensures length { λ r. ⌜ r ≡ length stopLine ⌝ }
     ensures text { λ r. ⌜ now (out .exit) ≡ written (now (out .entry)) 0 stopLine ⌝ }
-    ensures bound { λ r. ⌜ r ≤ 28 ⌝ }
+    ensures bound { λ r. ⌜ r ≤ longestLine ⌝ }
 {
     line::write_line(out, 0, 0, answer::refused(1))
 }
@@ -27,7 +27,7 @@ pub fn player_text(input: &[u8], out: &mut [u8]) -> usize
     ensures whole { λ r. ⌜ (Roomy (now (input .entry)) (now (out .entry)) → fittingText (now (input .entry)) (now (out .entry)) ≡ playerText (now (input .entry))) ⌝ }
 {
     let Beginning::Table(long) = table::beginning_of(input) else {
-        if out.len() < 28 {
+        if out.len() < line::LONGEST {
             return 0;
         }
         return write_stop(out);

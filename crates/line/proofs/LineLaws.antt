@@ -1,4 +1,4 @@
--- The text of a line, number by number: each is one to three digits and the byte behind it, and a line is at most 28 bytes.
+-- The text of a line, number by number: each is one to three digits and the byte behind it.
 use Prim.Native.Nat.{ℕ, _+_, _*_, _/_, _%_, _≤_, _<_}
 use mathlib.Core.Path.{_≡_}
 use mathlib.Core.List.{List, [], _∷_, _++_}

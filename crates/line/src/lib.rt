@@ -4,7 +4,7 @@ ghost use Prim.Native.Nat.{_+_, _≤_};
 ghost use mathlib.Core.Path.{_≡_};
 ghost use mathlib.Core.List.{[], _∷_, _++_};
 ghost use lib.ListN.{length};
-ghost use Rattle.model.specs.Player.{decimal, lineOf};
+ghost use Rattle.model.specs.Player.{decimal, lineOf, longestLine};
 ghost use Rattle.model.specs.Written.{written};
 use model::Answer;
 
@@ -33,12 +33,15 @@ pub fn put(out: &mut [u8], at: usize, x: u8, end: u8) -> usize
     at + 4
 }
 
+// The longest line: the kind and the numbers of an answer, each of at most three digits and what ends it.
+pub const LONGEST: usize = 4 * (1 + Answer::NUMBERS);
+
 // Writes the line of a record: its kind, then the answer. Yields the place after it.
 pub fn write_line(out: &mut [u8], at: usize, kind: u8, a: Answer) -> usize
-    requires { ⌜ at + 28 ≤ length (now out) ⌝ }
+    requires { ⌜ at + longestLine ≤ length (now out) ⌝ }
     ensures place { λ r. ⌜ r ≡ at + length (lineOf kind a) ⌝ }
     ensures text { λ r. ⌜ now (out .exit) ≡ written (now (out .entry)) at (lineOf kind a) ⌝ }
-    ensures bound { λ r. ⌜ r ≤ at + 28 ⌝ }
+    ensures bound { λ r. ⌜ r ≤ at + longestLine ⌝ }
 {
     let refusal = put(out, at, kind, b' ');
     let screen = put(out, refusal, a.refusal, b' ');

@@ -39,6 +39,10 @@ lineText (n ∷ k ∷ ns) = decimal n ++ space ∷ lineText (k ∷ ns)
 unfoldable pub lineOf : ℕ → Answer → List ℕ
 lineOf kind a = lineText (kind ∷ numbersOf a)
 
+-- the bytes of the longest line: each number has at most three digits, and a space or the newline behind it
+abbrev pub longestLine : ℕ
+longestLine = 4 * length (0 ∷ numbersOf (refused 0))
+
 -- ---- records
 
 -- what a record asks for: a call, or nothing that the player knows

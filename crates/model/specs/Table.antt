@@ -11,6 +11,10 @@ use Rattle.model.specs.Refusals.{Check, check, refusal}
 abbrev pub mostScreens : ℕ
 mostScreens = 64
 
+-- in bytes
+abbrev pub longestTable : ℕ
+longestTable = 2 + 2 * mostScreens
+
 -- "A table is bytes: N (1 to 64), the main screen's number, then for screens 0 to N − 1 a mode and an affinity"
 abbrev pub sizeOf : List ℕ → ℕ
 sizeOf tb = getD tb 0 0

@@ -13,6 +13,10 @@ pub struct Answer {
     pub main: u8,
 }
 
+impl Answer {
+    pub const NUMBERS: usize = 6;
+}
+
 // The six flags of a flag word: new task, single top, multiple task, clear top, reorder to front, clear task.
 pub struct Flags {
     pub ntk: bool,

@@ -7,8 +7,8 @@ use native.Mathlib.Omega.{arith}
 use lib.ListN.{length}
 use lib.Seq.{take-all}
 use Rattle.model.specs.Session.{State, fresh}
-use Rattle.model.specs.Player.{Record, recordOf, requestOf, wordOf, recordsIn, textOf, sessionAfter, startsWithTable, tableIn, recordBytes, playerText}
-use Rattle.play.specs.Fitting.{longestLine, fitting}
+use Rattle.model.specs.Player.{Record, recordOf, requestOf, wordOf, recordsIn, textOf, sessionAfter, startsWithTable, tableIn, recordBytes, playerText, longestLine}
+use Rattle.play.specs.Fitting.{fitting}
 use Rattle.play.specs.Blocks.{WholeBlocks, sessionAfterBlocks, textOfBlocks, BlocksJoin}
 use Rattle.play.proofs.Playing.{after-append, text-append}
 

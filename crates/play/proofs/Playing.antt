@@ -7,7 +7,7 @@ use native.Mathlib.Omega.{arith}
 use lib.ListN.{length, length-append}
 use Rattle.model.specs.Session.{State}
 use Rattle.model.specs.Answers.{refused}
-use Rattle.model.specs.Player.{Record, recordOf, unplayable, reply, lineOf, textOf, sessionAfter}
+use Rattle.model.specs.Player.{Record, recordOf, unplayable, reply, lineOf, textOf, sessionAfter, longestLine}
 use Rattle.model.specs.Written.{written}
 use Rattle.model.proofs.WrittenLaws.{Wrote, wrote-nil, wrote-append}
 use Rattle.session.specs.declared.Session.{Session}
@@ -17,7 +17,7 @@ use Rattle.session.proofs.StoredLaws.{held}
 use Rattle.calls.specs.declared.Reply.{Reply}
 use Rattle.play.specs.declared.Played.{Played}
 use Rattle.play.specs.Steps.{Playable, replyStored}
-use Rattle.play.specs.Fitting.{longestLine, fitting, bytesOf, Plays}
+use Rattle.play.specs.Fitting.{fitting, bytesOf, Plays}
 use Rattle.play.proofs.Replies.{reply-session, reply-answer, reply-playable}
 
 module _ (tb : List ℕ) where

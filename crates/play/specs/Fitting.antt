@@ -1,10 +1,10 @@
--- How many records one call plays, and what playing them gives: a line has at most 28 bytes, and none is begun for which
--- the buffer has less room than that.
+-- How many records one call plays, and what playing them gives: no line is begun for which the buffer has less room than
+-- for the longest.
 use Prim.Native.Nat.{ℕ, _+_, _*_, _/_, _≤_, min}
 use mathlib.Core.Path.{_≡_}
 use mathlib.Core.List.{List}
 use lib.ListN.{length, getD, take}
-use Rattle.model.specs.Player.{Record, recordsIn, textOf, sessionAfter}
+use Rattle.model.specs.Player.{Record, longestLine, recordsIn, textOf, sessionAfter}
 use Rattle.session.specs.declared.Session.{Session}
 use Rattle.flags.specs.Words.{wordAt}
 use Rattle.session.specs.Stored.{view, hold}
@@ -12,10 +12,6 @@ use Rattle.model.specs.Written.{written as writtenInto}
 use Rattle.play.specs.declared.Fields.{Fields}
 use Rattle.play.specs.declared.Played.{Played}
 use Rattle.play.specs.Steps.{Playable}
-
--- the longest line, in bytes
-abbrev pub longestLine : ℕ
-longestLine = 28
 
 -- the records of the input for whose lines the buffer has room
 abbrev pub fitting : List ℕ → List ℕ → List Record

@@ -4,11 +4,11 @@
 ghost use Prim.Native.Nat.{_+_, _*_, _≤_};
 ghost use mathlib.Core.Path.{_≡_};
 ghost use lib.ListN.{length, take};
-ghost use Rattle.model.specs.Player.{requestOf, recordsIn, textOf, sessionAfter};
+ghost use Rattle.model.specs.Player.{requestOf, recordsIn, textOf, sessionAfter, longestLine};
 ghost use Rattle.model.specs.Written.{written as writtenInto};
 ghost use Rattle.session.specs.Stored.{view, hold, Ready};
 ghost use Rattle.play.specs.Steps.{Playable, isStart, SoughtFor, PlannedFor, planFor};
-ghost use Rattle.play.specs.Fitting.{longestLine, fitting, bytesOf, fieldsAt, Plays};
+ghost use Rattle.play.specs.Fitting.{fitting, bytesOf, fieldsAt, Plays};
 use plans::Plan;
 use session::Session;
 use session::Task;
@@ -122,7 +122,7 @@ pub fn play(table: &[u8], from: Session, input: &[u8], out: &mut [u8]) -> Played
     ensures keeps { λ r. ⌜ Playable (now (table .entry)) (r .session) ⌝ }
     ensures bound { λ r. ⌜ r .written ≤ length (now (out .entry)) ⌝ }
 {
-    let room = out.len() / 28;
+    let room = out.len() / line::LONGEST;
     let whole = input.len() / 6;
     if room <= whole {
         return play_whole(table, from, input, room, out);

@@ -3,11 +3,17 @@
 
 ghost use Prim.Native.Nat.{_≤_};
 ghost use lib.ListN.{length};
+ghost use Rattle.model.specs.Table.{longestTable};
 ghost use Rattle.play.specs.Steps.{Playable};
 ghost use Rattle.playing.specs.Turns.{Turns};
 use libc::STDOUT_FILENO;
 use session::Session;
 use table::Beginning;
+
+// A block is so many records, of 6 bytes each; none stands in two blocks.
+const RECORDS: usize = 10000;
+
+const BLOCK: usize = 6 * RECORDS;
 
 // What is left after a block: the session, and whether to go on.
 struct Turned {
@@ -20,9 +26,8 @@ fn turn(fd: i32, table: &[u8], s: Session) -> Turned
     requires { ⌜ Playable (now table) s ⌝ }
     ensures { λ r. ⌜ Turns (now (table .entry)) s r ⌝ }
 {
-    // 10,000 records of 6 bytes, none of which stands in two blocks, and as many of the longest lines
-    let mut input = [0u8; 60000];
-    let mut output = [0u8; 280000];
+    let mut input = [0u8; BLOCK];
+    let mut output = [0u8; line::LONGEST * RECORDS];
     let got = io::read_full(fd, &mut input);
     let played = play::play(table, s, &input[..got], &mut output);
     let written = played.written;
@@ -30,7 +35,7 @@ fn turn(fd: i32, table: &[u8], s: Session) -> Turned
     let after = played.session;
     Turned {
         session: after,
-        more: went & (got == 60000),
+        more: went & (got == BLOCK),
     }
 }
 
@@ -50,8 +55,8 @@ fn run(fd: i32, table: &[u8]) {
 
 // Reads a table to the start of the buffer: two bytes, and then as many as its N says. Yields how many were read.
 fn read_table(fd: i32, buffer: &mut [u8]) -> usize
-    requires { ⌜ 130 ≤ length (now buffer) ⌝ }
-    ensures { λ r. ⌜ r ≤ 130 ⌝ }
+    requires { ⌜ longestTable ≤ length (now buffer) ⌝ }
+    ensures { λ r. ⌜ r ≤ longestTable ⌝ }
 {
     let got = io::read_full(fd, &mut buffer[..2]);
     let Beginning::Cut(long) = table::beginning_of(&buffer[..got]) else {
@@ -62,7 +67,7 @@ fn read_table(fd: i32, buffer: &mut [u8]) -> usize
 
 // Says that there is no table.
 fn stop() {
-    let mut line = [0u8; 28];
+    let mut line = [0u8; line::LONGEST];
     let long = input::write_stop(&mut line);
     io::write_all(STDOUT_FILENO, &line[..long]);
 }
@@ -70,7 +75,7 @@ fn stop() {
 // Plays what a file descriptor gives: the table, then the records. What is read and written no contract can say; what the
 // player's text is stands in `input`, what a block gives in `play`.
 pub fn play_from(fd: i32) {
-    let mut buffer = [0u8; 130];
+    let mut buffer = [0u8; table::LONGEST];
     let got = read_table(fd, &mut buffer);
     let Beginning::Table(long) = table::beginning_of(&buffer[..got]) else {
         stop();

@@ -8,6 +8,11 @@ ghost use Rattle.model.specs.Lists.{allBelow};
 ghost use Rattle.model.specs.Table.{sizeOf, mainScreen, modeOf, affinityOf, singleInstance, tableRefusal};
 ghost use Rattle.table.specs.Beginnings.{beginningOf};
 
+// The most screens that a table has, and the bytes of the longest table.
+const SCREENS: u8 = 64;
+
+pub const LONGEST: usize = 2 + 2 * (SCREENS as usize);
+
 // The number of screens.
 pub fn size(table: &[u8]) -> u8
     requires { ⌜ 0 < length (now table) ⌝ }
@@ -70,7 +75,7 @@ pub fn refusal(table: &[u8]) -> u8
     if n < 1 {
         return 1;
     }
-    if n > 64 {
+    if n > SCREENS {
         return 1;
     }
     if main_screen(table) >= n {
@@ -107,7 +112,7 @@ pub fn beginning_of(input: &[u8]) -> Beginning
     if long < 4 {
         return Beginning::Bad;
     }
-    if long > 130 {
+    if long > LONGEST {
         return Beginning::Bad;
     }
     if long > input.len() {

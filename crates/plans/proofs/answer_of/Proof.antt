@@ -2,20 +2,12 @@
 use Prim.Native.Nat.{ℕ, zero, suc}
 use mathlib.Core.Path.{_≡_, refl, _∙_, ap}
 use borrow.Author.Needs.{needs}
-use Rattle.model.specs.declared.Answer.{Answer}
-use Rattle.model.specs.Answers.{refused, answerBy}
 use Rattle.session.specs.declared.Task.{Task}
 use Rattle.answer.specs.Seen.{answerOf}
+use Rattle.answer.proofs.LookLaws.{answer-refused, answer-accepted}
 use Rattle.plans.specs.Shown.{shownBy}
 use Rattle.plans.proofs.answer_of.Statement.{statement}
 use Rattle.plans.proofs.answer_of.Tie as tie
-
-refuses : (k : ℕ) (a : Answer) → (k ≡ 0 → ⊥) → refused k ≡ answerBy k a
-refuses zero a e = absurd (e refl)
-refuses (suc k) a e = refl
-
-accepts : (k : ℕ) (a : Answer) → k ≡ 0 → a ≡ answerBy k a
-accepts k a e = rw e
 
 -- the front task goes, or stays
 goes : (g : ℕ) (t u : Task) → g ≡ 0 → u ≡ shownBy g t u
@@ -29,7 +21,7 @@ refused-requires : tie.Need-refused-requires
 refused-requires c κs = search needs
 
 returns : tie.Need-returns
-returns c = c .refused .ensures ∙ refuses _ _ (c .before .if1 .taken)
+returns c = c .refused .ensures ∙ answer-refused _ _ (c .before .if1 .taken)
 
 of-front-requires : tie.Need-of-front-requires
 of-front-requires c κs =
@@ -42,7 +34,7 @@ returns-2 c =
     let a = c .before .before .before .before .before .args in
     c .of-front .ensures
     ∙ ap (λ (t : Task). answerOf t (a .plan .n) (a .plan .main)) (goes (a .plan .gone) (a .plan .front) (a .second) (c .before .if2 .taken))
-    ∙ accepts (a .plan .refusal) _ (c .before .before .before .if1 .left)
+    ∙ answer-accepted _ (a .plan .refusal) (c .before .before .before .if1 .left)
 
 of-front-requires-2 : tie.Need-of-front-requires-2
 of-front-requires-2 c κs =
@@ -55,7 +47,7 @@ returns-3 c =
     let a = c .before .before .before .before .before .before .args in
     c .of-front2 .ensures
     ∙ ap (λ (t : Task). answerOf t (a .plan .n) (a .plan .main)) (stays (a .plan .gone) (a .plan .front) (a .second) (c .before .before .if2 .left))
-    ∙ accepts (a .plan .refusal) _ (c .before .before .before .before .if1 .left)
+    ∙ answer-accepted _ (a .plan .refusal) (c .before .before .before .before .if1 .left)
 
 pub answer-of-spec : {M : Type 1} → statement M
 answer-of-spec = tie.close (tie.spec refused-requires returns of-front-requires returns-2 of-front-requires-2 returns-3)

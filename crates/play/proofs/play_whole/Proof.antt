@@ -7,7 +7,7 @@ use native.Mathlib.Numerals.{add-one}
 use native.Mathlib.Omega.{arith}
 use lib.ListN.{length}
 use borrow.Author.Needs.{needs}
-use Rattle.model.specs.Player.{Record, recordOf, Request, requestOf}
+use Rattle.model.specs.Player.{Record, recordOf, Request, requestOf, longestLine}
 use Rattle.model.proofs.WrittenLaws.{wrote}
 use Rattle.session.specs.declared.Session.{Session}
 use Rattle.session.specs.Stored.{view, Ready}
@@ -18,7 +18,6 @@ use Rattle.calls.specs.StoredCalls.{reply}
 use Rattle.calls.proofs.PlanSettling.{Gives}
 use Rattle.play.specs.declared.Fields.{Fields}
 use Rattle.play.specs.Steps.{Playable, replyStored, isStart}
-use Rattle.play.specs.Fitting.{longestLine}
 use Rattle.play.proofs.Replies.{playable-ready, sought-in, sought-for, plan-gives}
 use Rattle.play.proofs.Records.{recordAt, wholes, wholes-length, firsts}
 use Rattle.play.proofs.Playing.{Reached, reached-none, reached-more, reached-plays}

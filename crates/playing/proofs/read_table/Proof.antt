@@ -1,4 +1,4 @@
--- Two bytes at most are read first; a table that is cut there has at most 130 bytes by its N.
+-- Two bytes at most are read first; a table that is cut there has at most as many bytes as the longest table by its N.
 use Prim.Native.Nat.{_+_, _≤_, _<_}
 use mathlib.Core.Path.{_≡_, sym}
 use mathlib.Core.List.{_++_}

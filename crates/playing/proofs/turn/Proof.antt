@@ -1,5 +1,5 @@
 -- A block is played whole: it has 10,000 records at most, and the text has room for as many of the longest lines.
-use Prim.Native.Nat.{ℕ, _/_, _%_, _≤_}
+use Prim.Native.Nat.{ℕ, _/_, _%_, _≤_, _*_}
 use mathlib.Core.Path.{_≡_, refl, sym, _∙_, ap}
 use mathlib.Core.List.{List}
 use native.Mathlib.Omega.{arith}
@@ -7,24 +7,27 @@ use lib.ListN.{length, take}
 use lib.Seq.{length-take-le, take-all}
 use borrow.Author.Needs.{needs}
 use borrow.Author.Tests.{leb-true, eqb-true}
-use Rattle.model.specs.Player.{Record, recordsIn, sessionAfter}
+use Rattle.model.specs.Player.{Record, recordsIn, sessionAfter, longestLine}
 use Rattle.model.proofs.Logic.{and-right}
 use Rattle.session.specs.Stored.{view, hold}
-use Rattle.play.specs.Fitting.{longestLine}
 use Rattle.play.proofs.BlockLaws.{records-few}
 use Rattle.playing.proofs.turn.Statement.{statement}
 use Rattle.playing.proofs.turn.Tie as tie
 
+-- the records of a block
+abbrev records : ℕ
+records = 10000
+
 -- no more is read than was lent
-within : {got there lent n : ℕ} → got ≤ there → there ≡ lent → n ≡ lent → n ≤ 60000 → got ≤ 60000
+within : {got there lent n : ℕ} → got ≤ there → there ≡ lent → n ≡ lent → n ≤ 6 * records → got ≤ 6 * records
 within r k l h = omega arith
 
 -- a full block holds whole records
 full-whole : {long got n : ℕ} → long ≡ got → got ≡ n → n % 6 ≡ 0 → long % 6 ≡ 0
 full-whole e f h = omega arith
 
--- a block of 60,000 bytes into 280,000
-all-fit : (block : List ℕ) {n room : ℕ} → length block ≤ 60000 → n ≡ room → 280000 ≤ n → take (room / longestLine) (recordsIn block) ≡ recordsIn block
+-- there is room for the lines of a block
+all-fit : (block : List ℕ) {n room : ℕ} → length block ≤ 6 * records → n ≡ room → longestLine * records ≤ n → take (room / longestLine) (recordsIn block) ≡ recordsIn block
 all-fit block {n} {room} short e h = let few = records-few block in take-all (room / longestLine) (recordsIn block) (omega arith)
 
 slice-aggregate-read-full : tie.Need-slice-aggregate-read-full
@@ -62,13 +65,13 @@ returns c =
     let block = take (read .read-full .result) (read .read-full .last .1 .0) in
     let long : length block ≡ read .read-full .result =
     length-take-le (read .read-full .result) (read .read-full .last .1 .0) (read .read-full .ensures .0) in
-    let few = within (read .read-full .ensures .0) (read .read-full .kept .1 .0) (slice-aggregate-read-full (read .before)) (leb-true _ 60000 refl) in
+    let few = within (read .read-full .ensures .0) (read .read-full .kept .1 .0) (slice-aggregate-read-full (read .before)) (leb-true _ (6 * records) refl) in
     record {
       block = block;
       played =
           play .play .ensures .0
           ∙ ap (λ (rs : List Record). hold (sessionAfter (a .table .now) (view (a .s)) rs))
-          (all-fit block (omega arith) (slice-aggregate-play-2 (play .before)) (leb-true 280000 _ refl));
+          (all-fit block (omega arith) (slice-aggregate-play-2 (play .before)) (leb-true (longestLine * records) _ refl));
       whole = λ h. full-whole long (eqb-true _ _ (and-right (c .before .write-all .result) _ h)) refl;
       keeps = play .play .ensures .1 .1 .1 .1 .0;
     }
