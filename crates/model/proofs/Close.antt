@@ -11,7 +11,7 @@ use lib.Seq.{map-set-same}
 use borrow.Author.Tests.{eqb-false, ltb-true, ltb-false}
 use Rattle.model.specs.Lists.{if_then_else_, isEmpty, omit, Pairwise}
 use Rattle.model.specs.Table.{sizeOf, rootsOnce}
-use Rattle.model.specs.Session.{Stack, State, stack, state, noStack, taskAt}
+use Rattle.model.specs.Session.{Stack, State, stack, noStack, onScreens, onTasks, onMain, taskAt}
 use Rattle.model.specs.Deeds.{mainWithout, closeIn, close}
 use Rattle.model.specs.Calls.{backed}
 use Rattle.model.proofs.Logic.{if-elim, All-at}
@@ -26,19 +26,19 @@ module _ {A : Type 0} where
       → closeIn k i ts ≡ omit k ts
   unfolding closeIn
   closeIn-emptied k i [] e = refl
-  closeIn-emptied zero i (t ∷ ts) e = ap (λ (b : Bool). if b then ts else stack (t .root) (omit i (t .screens)) ∷ ts) e
+  closeIn-emptied zero i (t ∷ ts) e = ap (λ (b : Bool). if b then ts else onScreens (omit i) t ∷ ts) e
   closeIn-emptied (suc k) i (t ∷ ts) e = ap (λ (us : List (Stack A)). t ∷ us) (closeIn-emptied k i ts e)
 
   -- the task at the place behind k others without the screen below i others
   abbrev pub shortened : ℕ → ℕ → List (Stack A) → Stack A
-  shortened k i ts = stack (getD ts k noStack .root) (omit i (getD ts k noStack .screens))
+  shortened k i ts = onScreens (omit i) (getD ts k noStack)
 
   -- other screens stay in the task
   pub closeIn-kept : (k i : ℕ) (ts : List (Stack A)) → isEmpty (omit i (getD ts k noStack .screens)) ≡ false
       → closeIn k i ts ≡ set ts k (shortened k i ts)
   unfolding closeIn
   closeIn-kept k i [] e = refl
-  closeIn-kept zero i (t ∷ ts) e = ap (λ (b : Bool). if b then ts else stack (t .root) (omit i (t .screens)) ∷ ts) e
+  closeIn-kept zero i (t ∷ ts) e = ap (λ (b : Bool). if b then ts else onScreens (omit i) t ∷ ts) e
   closeIn-kept (suc k) i (t ∷ ts) e = ap (λ (us : List (Stack A)). t ∷ us) (closeIn-kept k i ts e)
 
 -- ---- what depends on the roots alone
@@ -80,7 +80,7 @@ omit-lone (suc i) r e = refl
 
 module _ (tb : List ℕ) where
   shortened-sound : (t : Stack ℕ) (i : ℕ) → isEmpty (omit i (t .screens)) ≡ false
-      → TaskSound tb t → TaskSound tb (stack (t .root) (omit i (t .screens)))
+      → TaskSound tb t → TaskSound tb (onScreens (omit i) t)
   shortened-sound t i e k =
       record {
         filled = isEmpty-length (omit i (t .screens)) e;
@@ -111,7 +111,7 @@ module _ (tb : List ℕ) where
       before (suc n) l h = follows-main tb ts (omit k ts) n (suc n) (omit-inside k (suc n) ts l (h .most)) (omit-before noStack k n ts l) h
 
   module _ (k i : ℕ) (s : State ℕ) (h : Sound tb s) where
-    emptied-sound : Sound tb (state (omit k (s .tasks)) (mainWithout (suc k) (s .main)))
+    emptied-sound : Sound tb (onTasks (omit k) (onMain (mainWithout (suc k)) s))
     emptied-sound =
         record {
           few = le-trans (omit-length-le k (s .tasks)) (h .few);
@@ -121,7 +121,7 @@ module _ (tb : List ℕ) where
         }
 
     kept-sound : isEmpty (omit i (getD (s .tasks) k noStack .screens)) ≡ false
-        → Sound tb (state (set (s .tasks) k (shortened k i (s .tasks))) (s .main))
+        → Sound tb (onTasks (λ ts. set ts k (shortened k i ts)) s)
     kept-sound e =
         record {
           few = rw (length-set (s .tasks) k (shortened k i (s .tasks))) (h .few);
@@ -144,7 +144,7 @@ unfolding close
 close-sound tb k i s h = go (isEmpty (omit i (getD (s .tasks) k noStack .screens))) refl
   where
     go : (e : Bool) → isEmpty (omit i (getD (s .tasks) k noStack .screens)) ≡ e
-        → Sound tb (state (closeIn k i (s .tasks)) (if e then mainWithout (suc k) (s .main) else s .main))
+        → Sound tb (onTasks (closeIn k i) (onMain (λ m. if e then mainWithout (suc k) m else m) s))
     go true e = rw (closeIn-emptied k i (s .tasks) e) (emptied-sound tb k i s h)
     go false e = rw (closeIn-kept k i (s .tasks) e) (kept-sound tb k i s h e)
 

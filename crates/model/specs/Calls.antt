@@ -14,7 +14,7 @@ use Rattle.model.specs.Session.{Stack, State, stack, state, noStack, tas
 use Rattle.model.specs.Flags.{flagsOf, hasOtherBit}
 use Rattle.model.specs.Search.{placeOf}
 use Rattle.model.specs.Rules.{choose}
-use Rattle.model.specs.Deeds.{deedOf, carryOut, close}
+use Rattle.model.specs.Deeds.{deedOf, changeFront, carryOut, close}
 use Rattle.model.specs.Answers.{Outcome, settle}
 use Rattle.model.specs.Image.{image, imageChecks, sessionIn}
 
@@ -66,7 +66,7 @@ module _ {A B : Type 0} (f : A → B) where
 
 -- "mark the front screen"
 unfoldable pub markFront : State ℕ → State Marked
-markFront s = state (onFirst (λ t. stack (t .root) (markTop (t .screens))) (mapState unmarked s .tasks)) (s .main)
+markFront s = changeFront markTop (mapState unmarked s)
 
 -- the task holds the marked screen
 abbrev pub holdsMark : Stack Marked → Bool
