@@ -8,7 +8,7 @@ use native.Mathlib.Omega.{arith}
 use lib.ListN.{length, getD, set}
 use borrow.Author.Tests.{eq-eqb, ne-eqb, lt-ltb, le-ltb}
 use Rattle.model.specs.Lists.{isEmpty, omit, if_then_else_}
-use Rattle.model.specs.Session.{Stack, stack, state, noStack, height, count, mostTasks, mostHeight}
+use Rattle.model.specs.Session.{Stack, stack, noStack, onScreens, onTasks, onMain, height, count, mostTasks, mostHeight}
 use Rattle.model.specs.Deeds.{mainWithout, close}
 use Rattle.model.proofs.Logic.{All-at}
 use Rattle.model.proofs.ListLaws.{omit-length}
@@ -16,12 +16,11 @@ use Rattle.model.proofs.Sound.{TaskSound}
 use Rattle.model.proofs.Close.{closeIn-emptied, closeIn-kept, shortened}
 use Rattle.session.specs.declared.Session.{Session}
 use Rattle.session.specs.declared.Task.{Task}
-use Rattle.session.specs.Stored.{view, viewTask, hold, holdTask, noTask, popped, blankAbove, storageBlank, Ready}
+use Rattle.session.specs.Stored.{view, viewTask, hold, holdTask, noTask, withTasks, popped, blankAbove, storageBlank, Ready}
 use Rattle.session.proofs.Known.{Sized}
 use Rattle.session.proofs.StoredLaws.{held, hold-viewTask, view-at, blank-few, sized-at, sound-blank, sound-view}
-use Rattle.session.proofs.SessionLaws.{stored, hold-set}
+use Rattle.session.proofs.SessionLaws.{hold-set}
 use Rattle.session.proofs.TaskLaws.{hold-popped}
-use Rattle.deeds.specs.Rows.{withTasks}
 use Rattle.deeds.proofs.Changes.{blank-low, blank-height}
 use Rattle.deeds.proofs.Fronts.{counted, stored-blank}
 use Rattle.closing.specs.Closable.{Closable}
@@ -68,27 +67,24 @@ module _ (s : Session) (z : Sized s) (k i : ℕ) (c : Closable s k i) where
       let h = inside in
       ap height (view-at s k h) ∙ blank-height t (sized-at s z k (omega arith)) (stored-blank s z (c .blank) k h)
 
-  closed-last : t .height ≡ 1 → hold (close k i (view s)) ≡ hold (state (omit k (view s .tasks)) (mainWithout (suc k) (s .main)))
+  closed-last : t .height ≡ 1 → hold (close k i (view s)) ≡ hold (onTasks (omit k) (onMain (mainWithout (suc k)) (view s)))
   unfolding close view
   closed-last one =
       let h = tall in
       let e = empty-is (omit i xs) (omega (arith, omit-length i xs (c .there .1))) in
-      ap₂ (λ (ts : List (Stack ℕ)) (b : Bool). hold (state ts (if b then mainWithout (suc k) (s .main) else s .main)))
+      ap₂ (λ (ts : List (Stack ℕ)) (b : Bool). hold (onTasks (λ us. ts) (onMain (λ m. if b then mainWithout (suc k) m else m) (view s))))
       (closeIn-emptied k i (view s .tasks) e) e
 
   closed-kept : (t .height ≡ 1 → ⊥)
-      → hold (close k i (view s)) ≡ stored (set (s .tasks) k (holdTask (stack (t .root) (omit i (viewTask t .screens))))) (s .n) (s .main)
+      → hold (close k i (view s)) ≡ withTasks s (set (s .tasks) k (holdTask (stack (t .root) (omit i (viewTask t .screens)))))
   unfolding close view viewTask
   closed-kept more =
       let h = tall in
-      let n = counted s z (c .blank) in
       let e = filled-is (omit i xs) (λ q. more (omega (arith, omit-length i xs (c .there .1)))) in
-      ap₂ (λ (ts : List (Stack ℕ)) (b : Bool). hold (state ts (if b then mainWithout (suc k) (s .main) else s .main)))
+      ap₂ (λ (ts : List (Stack ℕ)) (b : Bool). hold (onTasks (λ us. ts) (onMain (λ m. if b then mainWithout (suc k) m else m) (view s))))
       (closeIn-kept k i (view s .tasks) e) e
-      ∙ hold-set (view s) (s .main) k (shortened k i (view s .tasks)) (c .there .0)
-      ∙ ap₂ (λ (o : Session) (u : Stack ℕ). stored (set (o .tasks) k (holdTask (stack (u .root) (omit i (u .screens))))) (count (view s)) (s .main))
-      (held s z (c .blank)) (view-at s k inside)
-      ∙ ap (λ (j : ℕ). stored (set (s .tasks) k (holdTask (stack (t .root) (omit i (viewTask t .screens))))) j (s .main)) n
+      ∙ hold-set (view s) k (shortened k i (view s .tasks)) (c .there .0)
+      ∙ ap₂ (λ (o : Session) (u : Stack ℕ). withTasks o (set (o .tasks) k (holdTask (onScreens (omit i) u)))) (held s z (c .blank)) (view-at s k inside)
 
   -- the place is one of the array
   pub place-inside : k < mostTasks
@@ -98,7 +94,7 @@ module _ (s : Session) (z : Sized s) (k i : ℕ) (c : Closable s k i) where
   pub task-there : (storageBlank s ≡ true) × (k < s .n)
   task-there = (c .blank, inside)
 
-  pub task-closed : t .height ≡ 1 → {r : Session} → r ≡ hold (state (omit k (view s .tasks)) (mainWithout (suc k) (s .main)))
+  pub task-closed : t .height ≡ 1 → {r : Session} → r ≡ hold (onTasks (omit k) (onMain (mainWithout (suc k)) (view s)))
       → r ≡ hold (close k i (view s))
   task-closed one e = e ∙ sym (closed-last one)
 

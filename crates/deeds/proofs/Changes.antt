@@ -15,12 +15,12 @@ use Rattle.model.specs.Deeds.{changed}
 use Rattle.model.proofs.Logic.{and-left}
 use Rattle.model.proofs.ListLaws.{FoundAt, find-spec, toFront-zero}
 use Rattle.session.specs.declared.Task.{Task}
-use Rattle.session.specs.Stored.{viewTask, holdTask, blankAbove, pushed}
+use Rattle.session.specs.Stored.{viewTask, holdTask, withScreens, blankAbove, pushed}
 use Rattle.session.proofs.Known.{Screens32}
 use Rattle.session.proofs.Padding.{drop-pad}
 use Rattle.session.proofs.StoredLaws.{hold-viewTask}
 use Rattle.session.proofs.TaskLaws.{view-height, view-screen, hold-cleared, hold-lifted, lifted, hold-pushed}
-use Rattle.deeds.specs.Rows.{closedUp, lowest, withScreens}
+use Rattle.deeds.specs.Rows.{closedUp, lowest}
 
 pub blank-low : (t : Task) → blankAbove t ≡ true → t .height ≤ mostHeight
 unfolding blankAbove

@@ -13,10 +13,9 @@ use Rattle.model.specs.Calls.{backed}
 use Rattle.model.specs.Marks.{closeAt, Stands}
 use Rattle.session.specs.declared.Session.{Session}
 use Rattle.session.specs.declared.Task.{Task}
-use Rattle.session.specs.Stored.{view, hold, noTask, storageBlank, Ready}
+use Rattle.session.specs.Stored.{view, hold, noTask, withTasks, withCount, withMain, storageBlank, Ready}
 use Rattle.session.proofs.Known.{Sized}
 use Rattle.session.proofs.StoredLaws.{held, stored-height}
-use Rattle.session.proofs.SessionLaws.{stored}
 use Rattle.deeds.specs.Rows.{shifted}
 use Rattle.deeds.proofs.Fronts.{counted}
 use Rattle.closing.specs.Closable.{Closable}
@@ -31,7 +30,7 @@ use Rattle.plans.proofs.Gone.{task-goes}
 module _ (c : Session) (t : Task) (k n m : ℕ) where
   -- the session before it closes
   abbrev pub putIn : Session
-  putIn = stored (shifted t k (c .tasks)) n m
+  putIn = withMain (withCount (withTasks c (shifted t k (c .tasks))) n) m
 
   module _ (z : Sized putIn) (blank : storageBlank putIn ≡ true) where
     pub plan-closes : (mark : Mark) → Near mark → Stands mark (view putIn)
@@ -75,7 +74,7 @@ module _ (s : Session) (z : Sized s) where
 
   -- the front task is put where it stood
   pub put-same : putIn s (taskAt s 0) 0 (s .n) (s .main) ≡ s
-  put-same = ap (λ (ts : List Task). stored ts (s .n) (s .main)) (same-row (s .tasks) filled)
+  put-same = ap (withTasks s) (same-row (s .tasks) filled)
 
   pub still-put : (k : ℕ) → putOf s (stillOf s k) ≡ s
   still-put k = put-same

@@ -12,8 +12,8 @@ use Rattle.model.specs.Lists.{omit}
 use Rattle.model.specs.Session.{mostTasks}
 use Rattle.session.specs.declared.Session.{Session}
 use Rattle.session.specs.declared.Task.{Task}
-use Rattle.session.specs.Stored.{noTask, blankTask, popped}
-use Rattle.deeds.specs.Rows.{shifted, closedUp, withTasks}
+use Rattle.session.specs.Stored.{noTask, blankTask, withTasks, popped}
+use Rattle.deeds.specs.Rows.{shifted, closedUp}
 use Rattle.closing.proofs.Gaps.{closingIn, closes-begin, closes-end}
 use Rattle.plans.specs.Puts.{poppedIf, goneIf}
 

@@ -14,10 +14,9 @@ use Rattle.model.specs.Player.{requestOf}
 use Rattle.model.proofs.Logic.{never}
 use Rattle.session.specs.declared.Session.{Session}
 use Rattle.session.specs.declared.Task.{Task}
-use Rattle.session.specs.Stored.{view, hold, popped, noTask, Ready}
+use Rattle.session.specs.Stored.{view, hold, popped, noTask, withTasks, Ready}
 use Rattle.session.proofs.Known.{Sized}
 use Rattle.choice.specs.Shows.{Filled}
-use Rattle.deeds.specs.Rows.{withTasks}
 use Rattle.rules.specs.Starts.{Started}
 use Rattle.rules.proofs.LaunchLaws.{front-low, front-filled, back-kept}
 use Rattle.play.specs.Steps.{Playable, entryRefusal}

@@ -6,21 +6,20 @@ use native.Mathlib.Omega.{arith}
 use lib.ListN.{getD, set, replicate}
 use Rattle.model.specs.Lists.{omit}
 use Rattle.model.specs.Table.{mainScreen}
-use Rattle.model.specs.Session.{state, mostHeight, top, frontScreen}
+use Rattle.model.specs.Session.{onTasks, onMain, mostHeight, top, frontScreen}
 use Rattle.model.specs.Deeds.{mainWithout}
 use Rattle.model.specs.Calls.{launched, backed}
 use Rattle.session.specs.declared.Session.{Session}
 use Rattle.session.specs.declared.Task.{Task}
-use Rattle.session.specs.Stored.{view, viewTask, hold, holdTask, pad, freshSession, noTask, popped, Ready}
+use Rattle.session.specs.Stored.{view, viewTask, hold, holdTask, pad, freshSession, noTask, withTasks, withCount, withMain, popped, Ready}
 use Rattle.session.proofs.Known.{Sized}
 use Rattle.session.proofs.StoredLaws.{view-at, sized-at, stored-height, sound-blank}
 use Rattle.session.proofs.TaskLaws.{view-height}
-use Rattle.deeds.specs.Rows.{withTasks}
 use Rattle.closing.proofs.Closed.{back-closable, task-closed, top-closed}
 
 -- the main screen alone in the first place of a fresh session, and m = 1
 pub launch-held : (tb : List ℕ) (b : ℕ) (s : Session) → b ≡ mainScreen tb → s ≡ freshSession
-    → record { tasks = set (s .tasks) 0 (record { root = b; height = 1; screens = set (replicate mostHeight 0) 0 b }); n = 1; main = 1 }
+    → withMain (withCount (withTasks s (set (s .tasks) 0 (record { root = b; height = 1; screens = set (replicate mostHeight 0) 0 b }))) 1) 1
     ≡ hold (launched tb)
 unfolding hold holdTask pad launched
 launch-held tb b s e f = rw (f, e)
@@ -49,6 +48,6 @@ module _ (tb : List ℕ) (c : Session) (z : Sized c) (h : Ready tb c) (some : 1 
   unfolding backed
   back-kept more e = rw e (sym (top-closed c z 0 (back-closable tb c z h some) more))
 
-  pub back-gone : frontTask .height ≤ 1 → hold (state (omit 0 (view c .tasks)) (mainWithout 1 (c .main))) ≡ hold (backed (view c))
+  pub back-gone : frontTask .height ≤ 1 → hold (onTasks (omit 0) (onMain (mainWithout 1) (view c))) ≡ hold (backed (view c))
   unfolding backed
   back-gone low = let l = front-filled in task-closed c z 0 0 (back-closable tb c z h some) (omega arith) refl

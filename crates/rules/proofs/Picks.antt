@@ -17,9 +17,8 @@ use Rattle.model.specs.Calls.{startedBy}
 use Rattle.model.specs.Marks.{markAfter, closeAt}
 use Rattle.session.specs.declared.Session.{Session}
 use Rattle.session.specs.declared.Task.{Task}
-use Rattle.session.specs.Stored.{view, viewTask, hold}
+use Rattle.session.specs.Stored.{view, viewTask, hold, withTasks, withCount, withMain}
 use Rattle.session.proofs.Known.{Sized}
-use Rattle.session.proofs.SessionLaws.{stored}
 use Rattle.choice.specs.Startable.{Startable}
 use Rattle.choice.specs.Shows.{indexOf}
 use Rattle.choice.proofs.Tasks.{storedAt}
@@ -77,20 +76,20 @@ module _ {tb : List ℕ} {c : Session} {b : ℕ} {f : Flags} (z : Sized c) (h : 
       rw (i .index, i .deed) (change-read c t (deedOf (choose tb (view c) b f .rule)) (unsought tb (view c) b f) n)
 
   -- the session with the deed's task in front
-  picked-started : stored (shifted (frontAfter b d (storedAt c k)) (shiftOf d p (c .n)) (c .tasks)) (countAfter d (c .n)) (mainAfter d p (c .main))
+  picked-started : withMain (withCount (withTasks c (shifted (frontAfter b d (storedAt c k)) (shiftOf d p (c .n)) (c .tasks))) (countAfter d (c .n))) (mainAfter d p (c .main))
       ≡ hold (startedBy (choose tb (view c) b f) b (view c))
   picked-started =
       let t = choose tb (view c) b f .found in
       let r = deedOf (choose tb (view c) b f .rule) in
       rw (i .index, i .deed, i .place)
-      (ap (λ (x : Task). stored (shifted x (shiftOf r (placeOf t) (c .n)) (c .tasks)) (countAfter r (c .n)) (mainAfter r (placeOf t) (c .main)))
+      (ap (λ (x : Task). withMain (withCount (withTasks c (shifted x (shiftOf r (placeOf t) (c .n)) (c .tasks))) (countAfter r (c .n))) (mainAfter r (placeOf t) (c .main)))
       (front-read c t b r (unsought tb (view c) b f))
       ∙ sym (carried c z (placeOf t) b r (start-carriable tb c b f z h room)))
 
   -- the same, by what the code has of it
   pub picked-put : {v : Task} → v ≡ frontAfter b d (storedAt c k) → {j : ℕ} → j ≡ shiftOf d p (c .n) → {n : ℕ} → n ≡ countAfter d (c .n)
       → {m : ℕ} → m ≡ mainAfter d p (c .main)
-      → stored (shifted v j (c .tasks)) n m ≡ hold (startedBy (choose tb (view c) b f) b (view c))
+      → withMain (withCount (withTasks c (shifted v j (c .tasks))) n) m ≡ hold (startedBy (choose tb (view c) b f) b (view c))
   picked-put v j n m = rw (v, j, n, m) picked-started
 
   pub picked-sized : {u : Session} → u ≡ hold (startedBy (choose tb (view c) b f) b (view c)) → Sized u

@@ -9,9 +9,8 @@ use Rattle.model.specs.Rules.{choose}
 use Rattle.model.specs.Deeds.{deedOf}
 use Rattle.model.specs.Calls.{startedBy}
 use Rattle.session.specs.declared.Task.{Task}
-use Rattle.session.specs.Stored.{view, hold, noTask}
+use Rattle.session.specs.Stored.{view, hold, noTask, withTasks, withCount, withMain}
 use Rattle.session.proofs.StoredLaws.{view-main}
-use Rattle.session.proofs.SessionLaws.{stored}
 use Rattle.choice.specs.Startable.{Startable}
 use Rattle.choice.specs.Shows.{indexOf}
 use Rattle.choice.proofs.Tasks.{counted, stored-shows, front-screen, index-stands}
@@ -89,7 +88,7 @@ started c =
     (c .before .before .count-after .ensures) (c .before .main-after .ensures) in
     ⊎-elim (λ w. w .2 ∙ w .1 .ensures ∙ e)
     (λ w. w .6
-    ∙ ap (λ (us : List Task). stored us (c .before .before .count-after .result) (c .before .main-after .result))
+    ∙ ap (λ (us : List Task). withMain (withCount (withTasks (session k) us) (c .before .before .count-after .result)) (c .before .main-after .result))
     (shift-near noTask v (c .before .before .before .shift-of .result) ts (w .0 .left) (omega (arith, sizes k .tasks)) (w .3 .ensures) (w .5 .ensures))
     ∙ e)
     (c .if5 .came)
