@@ -1,19 +1,19 @@
 -- Closing a screen of a stored session, by the height of its task; the main place, by the tests that code makes; and that
 -- Back finds a screen.
-use Prim.Native.Nat.{ℕ, suc, _-_, _≤_, _<_, pred}
+use Prim.Native.Nat.{ℕ, _-_, _≤_, _<_, pred}
 use mathlib.Core.Path.{_≡_, refl, sym, _∙_, ap, ap₂}
-use mathlib.Core.Bool.{Bool, true, false}
+use mathlib.Core.Bool.{true, false}
 use mathlib.Core.List.{List, [], _∷_}
 use native.Mathlib.Omega.{arith}
 use lib.ListN.{length, getD, set}
 use borrow.Author.Tests.{eq-eqb, ne-eqb, lt-ltb, le-ltb}
-use Rattle.model.specs.Lists.{isEmpty, omit, if_then_else_}
-use Rattle.model.specs.Session.{Stack, stack, noStack, onScreens, onTasks, onMain, height, count, mostTasks, mostHeight}
-use Rattle.model.specs.Deeds.{mainWithout, close}
+use Rattle.model.specs.Lists.{isEmpty, omit}
+use Rattle.model.specs.Session.{Stack, stack, noStack, onScreens, height, count, mostTasks, mostHeight}
+use Rattle.model.specs.Deeds.{mainWithout, withoutTask, taskLeft, close}
 use Rattle.model.proofs.Logic.{All-at}
 use Rattle.model.proofs.ListLaws.{omit-length}
 use Rattle.model.proofs.Sound.{TaskSound}
-use Rattle.model.proofs.Close.{closeIn-emptied, closeIn-kept, shortened}
+use Rattle.model.proofs.Close.{close-emptied, close-kept}
 use Rattle.session.specs.declared.Session.{Session}
 use Rattle.session.specs.declared.Task.{Task}
 use Rattle.session.specs.Stored.{view, viewTask, hold, holdTask, noTask, withTasks, popped, blankAbove, storageBlank, Ready}
@@ -67,23 +67,18 @@ module _ (s : Session) (z : Sized s) (k i : ℕ) (c : Closable s k i) where
       let h = inside in
       ap height (view-at s k h) ∙ blank-height t (sized-at s z k (omega arith)) (stored-blank s z (c .blank) k h)
 
-  closed-last : t .height ≡ 1 → hold (close k i (view s)) ≡ hold (onTasks (omit k) (onMain (mainWithout (suc k)) (view s)))
-  unfolding close view
+  closed-last : t .height ≡ 1 → hold (close k i (view s)) ≡ hold (withoutTask k (view s))
   closed-last one =
       let h = tall in
-      let e = empty-is (omit i xs) (omega (arith, omit-length i xs (c .there .1))) in
-      ap₂ (λ (ts : List (Stack ℕ)) (b : Bool). hold (onTasks (λ us. ts) (onMain (λ m. if b then mainWithout (suc k) m else m) (view s))))
-      (closeIn-emptied k i (view s .tasks) e) e
+      ap hold (close-emptied k i (view s) (empty-is (omit i xs) (omega (arith, omit-length i xs (c .there .1)))))
 
   closed-kept : (t .height ≡ 1 → ⊥)
       → hold (close k i (view s)) ≡ withTasks s (set (s .tasks) k (holdTask (stack (t .root) (omit i (viewTask t .screens)))))
-  unfolding close view viewTask
+  unfolding viewTask
   closed-kept more =
       let h = tall in
-      let e = filled-is (omit i xs) (λ q. more (omega (arith, omit-length i xs (c .there .1)))) in
-      ap₂ (λ (ts : List (Stack ℕ)) (b : Bool). hold (onTasks (λ us. ts) (onMain (λ m. if b then mainWithout (suc k) m else m) (view s))))
-      (closeIn-kept k i (view s .tasks) e) e
-      ∙ hold-set (view s) k (shortened k i (view s .tasks)) (c .there .0)
+      ap hold (close-kept k i (view s) (filled-is (omit i xs) (λ q. more (omega (arith, omit-length i xs (c .there .1))))))
+      ∙ hold-set (view s) k (taskLeft k i (view s)) (c .there .0)
       ∙ ap₂ (λ (o : Session) (u : Stack ℕ). withTasks o (set (o .tasks) k (holdTask (onScreens (omit i) u)))) (held s z (c .blank)) (view-at s k inside)
 
   -- the place is one of the array
@@ -94,7 +89,7 @@ module _ (s : Session) (z : Sized s) (k i : ℕ) (c : Closable s k i) where
   pub task-there : (storageBlank s ≡ true) × (k < s .n)
   task-there = (c .blank, inside)
 
-  pub task-closed : t .height ≡ 1 → {r : Session} → r ≡ hold (onTasks (omit k) (onMain (mainWithout (suc k)) (view s)))
+  pub task-closed : t .height ≡ 1 → {r : Session} → r ≡ hold (withoutTask k (view s))
       → r ≡ hold (close k i (view s))
   task-closed one e = e ∙ sym (closed-last one)
 

@@ -9,7 +9,7 @@ use lib.ListN.{length, getD, set, take, drop, replicate, length-map, length-drop
 use lib.Seq.{take-at, take-append-le, drop-append-le}
 use Rattle.model.specs.Lists.{omit}
 use Rattle.model.specs.Session.{State, stack, onTasks, onMain, count, height, mostTasks, mostHeight}
-use Rattle.model.specs.Deeds.{mainWithout}
+use Rattle.model.specs.Deeds.{mainWithout, withoutTask}
 use Rattle.model.proofs.ListLaws.{omit-length, omit-split, map-omit}
 use Rattle.session.specs.declared.Session.{Session}
 use Rattle.session.specs.declared.Task.{Task}
@@ -77,22 +77,23 @@ hold-gone v m k e h =
     (ap (pad mostTasks blankTask) (map-omit holdTask m (v .tasks))
     ∙ pad-closed mostTasks blankTask m k (map holdTask (v .tasks)) (omega arith) (omega arith))
 
-task-gone : (s : Session) → Sized s → storageBlank s ≡ true → (k : ℕ) (g : ℕ → ℕ) → k < s .n
-    → hold (onTasks (omit k) (onMain g (view s)))
-    ≡ withMain (withCount (withTasks s (closedUp k (s .n - 1 - k) blankTask (s .tasks))) (s .n - 1)) (g (s .main))
+task-gone : (s : Session) → Sized s → storageBlank s ≡ true → (k : ℕ) → k < s .n
+    → hold (withoutTask k (view s))
+    ≡ withMain (withCount (withTasks s (closedUp k (s .n - 1 - k) blankTask (s .tasks))) (s .n - 1)) (mainWithout (suc k) (s .main))
 unfolding view hold
-task-gone s z e k g h =
+task-gone s z e k h =
     let c = counted s z e in
     let few = blank-few s e in
     let j = s .n - 1 - k in
-    hold-gone (onMain g (view s)) k j (omega arith) (omega arith)
-    ∙ ap₂ (λ (o : Session) (i : ℕ). withMain (withCount (withTasks o (closedUp k j blankTask (o .tasks))) (i - 1)) (g (s .main))) (held s z e) c
+    let m = mainWithout (suc k) in
+    hold-gone (onMain m (view s)) k j (omega arith) (omega arith)
+    ∙ ap₂ (λ (o : Session) (i : ℕ). withMain (withCount (withTasks o (closedUp k j blankTask (o .tasks))) (i - 1)) (m (s .main))) (held s z e) c
 
 -- so of o, whose tasks have come nearer, with one less of them and the main place
 pub task-taken : (s : Session) → Sized s → storageBlank s ≡ true → (k : ℕ) → k < s .n
     → {o : Session} → o ≡ withTasks s (closedUp k (s .n - 1 - k) blankTask (s .tasks)) → {m : ℕ} → m ≡ mainWithout (suc k) (s .main)
-    → withMain (withCount o (s .n - 1)) m ≡ hold (onTasks (omit k) (onMain (mainWithout (suc k)) (view s)))
-task-taken s z e k h f g = ap₂ (λ (o : Session) (m : ℕ). withMain (withCount o (s .n - 1)) m) f g ∙ sym (task-gone s z e k (mainWithout (suc k)) h)
+    → withMain (withCount o (s .n - 1)) m ≡ hold (withoutTask k (view s))
+task-taken s z e k h f g = ap₂ (λ (o : Session) (m : ℕ). withMain (withCount o (s .n - 1)) m) f g ∙ sym (task-gone s z e k h)
 
 -- ---- the loop that takes a task of a session away: its invariant at the beginning, after a turn and at the end
 

@@ -11,7 +11,7 @@ use Rattle.model.specs.Lists.{All}
 use Rattle.model.specs.Refusals.{refusal}
 use Rattle.model.specs.Table.{tableRefusal}
 use Rattle.model.specs.Session.{Stack, State, stack, count, screensIn, fresh, mostTasks, mostHeight}
-use Rattle.model.specs.Deeds.{closeIn, close}
+use Rattle.model.specs.Deeds.{close}
 use Rattle.model.specs.Answers.{outcome, settle, lookAt}
 use Rattle.model.specs.Calls.{back, look, backed, ownChecks, done, call}
 use Rattle.model.proofs.Sessions.{withTasks, same-fields}
@@ -53,7 +53,7 @@ module _ (tb : List ℕ) (ok : tableRefusal tb ≡ 0) where
 
 front-screens : (s : State ℕ) (r x : ℕ) (xs : List ℕ) (ts : List (Stack ℕ))
     → suc (screensIn (backed (withTasks s (stack r (x ∷ xs) ∷ ts)) .tasks)) ≡ screensIn (stack r (x ∷ xs) ∷ ts)
-unfolding backed close closeIn screensIn
+unfolding backed close screensIn
 front-screens s r x [] ts = omega arith
 front-screens s r x (y ∷ ys) ts = omega arith
 
@@ -92,7 +92,7 @@ module _ (s s′ : State ℕ) (r r′ x x′ : ℕ) (ts ts′ : List (Stack ℕ)
       → lookAt (withTasks s (stack r (x ∷ xs) ∷ ts)) ≡ lookAt (withTasks s′ (stack r′ (x′ ∷ xs′) ∷ ts′))
       → backed (withTasks s (stack r (x ∷ xs) ∷ ts)) ≡ backed (withTasks s′ (stack r′ (x′ ∷ xs′) ∷ ts′))
       → withTasks s (stack r (x ∷ xs) ∷ ts) ≡ withTasks s′ (stack r′ (x′ ∷ xs′) ∷ ts′)
-  unfolding lookAt backed close closeIn
+  unfolding lookAt backed close
   front-tells [] [] q e =
       same-fields
       (cons-tasks (ap (λ (a : Answer). a .root) q) (ap (λ (a : Answer). a .screen ∷ []) q) (ap (λ (s : State ℕ). s .tasks) e))

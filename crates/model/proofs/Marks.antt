@@ -8,45 +8,34 @@ use mathlib.Core.List.{List, [], _∷_, map}
 use native.Mathlib.Nat.{not-suc-le-zero}
 use native.Mathlib.Omega.{arith}
 use lib.Dec.{eqb}
-use lib.ListN.{length, getD, drop, length-map, List·getD-map}
+use lib.ListN.{length, getD, set, drop, length-map, List·getD-map}
 use borrow.Author.Tests.{lt-leb}
 use Rattle.model.specs.declared.Change.{Change}
 use Rattle.model.specs.declared.Deed.{Deed}
 use Rattle.model.specs.declared.Mark.{Mark}
 use Rattle.model.specs.Lists.{if_then_else_, isEmpty, isPlace, further, find, omit, putSecond, toFront, All}
-use Rattle.model.specs.Session.{Stack, State, stack, noStack, onScreens, front, count}
+use Rattle.model.specs.Session.{Stack, State, stack, noStack, onScreens, onTasks, front, count}
 use Rattle.model.specs.Search.{holds}
-use Rattle.model.specs.Deeds.{move, changed, changeFront, putNew, carryOut, closeIn, close}
+use Rattle.model.specs.Deeds.{move, changed, changeFront, putNew, carryOut, withoutTask, taskLeft, close}
 use Rattle.model.specs.Calls.{Marked, unmarked, mapScreens, mapState, markFront, holdsMark, closeMarked}
 use Rattle.model.specs.Marks.{markIn, markAfter, closeAt}
 use Rattle.model.proofs.Logic.{All-of}
 use Rattle.model.proofs.Sessions.{withTasks}
-use Rattle.model.proofs.ListLaws.{toFront-length, All-drop, All-toFront, All-to-map, map-omit, map-toFront, map-drop, map-onFirst, find-map, isEmpty-map}
+use Rattle.model.proofs.ListLaws.{toFront-length, All-drop, All-toFront, All-to-map, map-omit, map-set, map-toFront, map-drop, map-onFirst, find-map, isEmpty-map}
 
 -- ---- deeds and closing do not look at marks
 
 module _ {A B : Type 0} (f : A → B) where
-  map-close-in : (k i : ℕ) (ts : List (Stack A)) → map (mapScreens f) (closeIn k i ts) ≡ closeIn k i (map (mapScreens f) ts)
-  unfolding closeIn
-  map-close-in k i [] = refl
-  map-close-in zero i (t ∷ ts) =
-      rw (← (map-omit f i (t .screens)), isEmpty-map f (omit i (t .screens))) (go (isEmpty (omit i (t .screens))))
-    where
-      go : (b : Bool) → map (mapScreens f) (if b then ts else stack (t .root) (omit i (t .screens)) ∷ ts)
-          ≡ (if b then map (mapScreens f) ts else stack (t .root) (map f (omit i (t .screens))) ∷ map (mapScreens f) ts)
-      go true = refl
-      go false = refl
-  map-close-in (suc k) i (t ∷ ts) = ap (λ (us : List (Stack B)). mapScreens f t ∷ us) (map-close-in k i ts)
-
   map-close : (k i : ℕ) (s : State A) → mapState f (close k i s) ≡ close k i (mapState f s)
   unfolding mapState close
   map-close k i s =
-      rw (
-        map-close-in k i (s .tasks),
-        List·getD-map (mapScreens f) (s .tasks) k noStack,
-        ← (map-omit f i (getD (s .tasks) k noStack .screens)),
-        isEmpty-map f (omit i (getD (s .tasks) k noStack .screens)),
-      )
+      rw (List·getD-map (mapScreens f) (s .tasks) k noStack, ← (map-omit f i (getD (s .tasks) k noStack .screens)), isEmpty-map f (omit i (getD (s .tasks) k noStack .screens)))
+      (go (isEmpty (omit i (getD (s .tasks) k noStack .screens))))
+    where
+      go : (b : Bool) → mapState f (if b then withoutTask k s else onTasks (λ ts. set ts k (taskLeft k i s)) s)
+          ≡ (if b then withoutTask k (mapState f s) else onTasks (λ ts. set ts k (mapScreens f (taskLeft k i s))) (mapState f s))
+      go true = rw (map-omit (mapScreens f) k (s .tasks))
+      go false = rw (map-set (mapScreens f) k (taskLeft k i s) (s .tasks))
 
   map-close-at : (k : Mark) (s : State A) → mapState f (closeAt k s) ≡ closeAt k (mapState f s)
   map-close-at Mark.Gone s = refl

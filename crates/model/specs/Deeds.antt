@@ -1,15 +1,15 @@
 -- Document 01, "Calls": move, clear to B, lift, new, empty, push; what each rule does; and closing a screen.
 -- Screens may be of any kind: `isB` tells which of them are B, and `newB` is the B that is pushed.
-use Prim.Native.Nat.{ℕ, zero, suc, pred}
+use Prim.Native.Nat.{ℕ, suc, pred}
 use mathlib.Core.Bool.{Bool}
 use mathlib.Core.List.{List, [], _∷_}
 use lib.Dec.{eqb, ltb}
-use lib.ListN.{getD, drop}
+use lib.ListN.{set, drop}
 use Rattle.model.specs.declared.Rule.{Rule}
 use Rattle.model.specs.declared.Change.{Change}
 use Rattle.model.specs.declared.Deed.{Deed}
 use Rattle.model.specs.Lists.{if_then_else_, isEmpty, further, find, omit, toFront, onFirst}
-use Rattle.model.specs.Session.{Stack, State, stack, noStack, onScreens, onTasks, onMain}
+use Rattle.model.specs.Session.{Stack, State, stack, onScreens, onTasks, onMain, taskAt}
 
 -- what 01 writes behind each rule's colon. A change is what is done with the screens of the front task: nothing
 -- (`Keep`), "empty, push B" (`Renew`), "clear to B", "lift" or "push B".
@@ -69,14 +69,15 @@ module _ {A : Type 0} where
   carryOut isB b newB (Deed.InFront c) p s = changeFront (changed isB newB c) s
   carryOut isB b newB (Deed.MoveAnd c) p s = changeFront (changed isB newB c) (move p s)
 
-  -- the task behind k others loses the screen below i others; "a task left empty goes"
-  unfoldable pub closeIn : ℕ → ℕ → List (Stack A) → List (Stack A)
-  closeIn k i [] = []
-  closeIn zero i (t ∷ ts) = if isEmpty (omit i (t .screens)) then ts else onScreens (omit i) t ∷ ts
-  closeIn (suc k) i (t ∷ ts) = t ∷ closeIn k i ts
+  -- the task behind k others, so at the place k + 1, "goes, and m follows its task or becomes 0"
+  abbrev pub withoutTask : ℕ → State A → State A
+  withoutTask k s = onTasks (omit k) (onMain (mainWithout (suc k)) s)
+
+  -- what is left of that task without the screen that stands below i others
+  abbrev pub taskLeft : ℕ → ℕ → State A → Stack A
+  taskLeft k i s = onScreens (omit i) (taskAt (s .tasks) (suc k))
 
   -- "removes the front screen; a task left empty goes, and m follows its task or becomes 0", in any task at any depth
   unfoldable pub close : ℕ → ℕ → State A → State A
   close k i s =
-      onTasks (closeIn k i)
-      (onMain (λ m. if isEmpty (omit i (getD (s .tasks) k noStack .screens)) then mainWithout (suc k) m else m) s)
+      if isEmpty (taskLeft k i s .screens) then withoutTask k s else onTasks (λ ts. set ts k (taskLeft k i s)) s

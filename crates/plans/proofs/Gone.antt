@@ -7,7 +7,7 @@ use native.Mathlib.Omega.{arith}
 use lib.ListN.{length, getD, replicate, length-map, replicate-append-replicate}
 use Rattle.model.specs.Lists.{omit}
 use Rattle.model.specs.Session.{State, onTasks, onMain, count, mostTasks}
-use Rattle.model.specs.Deeds.{mainWithout, close}
+use Rattle.model.specs.Deeds.{mainWithout, withoutTask, close}
 use Rattle.model.proofs.ListLaws.{omit-length, map-omit}
 use Rattle.session.specs.declared.Session.{Session}
 use Rattle.session.specs.Stored.{view, hold, holdTask, pad, noTask, blankTask, withTasks, withCount, withMain, storageBlank}
@@ -44,19 +44,20 @@ hold-omit v k h l =
     (ap (pad mostTasks blankTask) (map-omit holdTask k (v .tasks))
     ∙ pad-omit mostTasks blankTask k (map holdTask (v .tasks)) (omega arith) (omega arith))
 
-gone-held : (q : Session) → Sized q → storageBlank q ≡ true → (k : ℕ) (g : ℕ → ℕ) → k < q .n
-    → hold (onTasks (omit k) (onMain g (view q)))
-    ≡ withMain (withCount (withTasks q (omit k (q .tasks) ++ blankTask ∷ [])) (q .n - 1)) (g (q .main))
+gone-held : (q : Session) → Sized q → storageBlank q ≡ true → (k : ℕ) → k < q .n
+    → hold (withoutTask k (view q))
+    ≡ withMain (withCount (withTasks q (omit k (q .tasks) ++ blankTask ∷ [])) (q .n - 1)) (mainWithout (suc k) (q .main))
 unfolding view hold
-gone-held q z e k g h =
+gone-held q z e k h =
     let c = counted q z e in
     let few = blank-few q e in
-    hold-omit (onMain g (view q)) k (omega arith) (omega arith)
-    ∙ ap₂ (λ (o : Session) (j : ℕ). withMain (withCount (withTasks o (omit k (o .tasks) ++ blankTask ∷ [])) (j - 1)) (g (q .main))) (held q z e) c
+    let m = mainWithout (suc k) in
+    hold-omit (onMain m (view q)) k (omega arith) (omega arith)
+    ∙ ap₂ (λ (o : Session) (j : ℕ). withMain (withCount (withTasks o (omit k (o .tasks) ++ blankTask ∷ [])) (j - 1)) (m (q .main))) (held q z e) c
 
 -- closing the only screen of a task
 pub task-goes : (q : Session) → Sized q → (k i : ℕ) → Closable q k i → getD (q .tasks) k noTask .height ≤ 1
     → withMain (withCount (withTasks q (omit k (q .tasks) ++ blankTask ∷ [])) (q .n - 1)) (mainWithout (suc k) (q .main)) ≡ hold (close k i (view q))
 task-goes q z k i c low =
     let l = screen-there q z k i c .1 in
-    task-closed q z k i c (omega arith) (sym (gone-held q z (c .blank) k (mainWithout (suc k)) (task-there q z k i c .1)))
+    task-closed q z k i c (omega arith) (sym (gone-held q z (c .blank) k (task-there q z k i c .1)))

@@ -4,10 +4,9 @@ use mathlib.Core.Path.{_≡_, refl, sym, ap}
 use mathlib.Core.List.{List}
 use native.Mathlib.Omega.{arith}
 use lib.ListN.{getD, set, replicate}
-use Rattle.model.specs.Lists.{omit}
 use Rattle.model.specs.Table.{mainScreen}
-use Rattle.model.specs.Session.{onTasks, onMain, mostHeight, top, frontScreen}
-use Rattle.model.specs.Deeds.{mainWithout}
+use Rattle.model.specs.Session.{mostHeight, top, frontScreen}
+use Rattle.model.specs.Deeds.{withoutTask}
 use Rattle.model.specs.Calls.{launched, backed}
 use Rattle.session.specs.declared.Session.{Session}
 use Rattle.session.specs.declared.Task.{Task}
@@ -48,6 +47,6 @@ module _ (tb : List ℕ) (c : Session) (z : Sized c) (h : Ready tb c) (some : 1 
   unfolding backed
   back-kept more e = rw e (sym (top-closed c z 0 (back-closable tb c z h some) more))
 
-  pub back-gone : frontTask .height ≤ 1 → hold (onTasks (omit 0) (onMain (mainWithout 1) (view c))) ≡ hold (backed (view c))
+  pub back-gone : frontTask .height ≤ 1 → hold (withoutTask 0 (view c)) ≡ hold (backed (view c))
   unfolding backed
   back-gone low = let l = front-filled in task-closed c z 0 0 (back-closable tb c z h some) (omega arith) refl

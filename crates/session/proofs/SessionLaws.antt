@@ -1,21 +1,16 @@
 -- A change of a session's list of tasks is a change of the stored array: any change, a task changed, a task moved to the
 -- front.
-use Prim.Native.Nat.{ℕ, zero, suc, _<_}
-use mathlib.Core.Path.{_≡_, refl, _∙_, ap}
-use mathlib.Core.List.{List, [], _∷_, map}
+use Prim.Native.Nat.{ℕ, _<_}
+use mathlib.Core.Path.{_≡_, _∙_, ap}
+use mathlib.Core.List.{List, map}
 use native.Mathlib.Omega.{arith}
 use lib.ListN.{length, set, length-map, length-set}
 use Rattle.model.specs.Lists.{toFront}
 use Rattle.model.specs.Session.{Stack, State, onTasks, count, mostTasks}
-use Rattle.model.proofs.ListLaws.{map-toFront, toFront-length}
+use Rattle.model.proofs.ListLaws.{map-set, map-toFront, toFront-length}
 use Rattle.session.specs.declared.Task.{Task}
 use Rattle.session.specs.Stored.{blankTask, withTasks, withCount, holdTask, hold, pad}
 use Rattle.session.proofs.Padding.{pad-set, pad-toFront}
-
-map-set : {A B : Type 0} (f : A → B) (xs : List A) (k : ℕ) (x : A) → map f (set xs k x) ≡ set (map f xs) k (f x)
-map-set f [] k x = refl
-map-set f (y ∷ ys) zero x = refl
-map-set f (y ∷ ys) (suc k) x = ap (λ l. f y ∷ l) (map-set f ys k x)
 
 module _ (v : State ℕ) where
   abbrev ts : List (Stack ℕ)
@@ -35,7 +30,7 @@ module _ (v : State ℕ) where
   unfolding hold
   hold-set k t h =
       hold-row (λ us. set us k t) (length-set ts k t)
-      (ap (pad mostTasks blankTask) (map-set holdTask ts k t) ∙ pad-set mostTasks blankTask k (holdTask t) (map holdTask ts) (inside k h))
+      (ap (pad mostTasks blankTask) (map-set holdTask k t ts) ∙ pad-set mostTasks blankTask k (holdTask t) (map holdTask ts) (inside k h))
 
   pub hold-toFront : (k : ℕ) → k < count v → hold (onTasks (toFront k) v) ≡ withTasks (hold v) (toFront k (hold v .tasks))
   unfolding hold
