@@ -1,6 +1,6 @@
 -- Closing a screen of a stored session, by the height of its task; the main place, by the tests that code makes; and that
 -- Back finds a screen.
-use Prim.Native.Nat.{ℕ, _-_, _≤_, _<_, pred}
+use Prim.Native.Nat.{ℕ, suc, _-_, _≤_, _<_, pred}
 use mathlib.Core.Path.{_≡_, refl, sym, _∙_, ap, ap₂}
 use mathlib.Core.Bool.{true, false}
 use mathlib.Core.List.{List, [], _∷_}
@@ -67,18 +67,18 @@ module _ (s : Session) (z : Sized s) (k i : ℕ) (c : Closable s k i) where
       let h = inside in
       ap height (view-at s k h) ∙ blank-height t (sized-at s z k (omega arith)) (stored-blank s z (c .blank) k h)
 
-  closed-last : t .height ≡ 1 → hold (close k i (view s)) ≡ hold (withoutTask k (view s))
+  closed-last : t .height ≡ 1 → hold (close (suc k) i (view s)) ≡ hold (withoutTask (suc k) (view s))
   closed-last one =
       let h = tall in
-      ap hold (close-emptied k i (view s) (empty-is (omit i xs) (omega (arith, omit-length i xs (c .there .1)))))
+      ap hold (close-emptied (suc k) i (view s) (empty-is (omit i xs) (omega (arith, omit-length i xs (c .there .1)))))
 
   closed-kept : (t .height ≡ 1 → ⊥)
-      → hold (close k i (view s)) ≡ withTasks s (set (s .tasks) k (holdTask (stack (t .root) (omit i (viewTask t .screens)))))
+      → hold (close (suc k) i (view s)) ≡ withTasks s (set (s .tasks) k (holdTask (stack (t .root) (omit i (viewTask t .screens)))))
   unfolding viewTask
   closed-kept more =
       let h = tall in
-      ap hold (close-kept k i (view s) (filled-is (omit i xs) (λ q. more (omega (arith, omit-length i xs (c .there .1))))))
-      ∙ hold-set (view s) k (taskLeft k i (view s)) (c .there .0)
+      ap hold (close-kept (suc k) i (view s) (filled-is (omit i xs) (λ q. more (omega (arith, omit-length i xs (c .there .1))))))
+      ∙ hold-set (view s) k (taskLeft (suc k) i (view s)) (c .there .0)
       ∙ ap₂ (λ (o : Session) (u : Stack ℕ). withTasks o (set (o .tasks) k (holdTask (onScreens (omit i) u)))) (held s z (c .blank)) (view-at s k inside)
 
   -- the place is one of the array
@@ -89,8 +89,8 @@ module _ (s : Session) (z : Sized s) (k i : ℕ) (c : Closable s k i) where
   pub task-there : (storageBlank s ≡ true) × (k < s .n)
   task-there = (c .blank, inside)
 
-  pub task-closed : t .height ≡ 1 → {r : Session} → r ≡ hold (withoutTask k (view s))
-      → r ≡ hold (close k i (view s))
+  pub task-closed : t .height ≡ 1 → {r : Session} → r ≡ hold (withoutTask (suc k) (view s))
+      → r ≡ hold (close (suc k) i (view s))
   task-closed one e = e ∙ sym (closed-last one)
 
   -- where it has more: what `without_screen` requires, and what is left when its task is put in place
@@ -98,7 +98,7 @@ module _ (s : Session) (z : Sized s) (k i : ℕ) (c : Closable s k i) where
   screen-there = let h = tall in (stored-blank s z (c .blank) k inside, omega (arith, c .there .1))
 
   pub screen-closed : (t .height ≡ 1 → ⊥) → {r : Task} → r ≡ holdTask (stack (t .root) (omit i (viewTask t .screens)))
-      → withTasks s (set (s .tasks) k r) ≡ hold (close k i (view s))
+      → withTasks s (set (s .tasks) k r) ≡ hold (close (suc k) i (view s))
   screen-closed more e = ap (λ (u : Task). withTasks s (set (s .tasks) k u)) e ∙ sym (closed-kept more)
 
 -- ---- the top screen of a task that keeps others
@@ -108,7 +108,7 @@ hold-first-gone r [] h l = absurd (omega arith)
 hold-first-gone r (x ∷ xs) h l = hold-popped r x xs (omega arith)
 
 pub top-closed : (s : Session) → Sized s → (k : ℕ) → Closable s k 0 → 1 < getD (s .tasks) k noTask .height
-    → hold (close k 0 (view s)) ≡ withTasks s (set (s .tasks) k (popped (getD (s .tasks) k noTask)))
+    → hold (close (suc k) 0 (view s)) ≡ withTasks s (set (s .tasks) k (popped (getD (s .tasks) k noTask)))
 unfolding viewTask
 top-closed s z k c more =
     let t = getD (s .tasks) k noTask in

@@ -78,7 +78,7 @@ hold-gone v m k e h =
     ∙ pad-closed mostTasks blankTask m k (map holdTask (v .tasks)) (omega arith) (omega arith))
 
 task-gone : (s : Session) → Sized s → storageBlank s ≡ true → (k : ℕ) → k < s .n
-    → hold (withoutTask k (view s))
+    → hold (withoutTask (suc k) (view s))
     ≡ withMain (withCount (withTasks s (closedUp k (s .n - 1 - k) blankTask (s .tasks))) (s .n - 1)) (mainWithout (suc k) (s .main))
 unfolding view hold
 task-gone s z e k h =
@@ -92,7 +92,7 @@ task-gone s z e k h =
 -- so of o, whose tasks have come nearer, with one less of them and the main place
 pub task-taken : (s : Session) → Sized s → storageBlank s ≡ true → (k : ℕ) → k < s .n
     → {o : Session} → o ≡ withTasks s (closedUp k (s .n - 1 - k) blankTask (s .tasks)) → {m : ℕ} → m ≡ mainWithout (suc k) (s .main)
-    → withMain (withCount o (s .n - 1)) m ≡ hold (withoutTask k (view s))
+    → withMain (withCount o (s .n - 1)) m ≡ hold (withoutTask (suc k) (view s))
 task-taken s z e k h f g = ap₂ (λ (o : Session) (m : ℕ). withMain (withCount o (s .n - 1)) m) f g ∙ sym (task-gone s z e k h)
 
 -- ---- the loop that takes a task of a session away: its invariant at the beginning, after a turn and at the end

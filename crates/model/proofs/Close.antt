@@ -20,14 +20,14 @@ use Rattle.model.proofs.Sound.{TaskSound, RootsDiffer, MainSound, Sound
 
 -- ---- the two ways of closing
 
-module _ {A : Type 0} (k i : ℕ) (s : State A) where
+module _ {A : Type 0} (p i : ℕ) (s : State A) where
   -- the task loses its last screen, and goes
-  pub close-emptied : isEmpty (taskLeft k i s .screens) ≡ true → close k i s ≡ withoutTask k s
+  pub close-emptied : isEmpty (taskLeft p i s .screens) ≡ true → close p i s ≡ withoutTask p s
   unfolding close
   close-emptied e = rw e
 
   -- other screens stay in the task
-  pub close-kept : isEmpty (taskLeft k i s .screens) ≡ false → close k i s ≡ onTasks (λ ts. set ts k (taskLeft k i s)) s
+  pub close-kept : isEmpty (taskLeft p i s .screens) ≡ false → close p i s ≡ onTasks (λ ts. set ts (pred p) (taskLeft p i s)) s
   unfolding close
   close-kept e = rw e
 
@@ -101,7 +101,7 @@ module _ (tb : List ℕ) where
       before (suc n) l h = follows-main tb ts (omit k ts) n (suc n) (omit-inside k (suc n) ts l (h .most)) (omit-before noStack k n ts l) h
 
   module _ (k i : ℕ) (s : State ℕ) (h : Sound tb s) where
-    emptied-sound : Sound tb (withoutTask k s)
+    emptied-sound : Sound tb (withoutTask (suc k) s)
     emptied-sound =
         record {
           few = le-trans (omit-length-le k (s .tasks)) (h .few);
@@ -110,27 +110,30 @@ module _ (tb : List ℕ) where
           place = without-main k (s .main) (s .tasks) (h .place);
         }
 
-    kept-sound : isEmpty (taskLeft k i s .screens) ≡ false → Sound tb (onTasks (λ ts. set ts k (taskLeft k i s)) s)
+    abbrev left : Stack ℕ
+    left = taskLeft (suc k) i s
+
+    kept-sound : isEmpty (left .screens) ≡ false → Sound tb (onTasks (λ ts. set ts k left) s)
     kept-sound e =
         record {
-          few = rw (length-set (s .tasks) k (taskLeft k i s)) (h .few);
+          few = rw (length-set (s .tasks) k left) (h .few);
           each =
-              All-set (TaskSound tb) k (taskLeft k i s) (s .tasks)
+              All-set (TaskSound tb) k left (s .tasks)
               (λ l. shortened-sound (getD (s .tasks) k noStack) i e (All-at (TaskSound tb) (s .tasks) k noStack l (h .each))) (h .each);
           pairs = same-roots-pairs tb (s .tasks) ts (sym same) (h .pairs);
           place = same-roots-main tb (s .tasks) ts (sym same) (s .main) (h .place);
         }
       where
         ts : List (Stack ℕ)
-        ts = set (s .tasks) k (taskLeft k i s)
+        ts = set (s .tasks) k left
 
         same : rootsOf ts ≡ rootsOf (s .tasks)
-        same = map-set-same (λ t. t .root) (s .tasks) k (taskLeft k i s) noStack refl
+        same = map-set-same (λ t. t .root) (s .tasks) k left noStack refl
 
 -- at any depth in any task, or nowhere
-pub close-sound : (tb : List ℕ) (k i : ℕ) (s : State ℕ) → Sound tb s → Sound tb (close k i s)
+pub close-sound : (tb : List ℕ) (k i : ℕ) (s : State ℕ) → Sound tb s → Sound tb (close (suc k) i s)
 unfolding close
-close-sound tb k i s h = if-elim (Sound tb) (isEmpty (taskLeft k i s .screens)) _ _ (λ e. emptied-sound tb k i s h) (kept-sound tb k i s h)
+close-sound tb k i s h = if-elim (Sound tb) (isEmpty (taskLeft (suc k) i s .screens)) _ _ (λ e. emptied-sound tb k i s h) (kept-sound tb k i s h)
 
 pub backed-sound : (tb : List ℕ) (s : State ℕ) → Sound tb s → Sound tb (backed s)
 unfolding backed

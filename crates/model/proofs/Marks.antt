@@ -8,16 +8,16 @@ use mathlib.Core.List.{List, [], _∷_, map}
 use native.Mathlib.Nat.{not-suc-le-zero}
 use native.Mathlib.Omega.{arith}
 use lib.Dec.{eqb}
-use lib.ListN.{length, getD, set, drop, length-map, List·getD-map}
+use lib.ListN.{length, set, drop, length-map, List·getD-map}
 use borrow.Author.Tests.{lt-leb}
 use Rattle.model.specs.declared.Change.{Change}
 use Rattle.model.specs.declared.Deed.{Deed}
 use Rattle.model.specs.declared.Mark.{Mark}
 use Rattle.model.specs.Lists.{if_then_else_, isEmpty, isPlace, further, find, omit, putSecond, toFront, All}
-use Rattle.model.specs.Session.{Stack, State, stack, noStack, onScreens, onTasks, front, count}
+use Rattle.model.specs.Session.{Stack, State, stack, noStack, onScreens, onTasks, taskAt, front, count}
 use Rattle.model.specs.Search.{holds}
 use Rattle.model.specs.Deeds.{move, changed, changeFront, putNew, carryOut, withoutTask, taskLeft, close}
-use Rattle.model.specs.Calls.{Marked, unmarked, mapScreens, mapState, markFront, holdsMark, closeMarked}
+use Rattle.model.specs.Calls.{Marked, unmarked, mapScreens, mapState, markFront, placeOfMark, closeMarked}
 use Rattle.model.specs.Marks.{markIn, markAfter, closeAt}
 use Rattle.model.proofs.Logic.{All-of}
 use Rattle.model.proofs.Sessions.{withTasks}
@@ -26,20 +26,21 @@ use Rattle.model.proofs.ListLaws.{toFront-length, All-drop, All-toFront
 -- ---- deeds and closing do not look at marks
 
 module _ {A B : Type 0} (f : A → B) where
-  map-close : (k i : ℕ) (s : State A) → mapState f (close k i s) ≡ close k i (mapState f s)
+  map-close : (p i : ℕ) (s : State A) → mapState f (close p i s) ≡ close p i (mapState f s)
   unfolding mapState close
-  map-close k i s =
-      rw (List·getD-map (mapScreens f) (s .tasks) k noStack, ← (map-omit f i (getD (s .tasks) k noStack .screens)), isEmpty-map f (omit i (getD (s .tasks) k noStack .screens)))
-      (go (isEmpty (omit i (getD (s .tasks) k noStack .screens))))
+  map-close p i s =
+      let t = taskAt (s .tasks) p in
+      rw (List·getD-map (mapScreens f) (s .tasks) (pred p) noStack, ← (map-omit f i (t .screens)), isEmpty-map f (omit i (t .screens)))
+      (go (isEmpty (omit i (t .screens))))
     where
-      go : (b : Bool) → mapState f (if b then withoutTask k s else onTasks (λ ts. set ts k (taskLeft k i s)) s)
-          ≡ (if b then withoutTask k (mapState f s) else onTasks (λ ts. set ts k (mapScreens f (taskLeft k i s))) (mapState f s))
-      go true = rw (map-omit (mapScreens f) k (s .tasks))
-      go false = rw (map-set (mapScreens f) k (taskLeft k i s) (s .tasks))
+      go : (b : Bool) → mapState f (if b then withoutTask p s else onTasks (λ ts. set ts (pred p) (taskLeft p i s)) s)
+          ≡ (if b then withoutTask p (mapState f s) else onTasks (λ ts. set ts (pred p) (mapScreens f (taskLeft p i s))) (mapState f s))
+      go true = rw (map-omit (mapScreens f) (pred p) (s .tasks))
+      go false = rw (map-set (mapScreens f) (pred p) (taskLeft p i s) (s .tasks))
 
   map-close-at : (k : Mark) (s : State A) → mapState f (closeAt k s) ≡ closeAt k (mapState f s)
   map-close-at Mark.Gone s = refl
-  map-close-at (Mark.Stands k i) s = map-close k i s
+  map-close-at (Mark.Stands k i) s = map-close (suc k) i s
 
   module _ (isB : B → Bool) (b : ℕ) (x : A) where
     map-changed : (c : Change) (xs : List A) → map f (changed (λ y. isB (f y)) x c xs) ≡ changed isB (f x) c (map f xs)
@@ -90,13 +91,13 @@ Unheld ts = All (λ t. Unmarked (t .screens)) ts
 unheld-all : (ts : List (Stack ℕ)) → Unheld (map (mapScreens unmarked) ts)
 unheld-all ts = All-to-map (mapScreens unmarked) (λ t. Unmarked (t .screens)) ts (All-of (λ t. unmarked-all (t .screens)) ts)
 
-unheld-none : (ts : List (Stack Marked)) → Unheld ts → find holdsMark ts ≡ 0
+unheld-none : (ts : List (Stack Marked)) → Unheld ts → find (λ t. isPlace (placeOfMark t)) ts ≡ 0
 unheld-none [] h = refl
 unheld-none (t ∷ ts) h = rw (find-all-false isMarked (t .screens) (h .0), unheld-none ts (h .1))
 
 module _ (s : State Marked) (r : ℕ) (ys : List Marked) (us : List (Stack Marked)) where
   -- the mark is in the front task
-  marked-first : (i : ℕ) → find isMarked ys ≡ suc i → closeMarked (withTasks s (stack r ys ∷ us)) ≡ close 0 i (withTasks s (stack r ys ∷ us))
+  marked-first : (i : ℕ) → find isMarked ys ≡ suc i → closeMarked (withTasks s (stack r ys ∷ us)) ≡ close 1 i (withTasks s (stack r ys ∷ us))
   unfolding closeMarked
   marked-first i e = rw (e, e)
 
@@ -108,7 +109,7 @@ module _ (s : State Marked) (r : ℕ) (ys : List Marked) (us : List (Stack Marke
 -- it is on top of the second task
 marked-second : (s : State Marked) (t u : Stack Marked) (y : Marked) (ys : List Marked) (us : List (Stack Marked))
     → Unmarked (t .screens) → u .screens ≡ y ∷ ys → isMarked y ≡ true
-    → closeMarked (withTasks s (t ∷ u ∷ us)) ≡ close 1 0 (withTasks s (t ∷ u ∷ us))
+    → closeMarked (withTasks s (t ∷ u ∷ us)) ≡ close 2 0 (withTasks s (t ∷ u ∷ us))
 unfolding closeMarked
 marked-second s t u y ys us h e g = rw (find-all-false isMarked (t .screens) h, e, g)
 
@@ -191,7 +192,7 @@ module _ (s : State ℕ) (b r x : ℕ) (xs : List ℕ) (ts : List (Stack ℕ)) w
 
       go : (n : ℕ) → find isBmarked below ≡ n → isPlace (find isBmarked below) ≡ true
           → closeMarked (withTasks o (stack r (toFront (pred (further n)) (markedX ∷ below)) ∷ others))
-          ≡ close 0 1 (withTasks o (stack r (toFront (pred (further n)) (markedX ∷ below)) ∷ others))
+          ≡ close 1 1 (withTasks o (stack r (toFront (pred (further n)) (markedX ∷ below)) ∷ others))
       go zero f g = absurd (false≢true (rw f at g))
       go (suc n) f g =
           marked-first o r (putSecond markedX (toFront n below)) others 1
@@ -202,7 +203,7 @@ module _ (s : State ℕ) (b r x : ℕ) (xs : List ℕ) (ts : List (Stack ℕ)) w
   -- a task comes before the marked one
   moved-mark : (o : State Marked) (c : Change) (us : List (Stack Marked)) → 1 ≤ length us → Unheld us
       → closeMarked (changeFront (changed isBmarked (unmarked b) c) (withTasks o (putSecond (stack r (markedX ∷ below)) us)))
-      ≡ close 1 0 (changeFront (changed isBmarked (unmarked b) c) (withTasks o (putSecond (stack r (markedX ∷ below)) us)))
+      ≡ close 2 0 (changeFront (changed isBmarked (unmarked b) c) (withTasks o (putSecond (stack r (markedX ∷ below)) us)))
   unfolding changeFront
   moved-mark o c [] l h = absurd (not-suc-le-zero l)
   moved-mark o c (u ∷ us) l h =

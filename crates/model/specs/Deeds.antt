@@ -69,15 +69,16 @@ module _ {A : Type 0} where
   carryOut isB b newB (Deed.InFront c) p s = changeFront (changed isB newB c) s
   carryOut isB b newB (Deed.MoveAnd c) p s = changeFront (changed isB newB c) (move p s)
 
-  -- the task behind k others, so at the place k + 1, "goes, and m follows its task or becomes 0"
+  -- the task at place p "goes, and m follows its task or becomes 0"
   abbrev pub withoutTask : ℕ → State A → State A
-  withoutTask k s = onTasks (omit k) (onMain (mainWithout (suc k)) s)
+  withoutTask p s = onTasks (omit (pred p)) (onMain (mainWithout p) s)
 
-  -- what is left of that task without the screen that stands below i others
+  -- the task at place p without the screen that stands below i others
   abbrev pub taskLeft : ℕ → ℕ → State A → Stack A
-  taskLeft k i s = onScreens (omit i) (taskAt (s .tasks) (suc k))
+  taskLeft p i s = onScreens (omit i) (taskAt (s .tasks) p)
 
-  -- "removes the front screen; a task left empty goes, and m follows its task or becomes 0", in any task at any depth
+  -- "removes the front screen; a task left empty goes, and m follows its task or becomes 0": in the task at place p, the
+  -- screen that stands below i others
   unfoldable pub close : ℕ → ℕ → State A → State A
-  close k i s =
-      if isEmpty (taskLeft k i s .screens) then withoutTask k s else onTasks (λ ts. set ts k (taskLeft k i s)) s
+  close p i s =
+      if isEmpty (taskLeft p i s .screens) then withoutTask p s else onTasks (λ ts. set ts (pred p) (taskLeft p i s)) s

@@ -45,7 +45,7 @@ hold-omit v k h l =
     ∙ pad-omit mostTasks blankTask k (map holdTask (v .tasks)) (omega arith) (omega arith))
 
 gone-held : (q : Session) → Sized q → storageBlank q ≡ true → (k : ℕ) → k < q .n
-    → hold (withoutTask k (view q))
+    → hold (withoutTask (suc k) (view q))
     ≡ withMain (withCount (withTasks q (omit k (q .tasks) ++ blankTask ∷ [])) (q .n - 1)) (mainWithout (suc k) (q .main))
 unfolding view hold
 gone-held q z e k h =
@@ -57,7 +57,7 @@ gone-held q z e k h =
 
 -- closing the only screen of a task
 pub task-goes : (q : Session) → Sized q → (k i : ℕ) → Closable q k i → getD (q .tasks) k noTask .height ≤ 1
-    → withMain (withCount (withTasks q (omit k (q .tasks) ++ blankTask ∷ [])) (q .n - 1)) (mainWithout (suc k) (q .main)) ≡ hold (close k i (view q))
+    → withMain (withCount (withTasks q (omit k (q .tasks) ++ blankTask ∷ [])) (q .n - 1)) (mainWithout (suc k) (q .main)) ≡ hold (close (suc k) i (view q))
 task-goes q z k i c low =
     let l = screen-there q z k i c .1 in
     task-closed q z k i c (omega arith) (sym (gone-held q z (c .blank) k (task-there q z k i c .1)))

@@ -47,6 +47,6 @@ module _ (tb : List ℕ) (c : Session) (z : Sized c) (h : Ready tb c) (some : 1 
   unfolding backed
   back-kept more e = rw e (sym (top-closed c z 0 (back-closable tb c z h some) more))
 
-  pub back-gone : frontTask .height ≤ 1 → hold (withoutTask 0 (view c)) ≡ hold (backed (view c))
+  pub back-gone : frontTask .height ≤ 1 → hold (withoutTask 1 (view c)) ≡ hold (backed (view c))
   unfolding backed
   back-gone low = let l = front-filled in task-closed c z 0 0 (back-closable tb c z h some) (omega arith) refl
