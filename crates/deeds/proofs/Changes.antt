@@ -1,5 +1,5 @@
--- A change of a stored task's screens, by what stands in the array: clear to b, and lift. What is needed of the task is
--- that its storage holds 0 above the height.
+-- A change of a stored task's screens, by what stands in the array: clear to b, lift and push. What is needed of the task
+-- is that its storage holds 0 above the height.
 use Prim.Native.Nat.{ℕ, suc, _+_, _-_, _≤_, _<_, pred}
 use mathlib.Core.Path.{_≡_, sym, _∙_, ap}
 use mathlib.Core.Bool.{true}

@@ -1,4 +1,4 @@
--- A stored task of a session with blank storage; and what is in front after a deed.
+-- A stored task of a session with blank storage; and a deed on a stored session, by what it puts in front.
 use Prim.Native.Nat.{ℕ, suc, _≤_, _<_, pred}
 use mathlib.Core.Path.{_≡_, refl, sym, _∙_, ap, ap₂, subst}
 use mathlib.Core.Bool.{true, _&&_}

@@ -1,4 +1,4 @@
--- What a plan puts is what the model says: of a marked screen that closes, and of Back.
+-- What a plan puts is what the model says: of a marked screen that closes, of a refused call, and of Back.
 use Prim.Native.Nat.{ℕ, zero, suc, _-_, _≤_, _<_}
 use mathlib.Core.Path.{_≡_, refl, sym, _∙_, ap}
 use mathlib.Core.Bool.{Bool, true, false, false≢true}

@@ -1,4 +1,4 @@
--- A task gone from the row: what the loop leaves of any row, by the tests that code makes.
+-- A task of the row that pops, and one that goes: what the code leaves of any row, by the tests that it makes.
 use Prim.Native.Nat.{ℕ, zero, suc, _+_, _-_, _≤_, _<_}
 use mathlib.Core.Path.{_≡_, refl, sym, _∙_, ap}
 use mathlib.Core.Bool.{Bool, true, false}

@@ -13,6 +13,7 @@ use Rattle.session.specs.declared.Session.{Session}
 use Rattle.session.specs.Stored.{viewTask, holdTask, noTask, blankAbove}
 use Rattle.plans.specs.declared.Plan.{Plan}
 
+-- the task stored behind i others
 abbrev pub taskAt : Session → ℕ → Task
 taskAt c i = getD (c .tasks) i noTask
 
