@@ -1,19 +1,19 @@
 -- A look at a stored session, by the front task and the numbers; and that sessions which hold a sound one can be looked at.
 use Prim.Native.Nat.{ℕ, zero, suc, _≤_}
 use mathlib.Core.Path.{_≡_, refl, _∙_, ap}
-use mathlib.Core.List.{List, [], _∷_}
+use mathlib.Core.List.{List, [], _∷_, map}
 use native.Mathlib.Nat.{not-suc-le-zero}
 use native.Mathlib.Omega.{arith}
 use lib.ListN.{length, getD}
 use Rattle.model.specs.declared.Answer.{Answer}
 use Rattle.model.specs.Lists.{All}
-use Rattle.model.specs.Session.{Stack, State, state, height, top, mostHeight}
+use Rattle.model.specs.Session.{Stack, State, height, top, mostTasks, mostHeight}
 use Rattle.model.specs.Answers.{lookAt, refused, answerBy}
 use Rattle.model.proofs.Logic.{All-at}
 use Rattle.model.proofs.Sound.{TaskSound, Sound}
 use Rattle.session.specs.declared.Task.{Task}
 use Rattle.session.specs.declared.Session.{Session}
-use Rattle.session.specs.Stored.{view, viewTask, hold, holdTask, pad, noTask}
+use Rattle.session.specs.Stored.{view, viewTask, hold, holdTask, pad, noTask, blankTask}
 use Rattle.session.proofs.Known.{Sized, Screens32}
 use Rattle.session.proofs.StoredLaws.{view-at, view-count}
 use Rattle.session.proofs.TaskLaws.{view-height}
@@ -65,17 +65,17 @@ module _ (c : Session) (sizes : Sized c) (seen : Seen c) where
 
 -- a session that holds a sound one
 module _ (tb : List ℕ) where
-  front-fits : (ts : List (Stack ℕ)) (m : ℕ) → All (TaskSound tb) ts → 1 ≤ length ts
-      → (1 ≤ getD (hold (state ts m) .tasks) 0 noTask .height) × (getD (hold (state ts m) .tasks) 0 noTask .height ≤ mostHeight)
-  unfolding hold holdTask pad
-  front-fits [] m h p = absurd (not-suc-le-zero p)
-  front-fits (t ∷ ts) m h p = (h .0 .filled, h .0 .low)
+  front-fits : (ts : List (Stack ℕ)) → All (TaskSound tb) ts → 1 ≤ length ts
+      → let t = getD (pad mostTasks blankTask (map holdTask ts)) 0 noTask in (1 ≤ t .height) × (t .height ≤ mostHeight)
+  unfolding holdTask pad
+  front-fits [] h p = absurd (not-suc-le-zero p)
+  front-fits (t ∷ ts) h p = (h .0 .filled, h .0 .low)
 
   pub sound-seen : (v : State ℕ) → Sound tb v → Seen (hold v)
   unfolding hold
   sound-seen v h =
       record {
         few = h .few;
-        filled = λ p. front-fits (v .tasks) (v .main) (h .each) p .0;
-        low = λ p. front-fits (v .tasks) (v .main) (h .each) p .1;
+        filled = λ p. front-fits (v .tasks) (h .each) p .0;
+        low = λ p. front-fits (v .tasks) (h .each) p .1;
       }

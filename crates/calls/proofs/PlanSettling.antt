@@ -14,7 +14,7 @@ use Rattle.model.specs.Answers.{refused}
 use Rattle.model.specs.Calls.{Call, chosen, launch, back, look, launched, started, finished, startChecks, roomChecks, ownChecks, done}
 use Rattle.model.proofs.RefusalLaws.{refusal-append-refused, refusal-append-passed}
 use Rattle.session.specs.declared.Session.{Session}
-use Rattle.session.specs.Stored.{view, hold, holdTask, pad, blankTask, Ready}
+use Rattle.session.specs.Stored.{view, hold, holdTask, pad, blankTask, Ready, taskBehind}
 use Rattle.session.proofs.Known.{Sized}
 use Rattle.session.proofs.StoredLaws.{held, sound-blank}
 use Rattle.answer.specs.Seen.{Seen}
@@ -23,7 +23,7 @@ use Rattle.starts.specs.Checks.{startEntry, roomRefusal}
 use Rattle.starts.proofs.Entries.{start-numbers, start-split}
 use Rattle.plans.specs.declared.Plan.{Plan}
 use Rattle.plans.specs.Puts.{putOf, Puttable}
-use Rattle.plans.specs.Plans.{taskAt, stillOf, keeps, closes, Opens}
+use Rattle.plans.specs.Plans.{stillOf, keeps, closes, Opens}
 use Rattle.plans.specs.Shown.{answerFor, Showable, Uncovers}
 use Rattle.plans.proofs.Closes.{still-put, still-puttable, back-put, back-puttable, back-opens}
 use Rattle.plans.proofs.Answered.{showable, answers-look, refused-showable}
@@ -38,15 +38,15 @@ use Rattle.calls.proofs.Settling.{shared-ready, call-refused, own-refus
 -- the plan p on c gives the reply r
 pub record Gives (c : Session) (p : Plan) (r : Reply) : Type 0 where
   pub puttable : Puttable c p
-  pub showable : Showable p (taskAt c 1)
-  pub gives : reply (putOf c p) (answerFor p (taskAt c 1)) ≡ r
+  pub showable : Showable p (taskBehind c 1)
+  pub gives : reply (putOf c p) (answerFor p (taskBehind c 1)) ≡ r
 
 -- refused
 pub still-gives : (c : Session) → Sized c → (n : ℕ) → Gives c (stillOf c (suc n)) (reply c (refused (suc n)))
 still-gives c z n =
     record {
       puttable = still-puttable c (suc n);
-      showable = refused-showable (stillOf c (suc n)) (taskAt c 1) (λ q. omega (arith, q));
+      showable = refused-showable (stillOf c (suc n)) (taskBehind c 1) (λ q. omega (arith, q));
       gives = ap (λ (d : Session). reply d (refused (suc n))) (still-put c z (suc n));
     }
 
@@ -148,11 +148,11 @@ module _ (tb : List ℕ) (c : Session) (z : Sized c) where
 
 -- ---- Back
 
-back-uncovers : (c : Session) (one : Bool) → Uncovers (closes backMark one (leb 0 1) (taskAt c 0) 0 (c .n) (c .main))
+back-uncovers : (c : Session) (one : Bool) → Uncovers (closes backMark one (leb 0 1) (taskBehind c 0) 0 (c .n) (c .main))
 back-uncovers c true e = (refl, refl)
 back-uncovers c false e = absurd (omega (arith, e))
 
-back-accepted : (c : Session) (one : Bool) → closes backMark one (leb 0 1) (taskAt c 0) 0 (c .n) (c .main) .refusal ≡ 0
+back-accepted : (c : Session) (one : Bool) → closes backMark one (leb 0 1) (taskBehind c 0) 0 (c .n) (c .main) .refusal ≡ 0
 back-accepted c true = refl
 back-accepted c false = refl
 
@@ -175,7 +175,7 @@ module _ (tb : List ℕ) (c : Session) (z : Sized c) where
     back-gives =
         gives-plan tb c z back m _ shared back-number _ (λ h e.
         let some = back-some (c .n) e in
-        let one = leb (taskAt c 0 .height) 1 in
+        let one = leb (taskBehind c 0 .height) 1 in
         record {
           accepted = back-accepted c one;
           puttable = back-puttable tb c z h some (leb 0 1);
@@ -184,7 +184,7 @@ module _ (tb : List ℕ) (c : Session) (z : Sized c) where
         })
 
     -- what its plan requires
-    pub back-plans : m ≡ 0 → 1 ≤ c .n → Opens backMark (taskAt c 0)
+    pub back-plans : m ≡ 0 → 1 ≤ c .n → Opens backMark (taskBehind c 0)
     back-plans e some = back-opens tb c z (shared-ready tb c (sym shared ∙ e)) some (leb 0 1)
 
 -- ---- starts

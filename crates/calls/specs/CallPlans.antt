@@ -9,9 +9,9 @@ use Rattle.model.specs.Table.{mainScreen}
 use Rattle.model.specs.Session.{stack}
 use Rattle.session.specs.declared.Session.{Session}
 use Rattle.session.specs.declared.Task.{Task}
-use Rattle.session.specs.Stored.{holdTask}
+use Rattle.session.specs.Stored.{holdTask, taskBehind}
 use Rattle.plans.specs.declared.Plan.{Plan}
-use Rattle.plans.specs.Plans.{taskAt, keeps, closes}
+use Rattle.plans.specs.Plans.{keeps, closes}
 use Rattle.starts.specs.Steps.{orElse, planUnless}
 
 -- ---- launch
@@ -40,4 +40,4 @@ backMark = Mark.Stands 0 0
 abbrev pub backPlan : ℕ → Session → Plan
 backPlan k c =
     planUnless (orElse k (backRefusal c)) c
-    (closes backMark (leb (taskAt c 0 .height) 1) (leb 0 1) (taskAt c 0) 0 (c .n) (c .main))
+    (closes backMark (leb (taskBehind c 0 .height) 1) (leb 0 1) (taskBehind c 0) 0 (c .n) (c .main))

@@ -8,7 +8,8 @@ ghost use Rattle.model.specs.Lists.{if_then_else_};
 ghost use Rattle.model.specs.Answers.{refused as refusedAnswer};
 ghost use Rattle.model.specs.Calls.{Call};
 ghost use Rattle.model.specs.Table.{tableRefusal};
-ghost use Rattle.plans.specs.Plans.{taskAt, Opens};
+ghost use Rattle.session.specs.Stored.{taskBehind};
+ghost use Rattle.plans.specs.Plans.{Opens};
 ghost use Rattle.starts.specs.Steps.{orElse};
 ghost use Rattle.calls.specs.StoredCalls.{reply, sharedRefusal, callStored};
 ghost use Rattle.calls.specs.CallPlans.{launchPlan, backMark, backPlan};
@@ -81,7 +82,7 @@ pub fn launch_plan(table: &[u8], s: Session, shared: u8) -> Plan
 
 // The plan of a Back: the top screen of the front task closes, as a marked one does.
 pub fn back_plan(s: Session, shared: u8) -> Plan
-    requires { ⌜ (shared ≡ 0 → 1 ≤ s .n → Opens backMark (taskAt s 0)) ⌝ }
+    requires { ⌜ (shared ≡ 0 → 1 ≤ s .n → Opens backMark (taskBehind s 0)) ⌝ }
     ensures { λ r. ⌜ r ≡ backPlan shared s ⌝ }
 {
     let number = first_refusal(shared, s.n == 0, 21);

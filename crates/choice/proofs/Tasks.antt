@@ -18,22 +18,19 @@ use Rattle.model.proofs.Start.{Sought, seekRoot-sought, seek-sought}
 use Rattle.model.proofs.Tables.{good-shaped}
 use Rattle.session.specs.declared.Task.{Task}
 use Rattle.session.specs.declared.Session.{Session}
-use Rattle.session.specs.Stored.{view, viewTask, noTask}
+use Rattle.session.specs.Stored.{view, viewTask, noTask, taskBehind}
 use Rattle.session.proofs.Known.{Sized}
 use Rattle.session.proofs.StoredLaws.{view-count, view-at, sized-at, stored-height, sound-view, sound-blank, blank-few}
 use Rattle.session.proofs.TaskLaws.{view-height}
 use Rattle.choice.specs.Startable.{Startable}
 use Rattle.choice.specs.Shows.{indexOf, Shows, Filled}
 
-abbrev pub storedAt : Session → ℕ → Task
-storedAt c i = getD (c .tasks) i noTask
-
 -- a stored session shows the task that it stores at the index of the task found
-pub stored-shows : (c : Session) (t : Found) {i : ℕ} → i ≡ indexOf t → i < c .n → Shows (view c) t (storedAt c i)
+pub stored-shows : (c : Session) (t : Found) {i : ℕ} → i ≡ indexOf t → i < c .n → Shows (view c) t (taskBehind c i)
 stored-shows c t e h = rw (← e) (view-at c _ h)
 
 -- "A is the front screen"
-pub front-screen : (c : Session) → 1 ≤ c .n → frontScreen (view c) ≡ top (viewTask (storedAt c 0))
+pub front-screen : (c : Session) → 1 ≤ c .n → frontScreen (view c) ≡ top (viewTask (taskBehind c 0))
 front-screen c some = ap top (view-at c 0 some)
 
 -- the index of a place
@@ -62,23 +59,23 @@ module _ (tb : List ℕ) (c : Session) (b : ℕ) (z : Sized c) (h : Startable tb
     pub index-inside : i < mostTasks
     index-inside = omega (arith, few)
 
-    task-sound : TaskSound tb (viewTask (storedAt c i))
+    task-sound : TaskSound tb (viewTask (taskBehind c i))
     task-sound =
         let n = counted in
         rw (view-at c i l) at (All-at (TaskSound tb) (view c .tasks) i noStack (omega arith) (sound-view tb c (h .ready .sound) .each))
 
     -- it has 1 to 32 screens
-    pub task-filled : Filled (storedAt c i)
+    pub task-filled : Filled (taskBehind c i)
     task-filled =
         let low = stored-height c z (sound-blank tb c (h .ready .sound)) i l in
-        let s : length (storedAt c i .screens) ≡ 32 = sized-at c z i index-inside in
-        let e = view-height (storedAt c i) (omega arith) in
+        let s : length (taskBehind c i .screens) ≡ 32 = sized-at c z i index-inside in
+        let e = view-height (taskBehind c i) (omega arith) in
         let f = task-sound .filled in
         (omega arith, low)
 
     -- the table has the row of its top screen
-    pub top-row : 2 + 2 * top (viewTask (storedAt c i)) < length tb
-    top-row = row _ (All-at (λ x. x < sizeOf tb) (viewTask (storedAt c i) .screens) 0 0 (task-sound .filled) (task-sound .below))
+    pub top-row : 2 + 2 * top (viewTask (taskBehind c i)) < length tb
+    top-row = row _ (All-at (λ x. x < sizeOf tb) (viewTask (taskBehind c i) .screens) 0 0 (task-sound .filled) (task-sound .below))
 
   -- ---- the task found
 

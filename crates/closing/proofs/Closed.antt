@@ -2,26 +2,25 @@
 -- Back finds a screen.
 use Prim.Native.Nat.{ℕ, suc, _-_, _≤_, _<_, pred}
 use mathlib.Core.Path.{_≡_, refl, sym, _∙_, ap, ap₂}
-use mathlib.Core.Bool.{Bool, true, false}
+use mathlib.Core.Bool.{true, false}
 use mathlib.Core.List.{List, [], _∷_}
 use native.Mathlib.Omega.{arith}
 use lib.ListN.{length, getD, set}
 use borrow.Author.Tests.{eq-eqb, ne-eqb, lt-ltb, le-ltb}
-use Rattle.model.specs.Lists.{isEmpty, omit, if_then_else_}
-use Rattle.model.specs.Session.{Stack, stack, state, noStack, height, count, mostTasks, mostHeight}
-use Rattle.model.specs.Deeds.{mainWithout, close}
+use Rattle.model.specs.Lists.{isEmpty, omit}
+use Rattle.model.specs.Session.{Stack, stack, noStack, onScreens, height, count, mostTasks, mostHeight}
+use Rattle.model.specs.Deeds.{mainWithout, withoutTask, taskLeft, close}
 use Rattle.model.proofs.Logic.{All-at}
 use Rattle.model.proofs.ListLaws.{omit-length}
 use Rattle.model.proofs.Sound.{TaskSound}
-use Rattle.model.proofs.Close.{closeIn-emptied, closeIn-kept, shortened}
+use Rattle.model.proofs.Close.{close-emptied, close-kept}
 use Rattle.session.specs.declared.Session.{Session}
 use Rattle.session.specs.declared.Task.{Task}
-use Rattle.session.specs.Stored.{view, viewTask, hold, holdTask, noTask, popped, blankAbove, storageBlank, Ready}
+use Rattle.session.specs.Stored.{view, viewTask, hold, holdTask, noTask, withTasks, popped, blankAbove, storageBlank, Ready}
 use Rattle.session.proofs.Known.{Sized}
 use Rattle.session.proofs.StoredLaws.{held, hold-viewTask, view-at, blank-few, sized-at, sound-blank, sound-view}
-use Rattle.session.proofs.SessionLaws.{stored, hold-set}
+use Rattle.session.proofs.SessionLaws.{hold-set}
 use Rattle.session.proofs.TaskLaws.{hold-popped}
-use Rattle.deeds.specs.Rows.{withTasks}
 use Rattle.deeds.proofs.Changes.{blank-low, blank-height}
 use Rattle.deeds.proofs.Fronts.{counted, stored-blank}
 use Rattle.closing.specs.Closable.{Closable}
@@ -68,27 +67,19 @@ module _ (s : Session) (z : Sized s) (k i : ℕ) (c : Closable s k i) where
       let h = inside in
       ap height (view-at s k h) ∙ blank-height t (sized-at s z k (omega arith)) (stored-blank s z (c .blank) k h)
 
-  closed-last : t .height ≡ 1 → hold (close k i (view s)) ≡ hold (state (omit k (view s .tasks)) (mainWithout (suc k) (s .main)))
-  unfolding close view
+  closed-last : t .height ≡ 1 → hold (close (suc k) i (view s)) ≡ hold (withoutTask (suc k) (view s))
   closed-last one =
       let h = tall in
-      let e = empty-is (omit i xs) (omega (arith, omit-length i xs (c .there .1))) in
-      ap₂ (λ (ts : List (Stack ℕ)) (b : Bool). hold (state ts (if b then mainWithout (suc k) (s .main) else s .main)))
-      (closeIn-emptied k i (view s .tasks) e) e
+      ap hold (close-emptied (suc k) i (view s) (empty-is (omit i xs) (omega (arith, omit-length i xs (c .there .1)))))
 
   closed-kept : (t .height ≡ 1 → ⊥)
-      → hold (close k i (view s)) ≡ stored (set (s .tasks) k (holdTask (stack (t .root) (omit i (viewTask t .screens))))) (s .n) (s .main)
-  unfolding close view viewTask
+      → hold (close (suc k) i (view s)) ≡ withTasks s (set (s .tasks) k (holdTask (stack (t .root) (omit i (viewTask t .screens)))))
+  unfolding viewTask
   closed-kept more =
       let h = tall in
-      let n = counted s z (c .blank) in
-      let e = filled-is (omit i xs) (λ q. more (omega (arith, omit-length i xs (c .there .1)))) in
-      ap₂ (λ (ts : List (Stack ℕ)) (b : Bool). hold (state ts (if b then mainWithout (suc k) (s .main) else s .main)))
-      (closeIn-kept k i (view s .tasks) e) e
-      ∙ hold-set (view s) (s .main) k (shortened k i (view s .tasks)) (c .there .0)
-      ∙ ap₂ (λ (o : Session) (u : Stack ℕ). stored (set (o .tasks) k (holdTask (stack (u .root) (omit i (u .screens))))) (count (view s)) (s .main))
-      (held s z (c .blank)) (view-at s k inside)
-      ∙ ap (λ (j : ℕ). stored (set (s .tasks) k (holdTask (stack (t .root) (omit i (viewTask t .screens))))) j (s .main)) n
+      ap hold (close-kept (suc k) i (view s) (filled-is (omit i xs) (λ q. more (omega (arith, omit-length i xs (c .there .1))))))
+      ∙ hold-set (view s) k (taskLeft (suc k) i (view s)) (c .there .0)
+      ∙ ap₂ (λ (o : Session) (u : Stack ℕ). withTasks o (set (o .tasks) k (holdTask (onScreens (omit i) u)))) (held s z (c .blank)) (view-at s k inside)
 
   -- the place is one of the array
   pub place-inside : k < mostTasks
@@ -98,8 +89,8 @@ module _ (s : Session) (z : Sized s) (k i : ℕ) (c : Closable s k i) where
   pub task-there : (storageBlank s ≡ true) × (k < s .n)
   task-there = (c .blank, inside)
 
-  pub task-closed : t .height ≡ 1 → {r : Session} → r ≡ hold (state (omit k (view s .tasks)) (mainWithout (suc k) (s .main)))
-      → r ≡ hold (close k i (view s))
+  pub task-closed : t .height ≡ 1 → {r : Session} → r ≡ hold (withoutTask (suc k) (view s))
+      → r ≡ hold (close (suc k) i (view s))
   task-closed one e = e ∙ sym (closed-last one)
 
   -- where it has more: what `without_screen` requires, and what is left when its task is put in place
@@ -107,7 +98,7 @@ module _ (s : Session) (z : Sized s) (k i : ℕ) (c : Closable s k i) where
   screen-there = let h = tall in (stored-blank s z (c .blank) k inside, omega (arith, c .there .1))
 
   pub screen-closed : (t .height ≡ 1 → ⊥) → {r : Task} → r ≡ holdTask (stack (t .root) (omit i (viewTask t .screens)))
-      → withTasks s (set (s .tasks) k r) ≡ hold (close k i (view s))
+      → withTasks s (set (s .tasks) k r) ≡ hold (close (suc k) i (view s))
   screen-closed more e = ap (λ (u : Task). withTasks s (set (s .tasks) k u)) e ∙ sym (closed-kept more)
 
 -- ---- the top screen of a task that keeps others
@@ -117,7 +108,7 @@ hold-first-gone r [] h l = absurd (omega arith)
 hold-first-gone r (x ∷ xs) h l = hold-popped r x xs (omega arith)
 
 pub top-closed : (s : Session) → Sized s → (k : ℕ) → Closable s k 0 → 1 < getD (s .tasks) k noTask .height
-    → hold (close k 0 (view s)) ≡ withTasks s (set (s .tasks) k (popped (getD (s .tasks) k noTask)))
+    → hold (close (suc k) 0 (view s)) ≡ withTasks s (set (s .tasks) k (popped (getD (s .tasks) k noTask)))
 unfolding viewTask
 top-closed s z k c more =
     let t = getD (s .tasks) k noTask in

@@ -12,16 +12,13 @@ use Rattle.model.specs.declared.Deed.{Deed}
 use Rattle.model.specs.Session.{mostHeight}
 use Rattle.model.specs.Deeds.{changed}
 use Rattle.session.specs.declared.Task.{Task}
-use Rattle.session.specs.Stored.{viewTask, holdTask, blankAbove, pushed}
+use Rattle.session.specs.Stored.{viewTask, holdTask, withRoot, blankAbove, pushed}
 use Rattle.session.proofs.Known.{Screens32}
 use Rattle.session.proofs.TaskLaws.{hold-pushed}
 use Rattle.deeds.specs.Carriable.{HasRoom, Alterable, Changeable}
 use Rattle.deeds.specs.Fronted.{baseOf, changedTask, changeOf, rootAfter, frontAfter}
 use Rattle.deeds.proofs.Tags.{of-change}
 use Rattle.deeds.proofs.Changes.{blank-height, push-is}
-
-abbrev pub rooted : ℕ → Task → Task
-rooted r t = record { root = r; height = t .height; screens = t .screens }
 
 module _ (t : Task) where
   pub base-kept : (c : Change) → OneOf (0 ∷ 2 ∷ 3 ∷ 4 ∷ []) (tagOf C.the-type c) → t ≡ baseOf c t
@@ -55,7 +52,7 @@ module _ (t : Task) where
   alterable (Deed.InFront c) h = alterable-by c h
   alterable (Deed.MoveAnd c) h = alterable-by c h
 
-  pub front-is : (b : ℕ) (d : Deed) → rooted (rootAfter (t .root) b d) (changedTask b (changeOf d) t) ≡ frontAfter b d t
+  pub front-is : (b : ℕ) (d : Deed) → withRoot (changedTask b (changeOf d) t) (rootAfter (t .root) b d) ≡ frontAfter b d t
   unfolding holdTask changed
   front-is b Deed.New = refl
   front-is b (Deed.InFront c) = refl

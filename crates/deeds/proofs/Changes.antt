@@ -1,5 +1,5 @@
--- A change of a stored task's screens, by what stands in the array: clear to b, and lift. What is needed of the task is
--- that its storage holds 0 above the height.
+-- A change of a stored task's screens, by what stands in the array: clear to b, lift and push. What is needed of the task
+-- is that its storage holds 0 above the height.
 use Prim.Native.Nat.{ℕ, suc, _+_, _-_, _≤_, _<_, pred}
 use mathlib.Core.Path.{_≡_, sym, _∙_, ap}
 use mathlib.Core.Bool.{true}
@@ -15,12 +15,12 @@ use Rattle.model.specs.Deeds.{changed}
 use Rattle.model.proofs.Logic.{and-left}
 use Rattle.model.proofs.ListLaws.{FoundAt, find-spec, toFront-zero}
 use Rattle.session.specs.declared.Task.{Task}
-use Rattle.session.specs.Stored.{viewTask, holdTask, blankAbove, pushed}
+use Rattle.session.specs.Stored.{viewTask, holdTask, withScreens, blankAbove, pushed}
 use Rattle.session.proofs.Known.{Screens32}
 use Rattle.session.proofs.Padding.{drop-pad}
 use Rattle.session.proofs.StoredLaws.{hold-viewTask}
 use Rattle.session.proofs.TaskLaws.{view-height, view-screen, hold-cleared, hold-lifted, lifted, hold-pushed}
-use Rattle.deeds.specs.Rows.{closedUp, lowest, withScreens}
+use Rattle.deeds.specs.Rows.{closedUp, lowest}
 
 pub blank-low : (t : Task) → blankAbove t ≡ true → t .height ≤ mostHeight
 unfolding blankAbove

@@ -1,6 +1,6 @@
--- A stored task of a session with blank storage; and what is in front after a deed.
+-- A stored task of a session with blank storage; and a deed on a stored session, by what it puts in front.
 use Prim.Native.Nat.{ℕ, suc, _≤_, _<_, pred}
-use mathlib.Core.Path.{_≡_, sym, _∙_, ap, ap₂, subst}
+use mathlib.Core.Path.{_≡_, refl, sym, _∙_, ap, ap₂, subst}
 use mathlib.Core.Bool.{true, _&&_}
 use mathlib.Core.List.{List, [], _∷_, map}
 use native.Mathlib.Omega.{arith}
@@ -10,16 +10,16 @@ use lib.Seq.{getD-take, length-take-le}
 use Rattle.model.specs.declared.Change.{Change}
 use Rattle.model.specs.declared.Deed.{Deed}
 use Rattle.model.specs.Lists.{all, further, toFront, onFirst}
-use Rattle.model.specs.Session.{Stack, State, stack, state, noStack, count, mostTasks}
+use Rattle.model.specs.Session.{Stack, State, stack, noStack, onScreens, onTasks, onMain, count, mostTasks}
 use Rattle.model.specs.Deeds.{mainMoved, move, changed, changeFront, putNew, carryOut}
 use Rattle.model.proofs.Logic.{and-left, and-right, All-at, all-decides, self-decides}
 use Rattle.model.proofs.ListLaws.{toFront-zero, toFront-length, toFront-split}
 use Rattle.session.specs.declared.Session.{Session}
 use Rattle.session.specs.declared.Task.{Task}
-use Rattle.session.specs.Stored.{view, viewTask, hold, holdTask, noTask, blankTask, blankAbove, isBlank, storageBlank}
+use Rattle.session.specs.Stored.{view, viewTask, hold, holdTask, noTask, blankTask, withTasks, withCount, withMain, blankAbove, isBlank, storageBlank}
 use Rattle.session.proofs.Known.{Sized}
 use Rattle.session.proofs.StoredLaws.{held, view-at, view-count, blank-few}
-use Rattle.session.proofs.SessionLaws.{stored, hold-set, hold-toFront}
+use Rattle.session.proofs.SessionLaws.{hold-row, hold-set, hold-toFront}
 use Rattle.deeds.specs.Carriable.{HasRoom, Finds, Placed, Changeable, Carriable}
 use Rattle.deeds.specs.Fronted.{changedTask, shiftOf, fronted}
 use Rattle.deeds.specs.Rows.{shifted}
@@ -33,11 +33,11 @@ module _ {A : Type 0} (d : A) (k : ℕ) (xs : List A) (h : k < length xs) where
   moved-shifted : (x : A) → set (toFront k xs) 0 x ≡ shifted x k xs
   moved-shifted x = rw (toFront-split d k xs h)
 
-hold-put : (v : State ℕ) (m : ℕ) (t : Stack ℕ) → count v < mostTasks
-    → hold (state (t ∷ v .tasks) m) ≡ stored (shifted (holdTask t) (count v) (hold v .tasks)) (suc (count v)) m
+hold-put : (v : State ℕ) (t : Stack ℕ) → count v < mostTasks
+    → hold (onTasks (λ ts. t ∷ ts) v) ≡ withCount (withTasks (hold v) (shifted (holdTask t) (count v) (hold v .tasks))) (suc (count v))
 unfolding hold
-hold-put v m t h =
-    ap (λ (ts : List Task). stored ts (suc (count v)) m)
+hold-put v t h =
+    hold-row v (λ ts. t ∷ ts) refl
     (pad-shifted mostTasks blankTask (holdTask t) (count v) (map holdTask (v .tasks)) (length-map (v .tasks) holdTask) h)
 
 module _ (s : Session) (z : Sized s) (e : storageBlank s ≡ true) where
@@ -56,31 +56,34 @@ module _ (s : Session) (z : Sized s) (e : storageBlank s ≡ true) where
 
   -- a new task
   new-stored : (b : ℕ) → s .n < mostTasks
-      → hold (putNew b b (view s)) ≡ stored (shifted (holdTask (stack b (b ∷ []))) (s .n) (s .tasks)) (suc (s .n)) (further (s .main))
-  unfolding putNew view
+      → hold (putNew b b (view s))
+      ≡ withMain (withCount (withTasks s (shifted (holdTask (stack b (b ∷ []))) (s .n) (s .tasks))) (suc (s .n))) (further (s .main))
+  unfolding putNew view hold
   new-stored b h =
       let n = counted in
-      hold-put (view s) (further (s .main)) (stack b (b ∷ [])) (omega arith)
-      ∙ ap₂ (λ (c : Session) (j : ℕ). stored (shifted (holdTask (stack b (b ∷ []))) j (c .tasks)) (suc j) (further (s .main))) (held s z e) n
+      hold-put (onMain further (view s)) (stack b (b ∷ [])) (omega arith)
+      ∙ ap₂ (λ (c : Session) (j : ℕ). withMain (withCount (withTasks c (shifted (holdTask (stack b (b ∷ []))) j (c .tasks))) (suc j)) (further (s .main)))
+      (held s z e) n
 
-  -- the task behind k others, moved to the front and changed
-  changed-stored : (b : ℕ) (c : Change) (k m : ℕ) → k < s .n
-      → hold (changeFront (changed (eqb b) b c) (state (toFront k (view s .tasks)) m))
-      ≡ stored (shifted (changedTask b c (getD (s .tasks) k noTask)) k (s .tasks)) (s .n) m
-  unfolding changeFront viewTask
-  changed-stored b c k m h =
+  -- the task behind k others, moved to the front and changed, with another main place
+  changed-stored : (b : ℕ) (c : Change) (k : ℕ) (g : ℕ → ℕ) → k < s .n
+      → hold (changeFront (changed (eqb b) b c) (onTasks (toFront k) (onMain g (view s))))
+      ≡ withMain (withTasks s (shifted (changedTask b c (getD (s .tasks) k noTask)) k (s .tasks))) (g (s .main))
+  unfolding changeFront viewTask view hold
+  changed-stored b c k g h =
       let few = blank-few s e in
       let n = counted in
       let l = toFront-length k (view s .tasks) in
-      let f : Stack ℕ → Stack ℕ = λ u. stack (u .root) (changed (eqb b) b c (u .screens)) in
-      let v = state (toFront k (view s .tasks)) m in
+      let f : Stack ℕ → Stack ℕ = onScreens (changed (eqb b) b c) in
+      let v = onMain g (view s) in
+      let moved = onTasks (toFront k) v in
       let t = getD (s .tasks) k noTask in
-      ap (λ (ts : List (Stack ℕ)). hold (state ts m)) (moved-set noStack k (view s .tasks) (omega arith) f)
-      ∙ hold-set v m 0 (f (getD (view s .tasks) k noStack)) (omega arith)
-      ∙ ap₂ (λ (o : Session) (u : Stack ℕ). stored (set (o .tasks) 0 (holdTask (f u))) (count v) m)
-      (hold-toFront (view s) m k (omega arith)) (view-at s k h)
-      ∙ ap₂ (λ (o : Session) (j : ℕ). stored (set (toFront k (o .tasks)) 0 (changedTask b c t)) j m) (held s z e) (l ∙ n)
-      ∙ ap (λ (ts : List Task). stored ts (s .n) m) (moved-shifted noTask k (s .tasks) (omega (arith, z .tasks)) (changedTask b c t))
+      ap (λ (ts : List (Stack ℕ)). hold (onTasks (λ us. ts) moved)) (moved-set noStack k (view s .tasks) (omega arith) f)
+      ∙ hold-set moved 0 (f (getD (view s .tasks) k noStack)) (omega arith)
+      ∙ ap₂ (λ (o : Session) (u : Stack ℕ). withTasks o (set (o .tasks) 0 (holdTask (f u)))) (hold-toFront v k (omega arith)) (view-at s k h)
+      ∙ ap (λ (o : Session). withMain (withTasks o (set (toFront k (o .tasks)) 0 (changedTask b c t))) (g (s .main))) (held s z e)
+      ∙ ap (λ (ts : List Task). withMain (withTasks s ts) (g (s .main)))
+      (moved-shifted noTask k (s .tasks) (omega (arith, z .tasks)) (changedTask b c t))
 
 -- ---- a deed that can be carried out
 
@@ -120,6 +123,6 @@ module _ (s : Session) (z : Sized s) (p : ℕ) where
   unfolding carryOut move view
   carried b Deed.New k = let n = counted s z (k .blank) in new-stored s z (k .blank) b (omega (arith, k .finds .0))
   carried b (Deed.InFront c) k =
-      ap (λ (ts : List (Stack ℕ)). hold (changeFront (changed (eqb b) b c) (state ts (s .main)))) (sym (toFront-zero (view s .tasks)))
-      ∙ changed-stored s z (k .blank) b c 0 (s .main) (in-front k)
-  carried b (Deed.MoveAnd c) k = changed-stored s z (k .blank) b c (pred p) (mainMoved p (s .main)) (at-place k)
+      ap (λ (ts : List (Stack ℕ)). hold (changeFront (changed (eqb b) b c) (onTasks (λ us. ts) (view s)))) (sym (toFront-zero (view s .tasks)))
+      ∙ changed-stored s z (k .blank) b c 0 (λ m. m) (in-front k)
+  carried b (Deed.MoveAnd c) k = changed-stored s z (k .blank) b c (pred p) (mainMoved p) (at-place k)

@@ -6,8 +6,8 @@ use lib.ListN.{length, getD, set, drop}
 use Rattle.model.specs.Session.{mostTasks}
 use Rattle.session.specs.declared.Session.{Session}
 use Rattle.session.specs.declared.Task.{Task}
-use Rattle.session.specs.Stored.{noTask}
-use Rattle.deeds.specs.Rows.{shifted, withTasks}
+use Rattle.session.specs.Stored.{noTask, withTasks}
+use Rattle.deeds.specs.Rows.{shifted}
 use Rattle.deeds.proofs.Rows.{shifting, shift-begin, shift-step, shift-end}
 
 -- the last k - i of the first k tasks have gone one place back

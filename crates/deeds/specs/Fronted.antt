@@ -10,7 +10,7 @@ use Rattle.model.specs.Session.{stack}
 use Rattle.model.specs.Deeds.{mainMoved, changed}
 use Rattle.session.specs.declared.Task.{Task}
 use Rattle.session.specs.declared.Session.{Session}
-use Rattle.session.specs.Stored.{viewTask, holdTask, noTask}
+use Rattle.session.specs.Stored.{viewTask, holdTask, noTask, withTasks, withCount, withMain}
 use Rattle.deeds.specs.Rows.{shifted}
 
 -- a task after a change of its screens
@@ -61,8 +61,7 @@ mainAfter (Deed.MoveAnd c) p m = mainMoved p m
 -- the session
 abbrev pub fronted : Session → ℕ → Deed → ℕ → Session
 fronted s b d p =
-    record {
-      tasks = shifted (frontAfter b d (getD (s .tasks) (shiftOf d p (s .n)) noTask)) (shiftOf d p (s .n)) (s .tasks);
-      n = countAfter d (s .n);
-      main = mainAfter d p (s .main);
-    }
+    let k = shiftOf d p (s .n) in
+    withMain
+    (withCount (withTasks s (shifted (frontAfter b d (getD (s .tasks) k noTask)) k (s .tasks))) (countAfter d (s .n)))
+    (mainAfter d p (s .main))

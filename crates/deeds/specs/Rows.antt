@@ -1,10 +1,10 @@
--- What the loops do to a row of tasks or of screens; and a task or a session with such a row.
+-- What the loops do to a row of tasks or of screens.
 use Prim.Native.Nat.{ℕ, suc, _+_, _-_}
 use mathlib.Core.List.{List, _∷_, _++_}
 use lib.ListN.{take, drop, replicate}
 use Rattle.model.specs.Session.{mostHeight}
 use Rattle.session.specs.declared.Task.{Task}
-use Rattle.session.specs.declared.Session.{Session}
+use Rattle.session.specs.Stored.{withHeight, withScreens}
 
 module _ {A : Type 0} where
   -- x comes first, the first k go one place further, and the one behind them is gone
@@ -15,12 +15,6 @@ module _ {A : Type 0} where
   abbrev pub closedUp : ℕ → ℕ → A → List A → List A
   closedUp m k x xs = take m xs ++ take k (drop (suc m) xs) ++ x ∷ drop (m + suc k) xs
 
-abbrev pub withScreens : Task → List ℕ → Task
-withScreens t xs = record { root = t .root; height = t .height; screens = xs }
-
-abbrev pub withTasks : Session → List Task → Session
-withTasks s ts = record { tasks = ts; n = s .n; main = s .main }
-
 -- the h lowest screens stay, and what stood above is 0
 abbrev pub lowest : ℕ → Task → Task
-lowest h t = record { root = t .root; height = h; screens = take h (t .screens) ++ replicate (mostHeight - h) 0 }
+lowest h t = withHeight (withScreens t (take h (t .screens) ++ replicate (mostHeight - h) 0)) h

@@ -10,10 +10,11 @@ use Rattle.model.specs.declared.Answer.{Answer}
 use Rattle.model.specs.Lists.{All}
 use Rattle.model.specs.Refusals.{refusal}
 use Rattle.model.specs.Table.{tableRefusal}
-use Rattle.model.specs.Session.{Stack, State, stack, state, count, screensIn, fresh, mostTasks, mostHeight}
-use Rattle.model.specs.Deeds.{closeIn, close}
+use Rattle.model.specs.Session.{Stack, State, stack, count, screensIn, fresh, mostTasks, mostHeight}
+use Rattle.model.specs.Deeds.{close}
 use Rattle.model.specs.Answers.{outcome, settle, lookAt}
 use Rattle.model.specs.Calls.{back, look, backed, ownChecks, done, call}
+use Rattle.model.proofs.Sessions.{withTasks, same-fields}
 use Rattle.model.proofs.Sound.{TaskSound, Sound}
 use Rattle.model.proofs.Keeps.{settled}
 
@@ -24,18 +25,18 @@ record Fronted (s : State ℕ) : Type 0 where
   screen : ℕ
   below : List ℕ
   behind : List (Stack ℕ)
-  is : s ≡ state (stack root (screen ∷ below) ∷ behind) (s .main)
+  is : s ≡ withTasks s (stack root (screen ∷ below) ∷ behind)
 
 fronted : (tb : List ℕ) (s : State ℕ) → Sound tb s → 1 ≤ count s → Fronted s
-fronted tb s h some = of-tasks (s .tasks) (s .main) (h .each) some
+fronted tb s h some = of-tasks (s .tasks) (h .each) some
   where
-    of-front : (r : ℕ) (xs : List ℕ) (ts : List (Stack ℕ)) (m : ℕ) → 1 ≤ length xs → Fronted (state (stack r xs ∷ ts) m)
-    of-front r [] ts m l = absurd (not-suc-le-zero l)
-    of-front r (x ∷ xs) ts m l = record { root = r; screen = x; below = xs; behind = ts; is = refl }
+    of-front : (r : ℕ) (xs : List ℕ) (ts : List (Stack ℕ)) → 1 ≤ length xs → Fronted (withTasks s (stack r xs ∷ ts))
+    of-front r [] ts l = absurd (not-suc-le-zero l)
+    of-front r (x ∷ xs) ts l = record { root = r; screen = x; below = xs; behind = ts; is = refl }
 
-    of-tasks : (ts : List (Stack ℕ)) (m : ℕ) → All (TaskSound tb) ts → 1 ≤ length ts → Fronted (state ts m)
-    of-tasks [] m h l = absurd (not-suc-le-zero l)
-    of-tasks (t ∷ ts) m h l = of-front (t .root) (t .screens) ts m (h .0 .filled)
+    of-tasks : (ts : List (Stack ℕ)) → All (TaskSound tb) ts → 1 ≤ length ts → Fronted (withTasks s ts)
+    of-tasks [] h l = absurd (not-suc-le-zero l)
+    of-tasks (t ∷ ts) h l = of-front (t .root) (t .screens) ts (h .0 .filled)
 
 -- ---- what a look and a Back give
 
@@ -50,11 +51,11 @@ module _ (tb : List ℕ) (ok : tableRefusal tb ≡ 0) where
 
 -- ---- screens
 
-front-screens : (r x : ℕ) (xs : List ℕ) (ts : List (Stack ℕ)) (m : ℕ)
-    → suc (screensIn (backed (state (stack r (x ∷ xs) ∷ ts) m) .tasks)) ≡ screensIn (stack r (x ∷ xs) ∷ ts)
-unfolding backed close closeIn screensIn
-front-screens r x [] ts m = omega arith
-front-screens r x (y ∷ ys) ts m = omega arith
+front-screens : (s : State ℕ) (r x : ℕ) (xs : List ℕ) (ts : List (Stack ℕ))
+    → suc (screensIn (backed (withTasks s (stack r (x ∷ xs) ∷ ts)) .tasks)) ≡ screensIn (stack r (x ∷ xs) ∷ ts)
+unfolding backed close screensIn
+front-screens s r x [] ts = omega arith
+front-screens s r x (y ∷ ys) ts = omega arith
 
 tasks-most : (tb : List ℕ) (ts : List (Stack ℕ)) → All (TaskSound tb) ts → screensIn ts ≤ length ts * mostHeight
 unfolding screensIn
@@ -65,7 +66,7 @@ module _ (tb : List ℕ) (s : State ℕ) (h : Sound tb s) where
   pub back-screens : 1 ≤ count s → suc (screensIn (backed s .tasks)) ≡ screensIn (s .tasks)
   back-screens some =
       let f = fronted tb s h some in
-      rw (f .is) (front-screens (f .root) (f .screen) (f .below) (f .behind) (s .main))
+      rw (f .is) (front-screens s (f .root) (f .screen) (f .below) (f .behind))
 
   -- 16 tasks of 32
   pub screens-most : screensIn (s .tasks) ≤ mostTasks * mostHeight
@@ -74,32 +75,37 @@ module _ (tb : List ℕ) (s : State ℕ) (h : Sound tb s) where
 -- ---- what a look and the session after a Back tell
 
 empty : (tb : List ℕ) (s : State ℕ) → Sound tb s → count s ≡ 0 → s ≡ fresh
-empty tb s h e = of-tasks (s .tasks) (s .main) (h .place .most) e
+empty tb s h e =
+    let z : s .main ≡ 0 = omega (arith, h .place .most) in
+    same-fields (none (s .tasks) e) z
   where
-    of-tasks : (ts : List (Stack ℕ)) (m : ℕ) → m ≤ length ts → length ts ≡ 0 → state ts m ≡ fresh
-    of-tasks [] m l e = let z : m ≡ 0 = omega arith in ap (state []) z
-    of-tasks (t ∷ ts) m l e = absurd (omega arith)
+    none : (ts : List (Stack ℕ)) → length ts ≡ 0 → ts ≡ []
+    none [] e = refl
+    none (t ∷ ts) e = absurd (omega arith)
 
-cons-state : {r r′ m m′ : ℕ} {xs xs′ : List ℕ} {ts ts′ : List (Stack ℕ)}
-    → r ≡ r′ → xs ≡ xs′ → ts ≡ ts′ → m ≡ m′ → state (stack r xs ∷ ts) m ≡ state (stack r′ xs′ ∷ ts′) m′
-cons-state p q e f = cc
+cons-tasks : {r r′ : ℕ} {xs xs′ : List ℕ} {ts ts′ : List (Stack ℕ)} → r ≡ r′ → xs ≡ xs′ → ts ≡ ts′ → stack r xs ∷ ts ≡ stack r′ xs′ ∷ ts′
+cons-tasks p q e = cc
 
-module _ (r r′ x x′ : ℕ) (ts ts′ : List (Stack ℕ)) (m m′ : ℕ) where
+module _ (s s′ : State ℕ) (r r′ x x′ : ℕ) (ts ts′ : List (Stack ℕ)) where
   -- the screens below the front ones are as many, as the heights say
   front-tells : (xs xs′ : List ℕ)
-      → lookAt (state (stack r (x ∷ xs) ∷ ts) m) ≡ lookAt (state (stack r′ (x′ ∷ xs′) ∷ ts′) m′)
-      → backed (state (stack r (x ∷ xs) ∷ ts) m) ≡ backed (state (stack r′ (x′ ∷ xs′) ∷ ts′) m′)
-      → state (stack r (x ∷ xs) ∷ ts) m ≡ state (stack r′ (x′ ∷ xs′) ∷ ts′) m′
-  unfolding lookAt backed close closeIn
+      → lookAt (withTasks s (stack r (x ∷ xs) ∷ ts)) ≡ lookAt (withTasks s′ (stack r′ (x′ ∷ xs′) ∷ ts′))
+      → backed (withTasks s (stack r (x ∷ xs) ∷ ts)) ≡ backed (withTasks s′ (stack r′ (x′ ∷ xs′) ∷ ts′))
+      → withTasks s (stack r (x ∷ xs) ∷ ts) ≡ withTasks s′ (stack r′ (x′ ∷ xs′) ∷ ts′)
+  unfolding lookAt backed close
   front-tells [] [] q e =
-      cons-state (ap (λ (a : Answer). a .root) q) (ap (λ (a : Answer). a .screen ∷ []) q) (ap (λ (s : State ℕ). s .tasks) e) (ap (λ (a : Answer). a .main) q)
+      same-fields
+      (cons-tasks (ap (λ (a : Answer). a .root) q) (ap (λ (a : Answer). a .screen ∷ []) q) (ap (λ (s : State ℕ). s .tasks) e))
+      (ap (λ (a : Answer). a .main) q)
   front-tells [] (y′ ∷ ys′) q e = let h : 1 ≡ suc (suc (length ys′)) = ap (λ (a : Answer). a .height) q in absurd (omega arith)
   front-tells (y ∷ ys) [] q e = let h : suc (suc (length ys)) ≡ 1 = ap (λ (a : Answer). a .height) q in absurd (omega arith)
   front-tells (y ∷ ys) (y′ ∷ ys′) q e =
       let us = ap (λ (s : State ℕ). s .tasks) e in
-      cons-state (ap (λ (a : Answer). a .root) q)
+      same-fields
+      (cons-tasks (ap (λ (a : Answer). a .root) q)
       (ap₂ _∷_ (ap (λ (a : Answer). a .screen) q) (ap (λ (u : Stack ℕ). u .screens) (head-eq-of-cons-eq us)))
-      (tail-eq-of-cons-eq us) (ap (λ (a : Answer). a .main) q)
+      (tail-eq-of-cons-eq us))
+      (ap (λ (a : Answer). a .main) q)
 
 module _ (tb : List ℕ) (s t : State ℕ) (h : Sound tb s) (k : Sound tb t) (q : lookAt s ≡ lookAt t) where
   same-count : count s ≡ count t
@@ -111,7 +117,7 @@ module _ (tb : List ℕ) (s t : State ℕ) (h : Sound tb s) (k : Sound tb t) (q 
       let f = fronted tb s h some in
       let g = fronted tb t k (omega (arith, same-count)) in
       rw (f .is, g .is)
-      (front-tells (f .root) (g .root) (f .screen) (g .screen) (f .behind) (g .behind) (s .main) (t .main) (f .below) (g .below)
+      (front-tells s t (f .root) (g .root) (f .screen) (g .screen) (f .behind) (g .behind) (f .below) (g .below)
       (rw (f .is, g .is) at q) (rw (f .is, g .is) at e))
 
   -- empty sessions look alike

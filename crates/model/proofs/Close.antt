@@ -1,7 +1,7 @@
 -- Closing a screen keeps a session sound: the task that it empties goes and m follows, or the roots stay as they are.
 use Prim.Native.Nat.{ℕ, zero, suc, _≤_, _<_, zero-le, suc-le-suc, pred}
 use mathlib.Core.Path.{_≡_, refl, sym, _∙_, ap}
-use mathlib.Core.Bool.{Bool, true, false, true≢false}
+use mathlib.Core.Bool.{true, false, true≢false}
 use mathlib.Core.List.{List, [], _∷_, map}
 use native.Mathlib.Nat.{le-trans, not-suc-le-zero, le-of-suc-le-suc}
 use native.Mathlib.Omega.{arith}
@@ -9,10 +9,10 @@ use lib.Dec.{eqb, ltb}
 use lib.ListN.{length, getD, set, length-set, length-map, List·getD-map}
 use lib.Seq.{map-set-same}
 use borrow.Author.Tests.{eqb-false, ltb-true, ltb-false}
-use Rattle.model.specs.Lists.{if_then_else_, isEmpty, omit, Pairwise}
+use Rattle.model.specs.Lists.{isEmpty, omit, Pairwise}
 use Rattle.model.specs.Table.{sizeOf, rootsOnce}
-use Rattle.model.specs.Session.{Stack, State, stack, state, noStack, taskAt}
-use Rattle.model.specs.Deeds.{mainWithout, closeIn, close}
+use Rattle.model.specs.Session.{Stack, State, noStack, onScreens, onTasks, taskAt}
+use Rattle.model.specs.Deeds.{mainWithout, withoutTask, taskLeft, close}
 use Rattle.model.specs.Calls.{backed}
 use Rattle.model.proofs.Logic.{if-elim, All-at}
 use Rattle.model.proofs.ListLaws.{All-omit, All-set, Pairwise-of-map, Pairwise-omit, Pairwise-to-map, isEmpty-length, omit-before, omit-behind, omit-inside, omit-length, omit-length-le}
@@ -20,26 +20,16 @@ use Rattle.model.proofs.Sound.{TaskSound, RootsDiffer, MainSound, Sound
 
 -- ---- the two ways of closing
 
-module _ {A : Type 0} where
+module _ {A : Type 0} (p i : ℕ) (s : State A) where
   -- the task loses its last screen, and goes
-  pub closeIn-emptied : (k i : ℕ) (ts : List (Stack A)) → isEmpty (omit i (getD ts k noStack .screens)) ≡ true
-      → closeIn k i ts ≡ omit k ts
-  unfolding closeIn
-  closeIn-emptied k i [] e = refl
-  closeIn-emptied zero i (t ∷ ts) e = ap (λ (b : Bool). if b then ts else stack (t .root) (omit i (t .screens)) ∷ ts) e
-  closeIn-emptied (suc k) i (t ∷ ts) e = ap (λ (us : List (Stack A)). t ∷ us) (closeIn-emptied k i ts e)
-
-  -- the task at the place behind k others without the screen below i others
-  abbrev pub shortened : ℕ → ℕ → List (Stack A) → Stack A
-  shortened k i ts = stack (getD ts k noStack .root) (omit i (getD ts k noStack .screens))
+  pub close-emptied : isEmpty (taskLeft p i s .screens) ≡ true → close p i s ≡ withoutTask p s
+  unfolding close
+  close-emptied e = rw e
 
   -- other screens stay in the task
-  pub closeIn-kept : (k i : ℕ) (ts : List (Stack A)) → isEmpty (omit i (getD ts k noStack .screens)) ≡ false
-      → closeIn k i ts ≡ set ts k (shortened k i ts)
-  unfolding closeIn
-  closeIn-kept k i [] e = refl
-  closeIn-kept zero i (t ∷ ts) e = ap (λ (b : Bool). if b then ts else stack (t .root) (omit i (t .screens)) ∷ ts) e
-  closeIn-kept (suc k) i (t ∷ ts) e = ap (λ (us : List (Stack A)). t ∷ us) (closeIn-kept k i ts e)
+  pub close-kept : isEmpty (taskLeft p i s .screens) ≡ false → close p i s ≡ onTasks (λ ts. set ts (pred p) (taskLeft p i s)) s
+  unfolding close
+  close-kept e = rw e
 
 -- ---- what depends on the roots alone
 
@@ -80,7 +70,7 @@ omit-lone (suc i) r e = refl
 
 module _ (tb : List ℕ) where
   shortened-sound : (t : Stack ℕ) (i : ℕ) → isEmpty (omit i (t .screens)) ≡ false
-      → TaskSound tb t → TaskSound tb (stack (t .root) (omit i (t .screens)))
+      → TaskSound tb t → TaskSound tb (onScreens (omit i) t)
   shortened-sound t i e k =
       record {
         filled = isEmpty-length (omit i (t .screens)) e;
@@ -111,7 +101,7 @@ module _ (tb : List ℕ) where
       before (suc n) l h = follows-main tb ts (omit k ts) n (suc n) (omit-inside k (suc n) ts l (h .most)) (omit-before noStack k n ts l) h
 
   module _ (k i : ℕ) (s : State ℕ) (h : Sound tb s) where
-    emptied-sound : Sound tb (state (omit k (s .tasks)) (mainWithout (suc k) (s .main)))
+    emptied-sound : Sound tb (withoutTask (suc k) s)
     emptied-sound =
         record {
           few = le-trans (omit-length-le k (s .tasks)) (h .few);
@@ -120,33 +110,30 @@ module _ (tb : List ℕ) where
           place = without-main k (s .main) (s .tasks) (h .place);
         }
 
-    kept-sound : isEmpty (omit i (getD (s .tasks) k noStack .screens)) ≡ false
-        → Sound tb (state (set (s .tasks) k (shortened k i (s .tasks))) (s .main))
+    abbrev left : Stack ℕ
+    left = taskLeft (suc k) i s
+
+    kept-sound : isEmpty (left .screens) ≡ false → Sound tb (onTasks (λ ts. set ts k left) s)
     kept-sound e =
         record {
-          few = rw (length-set (s .tasks) k (shortened k i (s .tasks))) (h .few);
+          few = rw (length-set (s .tasks) k left) (h .few);
           each =
-              All-set (TaskSound tb) k (shortened k i (s .tasks)) (s .tasks)
+              All-set (TaskSound tb) k left (s .tasks)
               (λ l. shortened-sound (getD (s .tasks) k noStack) i e (All-at (TaskSound tb) (s .tasks) k noStack l (h .each))) (h .each);
           pairs = same-roots-pairs tb (s .tasks) ts (sym same) (h .pairs);
           place = same-roots-main tb (s .tasks) ts (sym same) (s .main) (h .place);
         }
       where
         ts : List (Stack ℕ)
-        ts = set (s .tasks) k (shortened k i (s .tasks))
+        ts = set (s .tasks) k left
 
         same : rootsOf ts ≡ rootsOf (s .tasks)
-        same = map-set-same (λ t. t .root) (s .tasks) k (shortened k i (s .tasks)) noStack refl
+        same = map-set-same (λ t. t .root) (s .tasks) k left noStack refl
 
 -- at any depth in any task, or nowhere
-pub close-sound : (tb : List ℕ) (k i : ℕ) (s : State ℕ) → Sound tb s → Sound tb (close k i s)
+pub close-sound : (tb : List ℕ) (k i : ℕ) (s : State ℕ) → Sound tb s → Sound tb (close (suc k) i s)
 unfolding close
-close-sound tb k i s h = go (isEmpty (omit i (getD (s .tasks) k noStack .screens))) refl
-  where
-    go : (e : Bool) → isEmpty (omit i (getD (s .tasks) k noStack .screens)) ≡ e
-        → Sound tb (state (closeIn k i (s .tasks)) (if e then mainWithout (suc k) (s .main) else s .main))
-    go true e = rw (closeIn-emptied k i (s .tasks) e) (emptied-sound tb k i s h)
-    go false e = rw (closeIn-kept k i (s .tasks) e) (kept-sound tb k i s h e)
+close-sound tb k i s h = if-elim (Sound tb) (isEmpty (taskLeft (suc k) i s .screens)) _ _ (λ e. emptied-sound tb k i s h) (kept-sound tb k i s h)
 
 pub backed-sound : (tb : List ℕ) (s : State ℕ) → Sound tb s → Sound tb (backed s)
 unfolding backed

@@ -13,13 +13,14 @@ use Rattle.model.specs.declared.Deed.{Deed}
 use Rattle.model.specs.declared.Flags.{Flags}
 use Rattle.model.specs.declared.Mark.{Mark}
 use Rattle.model.specs.Refusals.{refusal}
-use Rattle.model.specs.Session.{Stack, State, stack, state, taskAt, front, frontScreen, count}
+use Rattle.model.specs.Session.{Stack, State, stack, taskAt, front, frontScreen, count}
 use Rattle.model.specs.Flags.{flagsOf}
 use Rattle.model.specs.Search.{placeOf}
 use Rattle.model.specs.Deeds.{deedOf}
 use Rattle.model.specs.Rules.{choose}
 use Rattle.model.specs.Calls.{chosen, startedBy, started, finishedBy, finished, startChecks}
 use Rattle.model.specs.Marks.{markAfter, closeAt, Stands}
+use Rattle.model.proofs.Sessions.{withTasks}
 use Rattle.model.proofs.Sound.{Sound}
 use Rattle.model.proofs.Close.{close-sound}
 use Rattle.model.proofs.Deeds.{Suits, Ready}
@@ -52,35 +53,36 @@ markOf c b s = markAfter (deedOf (c .rule)) (placeOf (c .found)) (eqb b (frontSc
 module _ (tb : List ℕ) (b : ℕ) (f : Flags) where
   -- what is shown of a sound session that is not empty, and of the choice that a start makes in it
   module _ (P : State ℕ → Type 0)
-      (shown : (r x m : ℕ) (xs : List ℕ) (ts : List (Stack ℕ))
-      → let s = state (stack r (x ∷ xs) ∷ ts) m in
+      (shown : (o : State ℕ) (r x : ℕ) (xs : List ℕ) (ts : List (Stack ℕ))
+      → let s = withTasks o (stack r (x ∷ xs) ∷ ts) in
       let c = choose tb s b f in
       Able (deedOf (c .rule)) (placeOf (c .found)) b s → P s) where
-    in-task : (r m : ℕ) (xs : List ℕ) (ts : List (Stack ℕ)) → 1 ≤ length xs → Sound tb (state (stack r xs ∷ ts) m) → P (state (stack r xs ∷ ts) m)
-    in-task r m [] ts l h = absurd (not-suc-le-zero l)
-    in-task r m (x ∷ xs) ts l h =
-        let s = state (stack r (x ∷ xs) ∷ ts) m in
+    in-task : (o : State ℕ) (r : ℕ) (xs : List ℕ) (ts : List (Stack ℕ)) → 1 ≤ length xs → Sound tb (withTasks o (stack r xs ∷ ts))
+        → P (withTasks o (stack r xs ∷ ts))
+    in-task o r [] ts l h = absurd (not-suc-le-zero l)
+    in-task o r (x ∷ xs) ts l h =
+        let s = withTasks o (stack r (x ∷ xs) ∷ ts) in
         let c = choose tb s b f in
-        shown r x m xs ts (ready-able tb b (deedOf (c .rule)) (placeOf (c .found)) s (choose-ready tb s b f h (omega arith)))
+        shown o r x xs ts (ready-able tb b (deedOf (c .rule)) (placeOf (c .found)) s (choose-ready tb s b f h (omega arith)))
 
-    in-session : (ts : List (Stack ℕ)) (m : ℕ) → Sound tb (state ts m) → 1 ≤ length ts → P (state ts m)
-    in-session [] m h l = absurd (not-suc-le-zero l)
-    in-session (t ∷ ts) m h l = in-task (t .root) m (t .screens) ts (h .each .0 .filled) h
+    in-session : (o : State ℕ) (ts : List (Stack ℕ)) → Sound tb (withTasks o ts) → 1 ≤ length ts → P (withTasks o ts)
+    in-session o [] h l = absurd (not-suc-le-zero l)
+    in-session o (t ∷ ts) h l = in-task o (t .root) (t .screens) ts (h .each .0 .filled) h
 
   -- a finishing start closes the screen at the mark's position
   pub finished-by : (s : State ℕ) → Sound tb s → 1 ≤ count s
       → finishedBy (choose tb s b f) b s ≡ closeAt (markOf (choose tb s b f) b s) (startedBy (choose tb s b f) b s)
   finished-by s h l =
       in-session (λ s. finishedBy (choose tb s b f) b s ≡ closeAt (markOf (choose tb s b f) b s) (startedBy (choose tb s b f) b s))
-      (λ r x m xs ts a. finished-carry b r x m xs ts _ _ a) (s .tasks) (s .main) h l
+      (λ o r x xs ts a. finished-carry o b r x xs ts _ _ a) s (s .tasks) h l
 
   -- at which a screen stands
   pub marked-stands : (s : State ℕ) → Sound tb s → 1 ≤ count s → Stands (markOf (choose tb s b f) b s) (startedBy (choose tb s b f) b s)
   marked-stands s h l =
       in-session (λ s. Stands (markOf (choose tb s b f) b s) (startedBy (choose tb s b f) b s))
-      (λ r x m xs ts a.
-      let c = choose tb (state (stack r (x ∷ xs) ∷ ts) m) b f in
-      mark-stands b r x m xs ts (deedOf (c .rule)) (placeOf (c .found)) a) (s .tasks) (s .main) h l
+      (λ o r x xs ts a.
+      let c = choose tb (withTasks o (stack r (x ∷ xs) ∷ ts)) b f in
+      mark-stands o b r x xs ts (deedOf (c .rule)) (placeOf (c .found)) a) s (s .tasks) h l
 
 close-at-sound : (tb : List ℕ) (k : Mark) (s : State ℕ) → Sound tb s → Sound tb (closeAt k s)
 close-at-sound tb Mark.Gone s h = h

@@ -4,6 +4,7 @@ pub mod WrittenLaws
 pub mod Walks
 pub mod RefusalLaws
 pub mod Tables
+pub mod Sessions
 pub mod Sound
 pub mod SearchLaws
 pub mod RuleLaws

@@ -229,6 +229,11 @@ module _ {A B : Type 0} (f : A → B) where
   map-omit zero (x ∷ xs) = refl
   map-omit (suc i) (x ∷ xs) = ap (λ (ys : List B). f x ∷ ys) (map-omit i xs)
 
+  pub map-set : (k : ℕ) (x : A) (xs : List A) → map f (set xs k x) ≡ set (map f xs) k (f x)
+  map-set k x [] = refl
+  map-set zero x (y ∷ ys) = refl
+  map-set (suc k) x (y ∷ ys) = ap (λ (zs : List B). f y ∷ zs) (map-set k x ys)
+
   pub map-putSecond : (x : A) (xs : List A) → map f (putSecond x xs) ≡ putSecond (f x) (map f xs)
   map-putSecond x [] = refl
   map-putSecond x (y ∷ ys) = refl

@@ -12,11 +12,12 @@ use Rattle.model.specs.declared.Change.{Change}
 use Rattle.model.specs.declared.Deed.{Deed}
 use Rattle.model.specs.declared.Mark.{Mark}
 use Rattle.model.specs.Lists.{find, putSecond, toFront}
-use Rattle.model.specs.Session.{Stack, State, stack, state}
+use Rattle.model.specs.Session.{Stack, State, stack}
 use Rattle.model.specs.Search.{holds}
-use Rattle.model.specs.Deeds.{mainMoved, move, changed, changeFront, putNew, carryOut}
+use Rattle.model.specs.Deeds.{move, changed, changeFront, putNew, carryOut}
 use Rattle.model.specs.Marks.{markIn, markAfter, Stands}
 use Rattle.model.proofs.ListLaws.{toFront-length}
+use Rattle.model.proofs.Sessions.{withTasks}
 use Rattle.model.proofs.Marks.{AbleIn, Able}
 
 -- a screen that stands below another top has company
@@ -25,35 +26,35 @@ unfolding holds
 below-top b x [] e h = absurd (false≢true (rw e at h))
 below-top b x (y ∷ ys) e h = omega arith
 
-module _ (b r x m : ℕ) (xs : List ℕ) (ts : List (Stack ℕ)) where
+module _ (s : State ℕ) (b r x : ℕ) (xs : List ℕ) (ts : List (Stack ℕ)) where
   abbrev before : State ℕ
-  before = state (stack r (x ∷ xs) ∷ ts) m
+  before = withTasks s (stack r (x ∷ xs) ∷ ts)
 
-  in-front : (m′ : ℕ) (c : Change) (same : Bool) → eqb b x ≡ same → AbleIn c b (x ∷ xs)
-      → Stands (markIn c same) (state (stack r (changed (eqb b) b c (x ∷ xs)) ∷ ts) m′)
+  in-front : (o : State ℕ) (c : Change) (same : Bool) → eqb b x ≡ same → AbleIn c b (x ∷ xs)
+      → Stands (markIn c same) (withTasks o (stack r (changed (eqb b) b c (x ∷ xs)) ∷ ts))
   unfolding changed
-  in-front m′ Change.Keep same e h = (omega arith, omega arith)
-  in-front m′ Change.Renew same e h = tt
-  in-front m′ Change.Clear true e h = rw e (omega arith, omega arith)
-  in-front m′ Change.Clear false e h = tt
-  in-front m′ Change.Lift true e h = rw e (omega arith, omega arith)
-  in-front m′ Change.Lift false e h =
+  in-front o Change.Keep same e h = (omega arith, omega arith)
+  in-front o Change.Renew same e h = tt
+  in-front o Change.Clear true e h = rw e (omega arith, omega arith)
+  in-front o Change.Clear false e h = tt
+  in-front o Change.Lift true e h = rw e (omega arith, omega arith)
+  in-front o Change.Lift false e h =
       let n = toFront-length (pred (find (eqb b) (x ∷ xs))) (x ∷ xs) in
       let l = below-top b x xs e h in
       (omega arith, omega (arith, n, l))
-  in-front m′ Change.Push same e h = (omega arith, omega arith)
+  in-front o Change.Push same e h = (omega arith, omega arith)
 
-  behind : (m′ : ℕ) (c : Change) (us : List (Stack ℕ)) → 1 ≤ length us
-      → Stands (Mark.Stands 1 0) (changeFront (changed (eqb b) b c) (state (putSecond (stack r (x ∷ xs)) us) m′))
+  behind : (o : State ℕ) (c : Change) (us : List (Stack ℕ)) → 1 ≤ length us
+      → Stands (Mark.Stands 1 0) (changeFront (changed (eqb b) b c) (withTasks o (putSecond (stack r (x ∷ xs)) us)))
   unfolding changeFront
-  behind m′ c [] l = absurd (not-suc-le-zero l)
-  behind m′ c (u ∷ us) l = (omega arith, omega arith)
+  behind o c [] l = absurd (not-suc-le-zero l)
+  behind o c (u ∷ us) l = (omega arith, omega arith)
 
   pub mark-stands : (d : Deed) (p : ℕ) → Able d p b before → Stands (markAfter d p (eqb b x)) (carryOut (eqb b) b b d p before)
   unfolding carryOut putNew changeFront move
   mark-stands Deed.New p h = (omega arith, omega arith)
-  mark-stands (Deed.InFront c) p h = in-front m c (eqb b x) refl h
-  mark-stands (Deed.MoveAnd c) zero h = in-front _ c (eqb b x) refl (h .1 (omega arith))
-  mark-stands (Deed.MoveAnd c) (suc zero) h = in-front _ c (eqb b x) refl (h .1 (omega arith))
+  mark-stands (Deed.InFront c) p h = in-front s c (eqb b x) refl h
+  mark-stands (Deed.MoveAnd c) zero h = in-front (move 0 s) c (eqb b x) refl (h .1 (omega arith))
+  mark-stands (Deed.MoveAnd c) (suc zero) h = in-front (move 1 s) c (eqb b x) refl (h .1 (omega arith))
   mark-stands (Deed.MoveAnd c) (suc (suc k)) h =
-      rw (lt-leb (suc (suc k)) 1 (omega arith)) (behind (mainMoved (suc (suc k)) m) c (toFront k ts) (omega (arith, toFront-length k ts, h .0)))
+      rw (lt-leb (suc (suc k)) 1 (omega arith)) (behind (move (suc (suc k)) s) c (toFront k ts) (omega (arith, toFront-length k ts, h .0)))

@@ -8,48 +8,39 @@ use mathlib.Core.List.{List, [], _∷_, map}
 use native.Mathlib.Nat.{not-suc-le-zero}
 use native.Mathlib.Omega.{arith}
 use lib.Dec.{eqb}
-use lib.ListN.{length, getD, drop, length-map, List·getD-map}
+use lib.ListN.{length, set, drop, length-map, List·getD-map}
 use borrow.Author.Tests.{lt-leb}
 use Rattle.model.specs.declared.Change.{Change}
 use Rattle.model.specs.declared.Deed.{Deed}
 use Rattle.model.specs.declared.Mark.{Mark}
 use Rattle.model.specs.Lists.{if_then_else_, isEmpty, isPlace, further, find, omit, putSecond, toFront, All}
-use Rattle.model.specs.Session.{Stack, State, stack, state, noStack, front, count}
+use Rattle.model.specs.Session.{Stack, State, stack, noStack, onScreens, onTasks, taskAt, front, count}
 use Rattle.model.specs.Search.{holds}
-use Rattle.model.specs.Deeds.{move, changed, changeFront, putNew, carryOut, closeIn, close}
-use Rattle.model.specs.Calls.{Marked, unmarked, mapScreens, mapState, markFront, holdsMark, closeMarked}
+use Rattle.model.specs.Deeds.{move, changed, changeFront, putNew, carryOut, withoutTask, taskLeft, close}
+use Rattle.model.specs.Calls.{Marked, unmarked, mapScreens, mapState, markFront, placeOfMark, closeMarked}
 use Rattle.model.specs.Marks.{markIn, markAfter, closeAt}
 use Rattle.model.proofs.Logic.{All-of}
-use Rattle.model.proofs.ListLaws.{toFront-length, All-drop, All-toFront, All-to-map, map-omit, map-toFront, map-drop, map-onFirst, find-map, isEmpty-map}
+use Rattle.model.proofs.Sessions.{withTasks}
+use Rattle.model.proofs.ListLaws.{toFront-length, All-drop, All-toFront, All-to-map, map-omit, map-set, map-toFront, map-drop, map-onFirst, find-map, isEmpty-map}
 
 -- ---- deeds and closing do not look at marks
 
 module _ {A B : Type 0} (f : A → B) where
-  map-close-in : (k i : ℕ) (ts : List (Stack A)) → map (mapScreens f) (closeIn k i ts) ≡ closeIn k i (map (mapScreens f) ts)
-  unfolding closeIn
-  map-close-in k i [] = refl
-  map-close-in zero i (t ∷ ts) =
-      rw (← (map-omit f i (t .screens)), isEmpty-map f (omit i (t .screens))) (go (isEmpty (omit i (t .screens))))
-    where
-      go : (b : Bool) → map (mapScreens f) (if b then ts else stack (t .root) (omit i (t .screens)) ∷ ts)
-          ≡ (if b then map (mapScreens f) ts else stack (t .root) (map f (omit i (t .screens))) ∷ map (mapScreens f) ts)
-      go true = refl
-      go false = refl
-  map-close-in (suc k) i (t ∷ ts) = ap (λ (us : List (Stack B)). mapScreens f t ∷ us) (map-close-in k i ts)
-
-  map-close : (k i : ℕ) (s : State A) → mapState f (close k i s) ≡ close k i (mapState f s)
+  map-close : (p i : ℕ) (s : State A) → mapState f (close p i s) ≡ close p i (mapState f s)
   unfolding mapState close
-  map-close k i s =
-      rw (
-        map-close-in k i (s .tasks),
-        List·getD-map (mapScreens f) (s .tasks) k noStack,
-        ← (map-omit f i (getD (s .tasks) k noStack .screens)),
-        isEmpty-map f (omit i (getD (s .tasks) k noStack .screens)),
-      )
+  map-close p i s =
+      let t = taskAt (s .tasks) p in
+      rw (List·getD-map (mapScreens f) (s .tasks) (pred p) noStack, ← (map-omit f i (t .screens)), isEmpty-map f (omit i (t .screens)))
+      (go (isEmpty (omit i (t .screens))))
+    where
+      go : (b : Bool) → mapState f (if b then withoutTask p s else onTasks (λ ts. set ts (pred p) (taskLeft p i s)) s)
+          ≡ (if b then withoutTask p (mapState f s) else onTasks (λ ts. set ts (pred p) (mapScreens f (taskLeft p i s))) (mapState f s))
+      go true = rw (map-omit (mapScreens f) (pred p) (s .tasks))
+      go false = rw (map-set (mapScreens f) (pred p) (taskLeft p i s) (s .tasks))
 
   map-close-at : (k : Mark) (s : State A) → mapState f (closeAt k s) ≡ closeAt k (mapState f s)
   map-close-at Mark.Gone s = refl
-  map-close-at (Mark.Stands k i) s = map-close k i s
+  map-close-at (Mark.Stands k i) s = map-close (suc k) i s
 
   module _ (isB : B → Bool) (b : ℕ) (x : A) where
     map-changed : (c : Change) (xs : List A) → map f (changed (λ y. isB (f y)) x c xs) ≡ changed isB (f x) c (map f xs)
@@ -64,9 +55,8 @@ module _ {A B : Type 0} (f : A → B) where
         → mapState f (changeFront (changed (λ y. isB (f y)) x c) s) ≡ changeFront (changed isB (f x) c) (mapState f s)
     unfolding mapState changeFront
     map-change-front c s =
-        ap (λ (ts : List (Stack B)). state ts (s .main))
-        (map-onFirst (mapScreens f) (λ t. stack (t .root) (changed (λ y. isB (f y)) x c (t .screens)))
-        (λ t. stack (t .root) (changed isB (f x) c (t .screens)))
+        ap (withTasks (mapState f s))
+        (map-onFirst (mapScreens f) (onScreens (changed (λ y. isB (f y)) x c)) (onScreens (changed isB (f x) c))
         (λ t. ap (stack (t .root)) (map-changed c (t .screens))) (s .tasks))
 
     map-move : (p : ℕ) (s : State A) → mapState f (move p s) ≡ move p (mapState f s)
@@ -101,27 +91,27 @@ Unheld ts = All (λ t. Unmarked (t .screens)) ts
 unheld-all : (ts : List (Stack ℕ)) → Unheld (map (mapScreens unmarked) ts)
 unheld-all ts = All-to-map (mapScreens unmarked) (λ t. Unmarked (t .screens)) ts (All-of (λ t. unmarked-all (t .screens)) ts)
 
-unheld-none : (ts : List (Stack Marked)) → Unheld ts → find holdsMark ts ≡ 0
+unheld-none : (ts : List (Stack Marked)) → Unheld ts → find (λ t. isPlace (placeOfMark t)) ts ≡ 0
 unheld-none [] h = refl
 unheld-none (t ∷ ts) h = rw (find-all-false isMarked (t .screens) (h .0), unheld-none ts (h .1))
 
-module _ (r m : ℕ) (ys : List Marked) (us : List (Stack Marked)) where
+module _ (s : State Marked) (r : ℕ) (ys : List Marked) (us : List (Stack Marked)) where
   -- the mark is in the front task
-  marked-first : (i : ℕ) → find isMarked ys ≡ suc i → closeMarked (state (stack r ys ∷ us) m) ≡ close 0 i (state (stack r ys ∷ us) m)
+  marked-first : (i : ℕ) → find isMarked ys ≡ suc i → closeMarked (withTasks s (stack r ys ∷ us)) ≡ close 1 i (withTasks s (stack r ys ∷ us))
   unfolding closeMarked
   marked-first i e = rw (e, e)
 
   -- it is nowhere
-  marked-none : Unmarked ys → Unheld us → closeMarked (state (stack r ys ∷ us) m) ≡ state (stack r ys ∷ us) m
+  marked-none : Unmarked ys → Unheld us → closeMarked (withTasks s (stack r ys ∷ us)) ≡ withTasks s (stack r ys ∷ us)
   unfolding closeMarked
   marked-none h k = rw (find-all-false isMarked ys h, unheld-none us k)
 
 -- it is on top of the second task
-marked-second : (m : ℕ) (t u : Stack Marked) (y : Marked) (ys : List Marked) (us : List (Stack Marked))
+marked-second : (s : State Marked) (t u : Stack Marked) (y : Marked) (ys : List Marked) (us : List (Stack Marked))
     → Unmarked (t .screens) → u .screens ≡ y ∷ ys → isMarked y ≡ true
-    → closeMarked (state (t ∷ u ∷ us) m) ≡ close 1 0 (state (t ∷ u ∷ us) m)
+    → closeMarked (withTasks s (t ∷ u ∷ us)) ≡ close 2 0 (withTasks s (t ∷ u ∷ us))
 unfolding closeMarked
-marked-second m t u y ys us h e g = rw (find-all-false isMarked (t .screens) h, e, g)
+marked-second s t u y ys us h e g = rw (find-all-false isMarked (t .screens) h, e, g)
 
 -- ---- the start carried out on marked screens
 
@@ -140,9 +130,9 @@ Able (Deed.InFront c) p b s = AbleIn c b (front s .screens)
 Able (Deed.MoveAnd c) p b s = (p ≤ count s) × (p ≤ 1 → AbleIn c b (front s .screens))
 
 -- a session whose front screen is x
-module _ (b r x m : ℕ) (xs : List ℕ) (ts : List (Stack ℕ)) where
+module _ (s : State ℕ) (b r x : ℕ) (xs : List ℕ) (ts : List (Stack ℕ)) where
   abbrev before : State ℕ
-  before = state (stack r (x ∷ xs) ∷ ts) m
+  before = withTasks s (stack r (x ∷ xs) ∷ ts)
 
   abbrev isBmarked : Marked → Bool
   isBmarked y = eqb b (y .screen)
@@ -179,64 +169,64 @@ module _ (b r x m : ℕ) (xs : List ℕ) (ts : List (Stack ℕ)) where
   second-marked (y ∷ ys) l h = rw (h .0)
 
   -- the mark after a change of the front task
-  front-mark : (m′ : ℕ) (c : Change) (same : Bool) → eqb b x ≡ same → AbleIn c b (x ∷ xs)
-      → closeMarked (state (stack r (changed isBmarked (unmarked b) c (markedX ∷ below)) ∷ others) m′)
-      ≡ closeAt (markIn c same) (state (stack r (changed isBmarked (unmarked b) c (markedX ∷ below)) ∷ others) m′)
+  front-mark : (o : State Marked) (c : Change) (same : Bool) → eqb b x ≡ same → AbleIn c b (x ∷ xs)
+      → closeMarked (withTasks o (stack r (changed isBmarked (unmarked b) c (markedX ∷ below)) ∷ others))
+      ≡ closeAt (markIn c same) (withTasks o (stack r (changed isBmarked (unmarked b) c (markedX ∷ below)) ∷ others))
   unfolding changed
-  front-mark m′ Change.Keep same e h = marked-first r m′ (markedX ∷ below) others 0 refl
-  front-mark m′ Change.Renew same e h = marked-none r m′ (unmarked b ∷ []) others (refl, tt) (unheld-all ts)
-  front-mark m′ Change.Clear true e h = rw e (marked-first r m′ (markedX ∷ below) others 0 refl)
-  front-mark m′ Change.Clear false e h = rw e (go (find isBmarked below) (stands-below e h))
+  front-mark o Change.Keep same e h = marked-first o r (markedX ∷ below) others 0 refl
+  front-mark o Change.Renew same e h = marked-none o r (unmarked b ∷ []) others (refl, tt) (unheld-all ts)
+  front-mark o Change.Clear true e h = rw e (marked-first o r (markedX ∷ below) others 0 refl)
+  front-mark o Change.Clear false e h = rw e (go (find isBmarked below) (stands-below e h))
     where
       go : (n : ℕ) → isPlace n ≡ true
-          → closeMarked (state (stack r (drop (pred (further n)) (markedX ∷ below)) ∷ others) m′)
-          ≡ state (stack r (drop (pred (further n)) (markedX ∷ below)) ∷ others) m′
+          → closeMarked (withTasks o (stack r (drop (pred (further n)) (markedX ∷ below)) ∷ others))
+          ≡ withTasks o (stack r (drop (pred (further n)) (markedX ∷ below)) ∷ others)
       go zero g = absurd (false≢true g)
-      go (suc n) g = marked-none r m′ (drop n below) others (All-drop (λ y. isMarked y ≡ false) n below (unmarked-all xs)) (unheld-all ts)
-  front-mark m′ Change.Lift true e h = rw e (marked-first r m′ (markedX ∷ below) others 0 refl)
-  front-mark m′ Change.Lift false e h = rw e (go (find isBmarked below) refl (stands-below e h))
+      go (suc n) g = marked-none o r (drop n below) others (All-drop (λ y. isMarked y ≡ false) n below (unmarked-all xs)) (unheld-all ts)
+  front-mark o Change.Lift true e h = rw e (marked-first o r (markedX ∷ below) others 0 refl)
+  front-mark o Change.Lift false e h = rw e (go (find isBmarked below) refl (stands-below e h))
     where
       some : (ys : List Marked) → isPlace (find isBmarked ys) ≡ true → 1 ≤ length ys
       some [] g = absurd (false≢true g)
       some (y ∷ ys) g = omega arith
 
       go : (n : ℕ) → find isBmarked below ≡ n → isPlace (find isBmarked below) ≡ true
-          → closeMarked (state (stack r (toFront (pred (further n)) (markedX ∷ below)) ∷ others) m′)
-          ≡ close 0 1 (state (stack r (toFront (pred (further n)) (markedX ∷ below)) ∷ others) m′)
+          → closeMarked (withTasks o (stack r (toFront (pred (further n)) (markedX ∷ below)) ∷ others))
+          ≡ close 1 1 (withTasks o (stack r (toFront (pred (further n)) (markedX ∷ below)) ∷ others))
       go zero f g = absurd (false≢true (rw f at g))
       go (suc n) f g =
-          marked-first r m′ (putSecond markedX (toFront n below)) others 1
+          marked-first o r (putSecond markedX (toFront n below)) others 1
           (second-marked (toFront n below) (omega (arith, toFront-length n below, some below g))
           (All-toFront (λ y. isMarked y ≡ false) n below (unmarked-all xs)))
-  front-mark m′ Change.Push same e h = marked-first r m′ (unmarked b ∷ markedX ∷ below) others 1 refl
+  front-mark o Change.Push same e h = marked-first o r (unmarked b ∷ markedX ∷ below) others 1 refl
 
   -- a task comes before the marked one
-  moved-mark : (m′ : ℕ) (c : Change) (us : List (Stack Marked)) → 1 ≤ length us → Unheld us
-      → closeMarked (changeFront (changed isBmarked (unmarked b) c) (state (putSecond (stack r (markedX ∷ below)) us) m′))
-      ≡ close 1 0 (changeFront (changed isBmarked (unmarked b) c) (state (putSecond (stack r (markedX ∷ below)) us) m′))
+  moved-mark : (o : State Marked) (c : Change) (us : List (Stack Marked)) → 1 ≤ length us → Unheld us
+      → closeMarked (changeFront (changed isBmarked (unmarked b) c) (withTasks o (putSecond (stack r (markedX ∷ below)) us)))
+      ≡ close 2 0 (changeFront (changed isBmarked (unmarked b) c) (withTasks o (putSecond (stack r (markedX ∷ below)) us)))
   unfolding changeFront
-  moved-mark m′ c [] l h = absurd (not-suc-le-zero l)
-  moved-mark m′ c (u ∷ us) l h =
-      marked-second m′ _ (stack r (markedX ∷ below)) markedX below us (changed-unmarked c (u .screens) (h .0)) refl refl
+  moved-mark o c [] l h = absurd (not-suc-le-zero l)
+  moved-mark o c (u ∷ us) l h =
+      marked-second o _ (stack r (markedX ∷ below)) markedX below us (changed-unmarked c (u .screens) (h .0)) refl refl
 
   carry-mark : (d : Deed) (p : ℕ) (same : Bool) → eqb b x ≡ same → Able d p b before
       → closeMarked (carryOut isBmarked b (unmarked b) d p (markFront before))
       ≡ closeAt (markAfter d p same) (carryOut isBmarked b (unmarked b) d p (markFront before))
   unfolding carryOut markFront mapState putNew changeFront move
-  carry-mark Deed.New p same e h = marked-second _ (stack b (unmarked b ∷ [])) (stack r (markedX ∷ below)) markedX below others (refl, tt) refl refl
-  carry-mark (Deed.InFront c) p same e h = front-mark m c same e h
-  carry-mark (Deed.MoveAnd c) zero same e h = front-mark _ c same e (h .1 (omega arith))
-  carry-mark (Deed.MoveAnd c) (suc zero) same e h = front-mark _ c same e (h .1 (omega arith))
+  carry-mark Deed.New p same e h = marked-second (putNew b (unmarked b) (mapState unmarked s)) (stack b (unmarked b ∷ [])) (stack r (markedX ∷ below)) markedX below others (refl, tt) refl refl
+  carry-mark (Deed.InFront c) p same e h = front-mark (mapState unmarked s) c same e h
+  carry-mark (Deed.MoveAnd c) zero same e h = front-mark (move 0 (mapState unmarked s)) c same e (h .1 (omega arith))
+  carry-mark (Deed.MoveAnd c) (suc zero) same e h = front-mark (move 1 (mapState unmarked s)) c same e (h .1 (omega arith))
   carry-mark (Deed.MoveAnd c) (suc (suc k)) same e h =
       rw (lt-leb (suc (suc k)) 1 (omega arith))
-      (moved-mark _ c (toFront k others) (omega (arith, toFront-length k others, length-map ts (mapScreens unmarked), h .0))
+      (moved-mark (move (suc (suc k)) (mapState unmarked s)) c (toFront k others) (omega (arith, toFront-length k others, length-map ts (mapScreens unmarked), h .0))
       (All-toFront (λ t. Unmarked (t .screens)) k others (unheld-all ts)))
 
   -- without its mark the marked session is the session itself
   forget-mark : mapState (λ y. y .screen) (markFront before) ≡ before
-  unfolding mapState markFront
+  unfolding mapState markFront changeFront
   forget-mark =
-      ap₂ (λ (ys : List ℕ) (us : List (Stack ℕ)). state (stack r (x ∷ ys) ∷ us) m) (plain xs) (plains ts)
+      ap₂ (λ (ys : List ℕ) (us : List (Stack ℕ)). withTasks s (stack r (x ∷ ys) ∷ us)) (plain xs) (plains ts)
     where
       plain : (zs : List ℕ) → map (λ y. y .screen) (map unmarked zs) ≡ zs
       plain [] = refl

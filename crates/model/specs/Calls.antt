@@ -3,19 +3,19 @@ use Prim.Native.Nat.{ℕ, zero, suc, pred}
 use mathlib.Core.Bool.{Bool, true, false, not, _&&_}
 use mathlib.Core.List.{List, [], _∷_, _++_, map}
 use lib.Dec.{ltb, eqb}
-use lib.ListN.{length, getD, drop}
+use lib.ListN.{length, drop}
 use Rattle.model.specs.declared.Answer.{Answer}
 use Rattle.model.specs.declared.Choice.{Choice}
 use Rattle.model.specs.declared.Change.{Change}
 use Rattle.model.specs.declared.Deed.{Deed}
-use Rattle.model.specs.Lists.{isEmpty, isPlace, find, onFirst}
+use Rattle.model.specs.Lists.{if_then_else_, isEmpty, isPlace, find, onFirst}
 use Rattle.model.specs.Refusals.{Check, check, refusal}
 use Rattle.model.specs.Table.{sizeOf, mainScreen, tableChecks}
-use Rattle.model.specs.Session.{Stack, State, stack, state, noStack, taskAt, front, height, count, mostTasks, mostHeight, sound}
+use Rattle.model.specs.Session.{Stack, State, stack, state, taskAt, front, height, count, mostTasks, mostHeight, sound}
 use Rattle.model.specs.Flags.{flagsOf, hasOtherBit}
 use Rattle.model.specs.Search.{placeOf}
 use Rattle.model.specs.Rules.{choose}
-use Rattle.model.specs.Deeds.{deedOf, carryOut, close}
+use Rattle.model.specs.Deeds.{deedOf, changeFront, carryOut, close}
 use Rattle.model.specs.Answers.{Outcome, outcome, lookAt, settle}
 use Rattle.model.specs.Image.{image, imageChecks, sessionIn}
 
@@ -67,26 +67,32 @@ module _ {A B : Type 0} (f : A → B) where
 
 -- "mark the front screen"
 unfoldable pub markFront : State ℕ → State Marked
-markFront s = state (onFirst (λ t. stack (t .root) (markTop (t .screens))) (mapState unmarked s .tasks)) (s .main)
+markFront s = changeFront markTop (mapState unmarked s)
 
--- the task holds the marked screen
-abbrev pub holdsMark : Stack Marked → Bool
-holdsMark t = isPlace (find (λ x. x .mark) (t .screens))
+-- "start B": "A mark travels with its screen; .. the pushed B is unmarked."
+abbrev pub startMarked : Choice → ℕ → State Marked → State Marked
+startMarked c b s = carryChoice (λ x. eqb b (x .screen)) b (unmarked b) c s
 
-abbrev pub closeMarkAt : ℕ → State Marked → State Marked
-closeMarkAt zero s = s
-closeMarkAt (suc k) s = close k (pred (find (λ x. x .mark) (getD (s .tasks) k noStack .screens))) s
+-- the place of the marked screen in a task, counted from the top, or 0
+abbrev pub placeOfMark : Stack Marked → ℕ
+placeOfMark t = find (λ x. x .mark) (t .screens)
 
--- "remove the marked screen if it still stands, as Back would in its task"
+-- the place of the task that holds the marked screen, or 0 where it is gone
+abbrev pub markedTask : State Marked → ℕ
+markedTask s = find (λ t. isPlace (placeOfMark t)) (s .tasks)
+
+-- how many screens stand above the marked one in that task
+abbrev pub aboveMarked : State Marked → ℕ
+aboveMarked s = pred (placeOfMark (taskAt (s .tasks) (markedTask s)))
+
+-- "then remove the marked screen if it still stands, as Back would in its task"
 unfoldable pub closeMarked : State Marked → State Marked
-closeMarked s = closeMarkAt (find holdsMark (s .tasks)) s
+closeMarked s = if isPlace (markedTask s) then close (markedTask s) (aboveMarked s) s else s
 
 -- "Finishing start: mark the front screen, start B, then remove the marked screen if it still stands, as Back would
 -- in its task. A mark travels with its screen; an emptied screen is gone, and the pushed B is unmarked."
 abbrev pub finishedBy : Choice → ℕ → State ℕ → State ℕ
-finishedBy c b s =
-    mapState (λ x. x .screen)
-    (closeMarked (carryChoice (λ x. eqb b (x .screen)) b (unmarked b) c (markFront s)))
+finishedBy c b s = mapState (λ x. x .screen) (closeMarked (startMarked c b (markFront s)))
 
 unfoldable pub finished : List ℕ → State ℕ → ℕ → ℕ → State ℕ
 finished tb s b w = finishedBy (chosen tb s b w) b s
@@ -99,7 +105,7 @@ launched tb = state (stack (mainScreen tb) (mainScreen tb ∷ []) ∷ []) 1
 
 -- "Back: removes the front screen; a task left empty goes, and m follows its task or becomes 0."
 unfoldable pub backed : State ℕ → State ℕ
-backed s = close 0 0 s
+backed s = close 1 0 s
 
 -- ---- checks
 

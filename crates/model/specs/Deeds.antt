@@ -1,15 +1,15 @@
 -- Document 01, "Calls": move, clear to B, lift, new, empty, push; what each rule does; and closing a screen.
 -- Screens may be of any kind: `isB` tells which of them are B, and `newB` is the B that is pushed.
-use Prim.Native.Nat.{ℕ, zero, suc, pred}
+use Prim.Native.Nat.{ℕ, suc, pred}
 use mathlib.Core.Bool.{Bool}
 use mathlib.Core.List.{List, [], _∷_}
 use lib.Dec.{eqb, ltb}
-use lib.ListN.{getD, drop}
+use lib.ListN.{set, drop}
 use Rattle.model.specs.declared.Rule.{Rule}
 use Rattle.model.specs.declared.Change.{Change}
 use Rattle.model.specs.declared.Deed.{Deed}
 use Rattle.model.specs.Lists.{if_then_else_, isEmpty, further, find, omit, toFront, onFirst}
-use Rattle.model.specs.Session.{Stack, State, stack, state, noStack}
+use Rattle.model.specs.Session.{Stack, State, stack, onScreens, onTasks, onMain, taskAt}
 
 -- what 01 writes behind each rule's colon. A change is what is done with the screens of the front task: nothing
 -- (`Keep`), "empty, push B" (`Renew`), "clear to B", "lift" or "push B".
@@ -44,7 +44,7 @@ mainWithout p m = if eqb m p then 0 else if ltb p m then pred m else m
 module _ {A : Type 0} where
   -- "Move brings a task to the front, the others keeping their order, m following."
   unfoldable pub move : ℕ → State A → State A
-  move p s = state (toFront (pred p) (s .tasks)) (mainMoved p (s .main))
+  move p s = onTasks (toFront (pred p)) (onMain (mainMoved p) s)
 
   -- "Clear to B removes all above the topmost B and keeps that B. Lift takes the topmost B to the top. .. Empty
   -- removes all screens of the moved task."
@@ -55,12 +55,13 @@ module _ {A : Type 0} where
   changed isB newB Change.Lift xs = toFront (pred (find isB xs)) xs
   changed isB newB Change.Push xs = newB ∷ xs
 
+  -- a change of the front task's screens
   unfoldable pub changeFront : (List A → List A) → State A → State A
-  changeFront f s = state (onFirst (λ t. stack (t .root) (f (t .screens))) (s .tasks)) (s .main)
+  changeFront f s = onTasks (onFirst (onScreens f)) s
 
   -- "New puts a task of B alone in front."
   unfoldable pub putNew : ℕ → A → State A → State A
-  putNew b newB s = state (stack b (newB ∷ []) ∷ s .tasks) (further (s .main))
+  putNew b newB s = onTasks (λ ts. stack b (newB ∷ []) ∷ ts) (onMain further s)
 
   -- a deed carried out; p is the place of the task found
   unfoldable pub carryOut : (A → Bool) → ℕ → A → Deed → ℕ → State A → State A
@@ -68,14 +69,16 @@ module _ {A : Type 0} where
   carryOut isB b newB (Deed.InFront c) p s = changeFront (changed isB newB c) s
   carryOut isB b newB (Deed.MoveAnd c) p s = changeFront (changed isB newB c) (move p s)
 
-  -- the task behind k others loses the screen below i others; "a task left empty goes"
-  unfoldable pub closeIn : ℕ → ℕ → List (Stack A) → List (Stack A)
-  closeIn k i [] = []
-  closeIn zero i (t ∷ ts) = if isEmpty (omit i (t .screens)) then ts else stack (t .root) (omit i (t .screens)) ∷ ts
-  closeIn (suc k) i (t ∷ ts) = t ∷ closeIn k i ts
+  -- the task at place p "goes, and m follows its task or becomes 0"
+  abbrev pub withoutTask : ℕ → State A → State A
+  withoutTask p s = onTasks (omit (pred p)) (onMain (mainWithout p) s)
 
-  -- "removes the front screen; a task left empty goes, and m follows its task or becomes 0", in any task at any depth
+  -- the task at place p without the screen that stands below i others
+  abbrev pub taskLeft : ℕ → ℕ → State A → Stack A
+  taskLeft p i s = onScreens (omit i) (taskAt (s .tasks) p)
+
+  -- "removes the front screen; a task left empty goes, and m follows its task or becomes 0": in the task at place p, the
+  -- screen that stands below i others
   unfoldable pub close : ℕ → ℕ → State A → State A
-  close k i s =
-      state (closeIn k i (s .tasks))
-      (if isEmpty (omit i (getD (s .tasks) k noStack .screens)) then mainWithout (suc k) (s .main) else s .main)
+  close p i s =
+      if isEmpty (taskLeft p i s .screens) then withoutTask p s else onTasks (λ ts. set ts (pred p) (taskLeft p i s)) s

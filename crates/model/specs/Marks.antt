@@ -1,6 +1,6 @@
 -- The mark of a finishing start as a position, read off the deed: the shorter way that code takes.
 -- proofs/Marks.antt shows that it is the position of the screen whose mark travels (specs/Calls.antt).
-use Prim.Native.Nat.{ℕ, _<_}
+use Prim.Native.Nat.{ℕ, suc, _<_}
 use mathlib.Core.Bool.{Bool}
 use lib.Dec.{leb}
 use lib.ListN.{getD}
@@ -28,7 +28,7 @@ markAfter (Deed.MoveAnd c) p isB = if leb p 1 then markIn c isB else Mark.Stands
 
 abbrev pub closeAt : {A : Type 0} → Mark → State A → State A
 closeAt Mark.Gone s = s
-closeAt (Mark.Stands k i) s = close k i s
+closeAt (Mark.Stands k i) s = close (suc k) i s
 
 -- a screen stands at the position
 abbrev pub Stands : Mark → State ℕ → Type 0

@@ -34,6 +34,22 @@ module _ {A : Type 0} where
   abbrev pub state : List (Stack A) → ℕ → State A
   state ts m = record { tasks = ts; main = m }
 
+  -- ---- one field changed, the others kept
+
+  -- a task with its screens changed; its root "never changes"
+  abbrev pub onScreens : (List A → List A) → Stack A → Stack A
+  onScreens f t = record { root = t .root; screens = f (t .screens) }
+
+  -- a session with its tasks changed
+  abbrev pub onTasks : (List (Stack A) → List (Stack A)) → State A → State A
+  onTasks f s = record { tasks = f (s .tasks); main = s .main }
+
+  -- a session with its main place changed
+  abbrev pub onMain : (ℕ → ℕ) → State A → State A
+  onMain f s = record { tasks = s .tasks; main = f (s .main) }
+
+  -- ---- what is read of a task and of a session
+
   -- what is read where no task stands
   abbrev pub noStack : Stack A
   noStack = stack 0 []

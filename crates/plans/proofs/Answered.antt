@@ -11,14 +11,13 @@ use Rattle.model.specs.Session.{mostTasks}
 use Rattle.model.specs.Answers.{lookAt, refused, answerBy}
 use Rattle.session.specs.declared.Session.{Session}
 use Rattle.session.specs.declared.Task.{Task}
-use Rattle.session.specs.Stored.{view, noTask, blankTask}
+use Rattle.session.specs.Stored.{view, noTask, blankTask, taskBehind}
 use Rattle.session.proofs.Known.{Sized}
 use Rattle.answer.specs.Seen.{Seen, answerOf}
 use Rattle.answer.proofs.LookLaws.{look-fronted}
 use Rattle.deeds.specs.Rows.{shifted}
 use Rattle.plans.specs.declared.Plan.{Plan}
 use Rattle.plans.specs.Puts.{poppedIf, goneIf, rowOf, putOf}
-use Rattle.plans.specs.Plans.{taskAt}
 use Rattle.plans.specs.Shown.{shownBy, answerFor, Showable, Uncovers}
 
 -- ---- the first task of the row that is put
@@ -61,13 +60,13 @@ module _ (p : Plan) (ts : List Task) (l : 2 ≤ length ts) (u : Uncovers p) wher
 
 module _ (s : Session) (z : Sized s) (p : Plan) (accepted : p .refusal ≡ 0) (u : Uncovers p)
     (sizes : Sized (putOf s p)) (seen : Seen (putOf s p)) where
-  shown : getD (rowOf p (s .tasks)) 0 noTask ≡ shownBy (p .gone) (p .front) (taskAt s 1)
+  shown : getD (rowOf p (s .tasks)) 0 noTask ≡ shownBy (p .gone) (p .front) (taskBehind s 1)
   shown = row-first p (s .tasks) (let l = z .tasks in omega arith) u
 
-  pub showable : Showable p (taskAt s 1)
+  pub showable : Showable p (taskBehind s 1)
   showable e some = rw (← shown) (seen .filled some, seen .low some)
 
-  pub answers-look : answerFor p (taskAt s 1) ≡ lookAt (view (putOf s p))
+  pub answers-look : answerFor p (taskBehind s 1) ≡ lookAt (view (putOf s p))
   answers-look = rw (accepted, ← shown) (sym (look-fronted (putOf s p) sizes seen))
 
 -- a refused call

@@ -1,4 +1,4 @@
--- What a plan puts is what the model says: of a marked screen that closes, and of Back.
+-- What a plan puts is what the model says: of a marked screen that closes, of a refused call, and of Back.
 use Prim.Native.Nat.{ℕ, zero, suc, _-_, _≤_, _<_}
 use mathlib.Core.Path.{_≡_, refl, sym, _∙_, ap}
 use mathlib.Core.Bool.{Bool, true, false, false≢true}
@@ -13,17 +13,16 @@ use Rattle.model.specs.Calls.{backed}
 use Rattle.model.specs.Marks.{closeAt, Stands}
 use Rattle.session.specs.declared.Session.{Session}
 use Rattle.session.specs.declared.Task.{Task}
-use Rattle.session.specs.Stored.{view, hold, noTask, storageBlank, Ready}
+use Rattle.session.specs.Stored.{view, hold, noTask, withTasks, withCount, withMain, storageBlank, Ready, taskBehind}
 use Rattle.session.proofs.Known.{Sized}
 use Rattle.session.proofs.StoredLaws.{held, stored-height}
-use Rattle.session.proofs.SessionLaws.{stored}
 use Rattle.deeds.specs.Rows.{shifted}
 use Rattle.deeds.proofs.Fronts.{counted}
 use Rattle.closing.specs.Closable.{Closable}
 use Rattle.closing.proofs.Closed.{screen-there, screen-closed, top-closed, back-closable}
 use Rattle.plans.specs.declared.Plan.{Plan}
 use Rattle.plans.specs.Puts.{putOf, Puttable}
-use Rattle.plans.specs.Plans.{taskAt, stillOf, closes, Near, Opens}
+use Rattle.plans.specs.Plans.{stillOf, closes, Near, Opens}
 use Rattle.plans.proofs.Gone.{task-goes}
 
 -- ---- a marked screen
@@ -31,12 +30,12 @@ use Rattle.plans.proofs.Gone.{task-goes}
 module _ (c : Session) (t : Task) (k n m : ℕ) where
   -- the session before it closes
   abbrev pub putIn : Session
-  putIn = stored (shifted t k (c .tasks)) n m
+  putIn = withMain (withCount (withTasks c (shifted t k (c .tasks))) n) m
 
   module _ (z : Sized putIn) (blank : storageBlank putIn ≡ true) where
     pub plan-closes : (mark : Mark) → Near mark → Stands mark (view putIn)
         → (one one′ : Bool) → leb (t .height) 1 ≡ one
-        → ((j i : ℕ) → mark ≡ Mark.Stands (suc j) i → leb (taskAt putIn 1 .height) 1 ≡ one′)
+        → ((j i : ℕ) → mark ≡ Mark.Stands (suc j) i → leb (taskBehind putIn 1 .height) 1 ≡ one′)
         → putOf c (closes mark one one′ t k n m) ≡ hold (closeAt mark (view putIn))
     plan-closes Mark.Gone near there one one′ e f = sym (held putIn z blank)
     plan-closes (Mark.Stands zero i) near there true one′ e f =
@@ -47,19 +46,19 @@ module _ (c : Session) (t : Task) (k n m : ℕ) where
     plan-closes (Mark.Stands (suc zero) i) near there one true e f =
         task-goes putIn z 1 i (record { blank = blank; there = there }) (leb-true _ _ (f 0 i refl))
     plan-closes (Mark.Stands (suc zero) zero) near there one false e f =
-        sym (top-closed putIn z 1 (record { blank = blank; there = there }) (leb-false (taskAt putIn 1 .height) 1 (f 0 0 refl)))
+        sym (top-closed putIn z 1 (record { blank = blank; there = there }) (leb-false (taskBehind putIn 1 .height) 1 (f 0 0 refl)))
     plan-closes (Mark.Stands (suc zero) (suc i)) near there one false e f = absurd (omega (arith, near .1))
     plan-closes (Mark.Stands (suc (suc j)) i) near there one one′ e f = absurd (omega (arith, near .0))
 
     -- and it can be put
     pub plan-puttable : k < mostTasks → (mark : Mark) → Near mark → Stands mark (view putIn) → (one one′ : Bool)
-        → ((j i : ℕ) → mark ≡ Mark.Stands (suc j) i → leb (taskAt putIn 1 .height) 1 ≡ one′) → Puttable c (closes mark one one′ t k n m)
+        → ((j i : ℕ) → mark ≡ Mark.Stands (suc j) i → leb (taskBehind putIn 1 .height) 1 ≡ one′) → Puttable c (closes mark one one′ t k n m)
     plan-puttable l Mark.Gone near there one one′ f = record { few = l; second = λ e. absurd (false≢true e) }
     plan-puttable l (Mark.Stands zero i) near there true one′ f = record { few = l; second = λ e. absurd (false≢true e) }
     plan-puttable l (Mark.Stands zero i) near there false one′ f = record { few = l; second = λ e. absurd (false≢true e) }
     plan-puttable l (Mark.Stands (suc j) i) near there one true f = record { few = l; second = λ e. absurd (false≢true e) }
     plan-puttable l (Mark.Stands (suc j) i) near there one false f =
-        let more = leb-false (taskAt putIn 1 .height) 1 (f j i refl) in
+        let more = leb-false (taskBehind putIn 1 .height) 1 (f j i refl) in
         let stand : 1 < n = omega (arith, near .0, there .0, counted putIn z blank) in
         record { few = l; second = λ e. (omega arith, stored-height putIn z blank 1 stand) }
 
@@ -74,8 +73,8 @@ module _ (s : Session) (z : Sized s) where
   filled = let l = z .tasks in omega arith
 
   -- the front task is put where it stood
-  pub put-same : putIn s (taskAt s 0) 0 (s .n) (s .main) ≡ s
-  put-same = ap (λ (ts : List Task). stored ts (s .n) (s .main)) (same-row (s .tasks) filled)
+  pub put-same : putIn s (taskBehind s 0) 0 (s .n) (s .main) ≡ s
+  put-same = ap (withTasks s) (same-row (s .tasks) filled)
 
   pub still-put : (k : ℕ) → putOf s (stillOf s k) ≡ s
   still-put k = put-same
@@ -90,7 +89,7 @@ backMark = Mark.Stands 0 0
 
 module _ (tb : List ℕ) (s : Session) (z : Sized s) (h : Ready tb s) (some : 1 ≤ s .n) (one′ : Bool) where
   abbrev front : Task
-  front = taskAt s 0
+  front = taskBehind s 0
 
   abbrev pub backPlan : Plan
   backPlan = closes backMark (leb (front .height) 1) one′ front 0 (s .n) (s .main)

@@ -6,14 +6,14 @@ use mathlib.Core.List.{List, [], _∷_, _++_, map, append-assoc}
 use native.Mathlib.Omega.{arith}
 use lib.ListN.{length, getD, replicate, length-map, replicate-append-replicate}
 use Rattle.model.specs.Lists.{omit}
-use Rattle.model.specs.Session.{State, state, count, mostTasks}
-use Rattle.model.specs.Deeds.{mainWithout, close}
+use Rattle.model.specs.Session.{State, onTasks, onMain, count, mostTasks}
+use Rattle.model.specs.Deeds.{mainWithout, withoutTask, close}
 use Rattle.model.proofs.ListLaws.{omit-length, map-omit}
 use Rattle.session.specs.declared.Session.{Session}
-use Rattle.session.specs.Stored.{view, hold, holdTask, pad, noTask, blankTask, storageBlank}
+use Rattle.session.specs.Stored.{view, hold, holdTask, pad, noTask, blankTask, withTasks, withCount, withMain, storageBlank}
 use Rattle.session.proofs.Known.{Sized}
 use Rattle.session.proofs.StoredLaws.{held, blank-few}
-use Rattle.session.proofs.SessionLaws.{stored}
+use Rattle.session.proofs.SessionLaws.{hold-row}
 use Rattle.deeds.proofs.Fronts.{counted}
 use Rattle.closing.specs.Closable.{Closable}
 use Rattle.closing.proofs.Closed.{task-there, task-closed, screen-there}
@@ -34,28 +34,30 @@ module _ {A : Type 0} where
       ∙ sym (append-assoc (omit m xs) (replicate j z) (z ∷ []))
       ∙ ap (λ (ys : List A). ys ++ z ∷ []) (sym (omit-append m xs (replicate j z) h))
 
-hold-omit : (v : State ℕ) (k m : ℕ) → k < count v → count v ≤ mostTasks
-    → hold (state (omit k (v .tasks)) m) ≡ stored (omit k (hold v .tasks) ++ blankTask ∷ []) (count v - 1) m
+hold-omit : (v : State ℕ) (k : ℕ) → k < count v → count v ≤ mostTasks
+    → hold (onTasks (omit k) v) ≡ withCount (withTasks (hold v) (omit k (hold v .tasks) ++ blankTask ∷ [])) (count v - 1)
 unfolding hold
-hold-omit v k m h l =
+hold-omit v k h l =
     let n : length (omit k (v .tasks)) ≡ count v - 1 = omega (arith, omit-length k (v .tasks) h) in
     let c = length-map (v .tasks) holdTask in
-    let s : pad mostTasks blankTask (map holdTask (omit k (v .tasks))) ≡ omit k (pad mostTasks blankTask (map holdTask (v .tasks))) ++ blankTask ∷ [] =
-    ap (pad mostTasks blankTask) (map-omit holdTask k (v .tasks))
-    ∙ pad-omit mostTasks blankTask k (map holdTask (v .tasks)) (omega arith) (omega arith) in
-    λ i. stored (s i) (n i) m
+    hold-row v (omit k) n
+    (ap (pad mostTasks blankTask) (map-omit holdTask k (v .tasks))
+    ∙ pad-omit mostTasks blankTask k (map holdTask (v .tasks)) (omega arith) (omega arith))
 
-gone-held : (q : Session) → Sized q → storageBlank q ≡ true → (k m : ℕ) → k < q .n
-    → hold (state (omit k (view q .tasks)) m) ≡ stored (omit k (q .tasks) ++ blankTask ∷ []) (q .n - 1) m
-gone-held q z e k m h =
+gone-held : (q : Session) → Sized q → storageBlank q ≡ true → (k : ℕ) → k < q .n
+    → hold (withoutTask (suc k) (view q))
+    ≡ withMain (withCount (withTasks q (omit k (q .tasks) ++ blankTask ∷ [])) (q .n - 1)) (mainWithout (suc k) (q .main))
+unfolding view hold
+gone-held q z e k h =
     let c = counted q z e in
     let few = blank-few q e in
-    hold-omit (view q) k m (omega arith) (omega arith)
-    ∙ ap₂ (λ (o : Session) (j : ℕ). stored (omit k (o .tasks) ++ blankTask ∷ []) (j - 1) m) (held q z e) c
+    let m = mainWithout (suc k) in
+    hold-omit (onMain m (view q)) k (omega arith) (omega arith)
+    ∙ ap₂ (λ (o : Session) (j : ℕ). withMain (withCount (withTasks o (omit k (o .tasks) ++ blankTask ∷ [])) (j - 1)) (m (q .main))) (held q z e) c
 
 -- closing the only screen of a task
 pub task-goes : (q : Session) → Sized q → (k i : ℕ) → Closable q k i → getD (q .tasks) k noTask .height ≤ 1
-    → stored (omit k (q .tasks) ++ blankTask ∷ []) (q .n - 1) (mainWithout (suc k) (q .main)) ≡ hold (close k i (view q))
+    → withMain (withCount (withTasks q (omit k (q .tasks) ++ blankTask ∷ [])) (q .n - 1)) (mainWithout (suc k) (q .main)) ≡ hold (close (suc k) i (view q))
 task-goes q z k i c low =
     let l = screen-there q z k i c .1 in
-    task-closed q z k i c (omega arith) (sym (gone-held q z (c .blank) k (mainWithout (suc k) (q .main)) (task-there q z k i c .1)))
+    task-closed q z k i c (omega arith) (sym (gone-held q z (c .blank) k (task-there q z k i c .1)))

@@ -1,4 +1,4 @@
--- A task gone from the row: what the loop leaves of any row, by the tests that code makes.
+-- A task of the row that pops, and one that goes: what the code leaves of any row, by the tests that it makes.
 use Prim.Native.Nat.{ℕ, zero, suc, _+_, _-_, _≤_, _<_}
 use mathlib.Core.Path.{_≡_, refl, sym, _∙_, ap}
 use mathlib.Core.Bool.{Bool, true, false, not, _&&_}
@@ -13,8 +13,8 @@ use Rattle.model.proofs.Logic.{and-left, and-right}
 use Rattle.model.specs.Session.{mostTasks}
 use Rattle.session.specs.declared.Session.{Session}
 use Rattle.session.specs.declared.Task.{Task}
-use Rattle.session.specs.Stored.{noTask, blankTask, popped}
-use Rattle.deeds.specs.Rows.{shifted, closedUp, withTasks}
+use Rattle.session.specs.Stored.{noTask, blankTask, withTasks, withCount, withMain, popped}
+use Rattle.deeds.specs.Rows.{shifted, closedUp}
 use Rattle.closing.proofs.Gaps.{closingIn, closes-begin, closes-end}
 use Rattle.plans.specs.declared.Plan.{Plan}
 use Rattle.plans.specs.Puts.{poppedIf, goneIf, putOf, frontAlone}
@@ -65,14 +65,14 @@ popped-length false t k ts h = shifted-length t k ts h
 -- ---- a plan that changes the front task alone
 
 pub front-put : (s : Session) → length (s .tasks) ≡ mostTasks → (p : Plan) → frontAlone p ≡ true
-    → record { tasks = set (s .tasks) 0 (p .front); n = p .n; main = p .main } ≡ putOf s p
+    → withTasks (withMain (withCount s (p .n)) (p .main)) (set (s .tasks) 0 (p .front)) ≡ putOf s p
 front-put s z p e =
     let tests = and-left (eqb (p .shift) 0 && leb mostTasks (p .gone)) (not (p .pops)) e in
     let shift = eqb-true (p .shift) 0 (and-left (eqb (p .shift) 0) (leb mostTasks (p .gone)) tests) in
     let gone = leb-true mostTasks (p .gone) (and-right (eqb (p .shift) 0) (leb mostTasks (p .gone)) tests) in
     let pops = not-true (p .pops) (and-right (eqb (p .shift) 0 && leb mostTasks (p .gone)) (not (p .pops)) e) in
     rw (shift, le-ltb (p .gone) mostTasks gone, pops)
-    (ap (λ (ts : List Task). record { tasks = ts; n = p .n; main = p .main }) (set-first (s .tasks) (omega arith)))
+    (ap (withTasks (withMain (withCount s (p .n)) (p .main))) (set-first (s .tasks) (omega arith)))
   where
     set-first : (ts : List Task) → 1 ≤ length ts → set ts 0 (p .front) ≡ shifted (p .front) 0 ts
     set-first [] l = absurd (omega arith)

@@ -10,16 +10,13 @@ use Rattle.model.specs.Session.{stack}
 use Rattle.model.specs.Deeds.{mainWithout}
 use Rattle.session.specs.declared.Task.{Task}
 use Rattle.session.specs.declared.Session.{Session}
-use Rattle.session.specs.Stored.{viewTask, holdTask, noTask, blankAbove}
+use Rattle.session.specs.Stored.{viewTask, holdTask, noTask, blankAbove, taskBehind}
 use Rattle.plans.specs.declared.Plan.{Plan}
-
-abbrev pub taskAt : Session → ℕ → Task
-taskAt c i = getD (c .tasks) i noTask
 
 -- ---- a refused call: nothing changes
 
 abbrev pub stillOf : Session → ℕ → Plan
-stillOf s k = record { front = taskAt s 0; main = s .main; shift = 0; n = s .n; gone = 16; pops = false; refusal = k }
+stillOf s k = record { front = taskBehind s 0; main = s .main; shift = 0; n = s .n; gone = 16; pops = false; refusal = k }
 
 -- ---- the three plans: no task goes, the second one pops, the task behind g others goes
 

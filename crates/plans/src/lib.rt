@@ -3,7 +3,7 @@
 ghost use Prim.Native.Nat.{_≤_};
 ghost use mathlib.Core.Path.{_≡_};
 ghost use lib.Dec.{leb};
-ghost use Rattle.deeds.specs.Rows.{withTasks};
+ghost use Rattle.session.specs.Stored.{withTasks};
 ghost use Rattle.plans.specs.Puts.{Puttable, rowOf, frontAlone};
 ghost use Rattle.plans.specs.Plans.{stillOf, closes, goneBy, frontBy, popsBy, countBy, mainBy, Opens};
 ghost use Rattle.plans.specs.Shown.{answerFor, Showable};

@@ -16,10 +16,9 @@ use Rattle.model.proofs.Sound.{Sound}
 use Rattle.model.proofs.Keeps.{fresh-sound, call-sound}
 use Rattle.session.specs.declared.Session.{Session}
 use Rattle.session.specs.declared.Task.{Task}
-use Rattle.session.specs.Stored.{freshSession, view, hold, Ready}
+use Rattle.session.specs.Stored.{freshSession, view, hold, Ready, taskBehind}
 use Rattle.session.proofs.Known.{Sized}
 use Rattle.session.proofs.StoredLaws.{fresh-held, held, view-hold, hold-sound, hold-blank, hold-sized, sound-fits, sound-view}
-use Rattle.plans.specs.Plans.{taskAt}
 use Rattle.starts.specs.declared.Sought.{Sought}
 use Rattle.starts.specs.Steps.{Planned}
 use Rattle.starts.proofs.Seeking.{sought-inside, sought-planned}
@@ -56,7 +55,7 @@ module _ (tb : List ℕ) (c : Session) (b w k : ℕ) (x : Sought) where
   sought-in z false s = let e = ap (λ (y : Sought). y .index) s in omega (arith, e)
 
   -- and planning may go on
-  pub sought-for : (k ≡ 0 → Ready tb c) → (starts : Bool) → SoughtFor starts tb c b w k x → {t : Task} → t ≡ taskAt c (x .index)
+  pub sought-for : (k ≡ 0 → Ready tb c) → (starts : Bool) → SoughtFor starts tb c b w k x → {t : Task} → t ≡ taskBehind c (x .index)
       → PlannedFor starts tb c b w t x
   sought-for h true s task = (λ e. s .seeks e .0 .ready, sought-planned tb c b w k s task)
   sought-for h false s task = (λ e. h (sym (ap (λ (y : Sought). y .number) s) ∙ e), tt)

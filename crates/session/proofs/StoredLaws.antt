@@ -16,7 +16,7 @@ use Rattle.model.proofs.ListLaws.{All-take, All-drop, All-append, All-to-map}
 use Rattle.model.proofs.Sound.{Sound, sound-decides}
 use Rattle.session.specs.declared.Task.{Task}
 use Rattle.session.specs.declared.Session.{Session}
-use Rattle.session.specs.Stored.{blankTask, freshSession, noTask, viewTask, view, pad, holdTask, hold, blankAbove, isBlank, storageBlank, soundStored}
+use Rattle.session.specs.Stored.{blankTask, freshSession, noTask, withTasks, withCount, viewTask, view, pad, holdTask, hold, blankAbove, isBlank, storageBlank, soundStored}
 use Rattle.session.proofs.Known.{Screens32, Sized}
 use Rattle.session.proofs.Padding.{pad-length, take-pad, drop-pad, pad-take}
 
@@ -127,11 +127,8 @@ held c z e =
     let low = blank-few c e in
     let n : length (map viewTask ts) ≡ c .n = length-map ts viewTask ∙ length-take-le (c .n) (c .tasks) (omega (arith, z .tasks)) in
     let beyond = one-value blankTask (drop (c .n) (c .tasks)) (beyond-blank c e z) in
-    λ i. record {
-      tasks = (ap (pad mostTasks blankTask) (map-undone viewTask holdTask ts (tasks-held c e z)) ∙ pad-take mostTasks blankTask (c .n) (c .tasks) (z .tasks) low beyond) i;
-      n = n i;
-      main = c .main;
-    }
+    let row = ap (pad mostTasks blankTask) (map-undone viewTask holdTask ts (tasks-held c e z)) ∙ pad-take mostTasks blankTask (c .n) (c .tasks) (z .tasks) low beyond in
+    λ i. withCount (withTasks c (row i)) (n i)
 
 -- ---- soundness
 

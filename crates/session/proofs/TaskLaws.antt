@@ -11,7 +11,7 @@ use Rattle.model.specs.Lists.{toFront}
 use Rattle.model.specs.Session.{stack, height, mostHeight}
 use Rattle.model.proofs.ListLaws.{toFront-length, toFront-split}
 use Rattle.session.specs.declared.Task.{Task}
-use Rattle.session.specs.Stored.{viewTask, holdTask, pad, pushed, popped}
+use Rattle.session.specs.Stored.{viewTask, holdTask, withHeight, withScreens, pad, pushed, popped}
 use Rattle.session.proofs.Padding.{pad-push, pad-pop, pad-keep, pad-lift}
 
 -- ---- reverse by parts: what is k from one end is m from the other
@@ -93,7 +93,7 @@ view-popped t h l =
 
 -- the h lowest screens stay, and what stood above is 0
 abbrev pub cleared : Task → ℕ → Task
-cleared t h = record { root = t .root; height = h; screens = take h (t .screens) ++ replicate (mostHeight - h) 0 }
+cleared t h = withHeight (withScreens t (take h (t .screens) ++ replicate (mostHeight - h) 0)) h
 
 pub hold-cleared : (r m k : ℕ) (xs : List ℕ) → m + k ≡ length xs → holdTask (stack r (drop k xs)) ≡ cleared (holdTask (stack r xs)) m
 unfolding holdTask
@@ -106,11 +106,8 @@ hold-cleared r m k xs e =
 -- the screen behind m others in storage goes on top, and those above it move down by one
 abbrev pub lifted : Task → ℕ → Task
 lifted t m =
-    record {
-      root = t .root;
-      height = t .height;
-      screens = take m (t .screens) ++ take (t .height - suc m) (drop (suc m) (t .screens)) ++ getD (t .screens) m 0 ∷ drop (t .height) (t .screens);
-    }
+    withScreens t
+    (take m (t .screens) ++ take (t .height - suc m) (drop (suc m) (t .screens)) ++ getD (t .screens) m 0 ∷ drop (t .height) (t .screens))
 
 reverse-lifted : (m k : ℕ) (xs : List ℕ) → m + suc k ≡ length xs
     → reverse (toFront k xs) ≡ (take m (reverse xs) ++ drop (suc m) (reverse xs)) ++ (getD (reverse xs) m 0 ∷ [])

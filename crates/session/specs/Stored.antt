@@ -4,7 +4,7 @@ use mathlib.Core.Path.{_≡_}
 use mathlib.Core.Bool.{Bool, true, _&&_}
 use mathlib.Core.List.{List, [], _++_, map, reverse}
 use lib.Dec.{leb, eqb}
-use lib.ListN.{length, set, take, drop, replicate}
+use lib.ListN.{length, getD, set, take, drop, replicate}
 use Rattle.model.specs.Lists.{all}
 use Rattle.model.specs.Table.{tableRefusal}
 use Rattle.model.specs.Session.{Stack, State, stack, state, mostTasks, mostHeight, sound}
@@ -21,6 +21,36 @@ freshSession = record { tasks = replicate mostTasks blankTask; n = 0; main = 0 }
 -- what the language says that code reads past the end of an array of tasks
 abbrev pub noTask : Task
 noTask = record { root = 0; height = 0; screens = [] }
+
+-- the task behind i others
+abbrev pub taskBehind : Session → ℕ → Task
+taskBehind c i = getD (c .tasks) i noTask
+
+-- ---- one field changed, the others kept
+
+-- a task with this root
+abbrev pub withRoot : Task → ℕ → Task
+withRoot t r = record { root = r; height = t .height; screens = t .screens }
+
+-- a task with this height
+abbrev pub withHeight : Task → ℕ → Task
+withHeight t h = record { root = t .root; height = h; screens = t .screens }
+
+-- a task with these screens
+abbrev pub withScreens : Task → List ℕ → Task
+withScreens t xs = record { root = t .root; height = t .height; screens = xs }
+
+-- a session with these tasks
+abbrev pub withTasks : Session → List Task → Session
+withTasks c ts = record { tasks = ts; n = c .n; main = c .main }
+
+-- a session with this n
+abbrev pub withCount : Session → ℕ → Session
+withCount c n = record { tasks = c .tasks; n = n; main = c .main }
+
+-- a session with this main place
+abbrev pub withMain : Session → ℕ → Session
+withMain c m = record { tasks = c .tasks; n = c .n; main = m }
 
 -- ---- what is stored
 
@@ -55,10 +85,10 @@ hold s = record { tasks = pad mostTasks blankTask (map holdTask (s .tasks)); n =
 -- ---- push and pop
 
 abbrev pub pushed : Task → ℕ → Task
-pushed t b = record { root = t .root; height = t .height + 1; screens = set (t .screens) (t .height) b }
+pushed t b = withHeight (withScreens t (set (t .screens) (t .height) b)) (t .height + 1)
 
 abbrev pub popped : Task → Task
-popped t = record { root = t .root; height = t .height - 1; screens = set (t .screens) (t .height - 1) 0 }
+popped t = withHeight (withScreens t (set (t .screens) (t .height - 1) 0)) (t .height - 1)
 
 -- ---- soundness
 

@@ -15,12 +15,11 @@ use Rattle.model.specs.Calls.{startedBy, finishedBy}
 use Rattle.model.specs.Marks.{markAfter, closeAt}
 use Rattle.session.specs.declared.Session.{Session}
 use Rattle.session.specs.declared.Task.{Task}
-use Rattle.session.specs.Stored.{view, viewTask, hold}
+use Rattle.session.specs.Stored.{view, viewTask, hold, withTasks, withCount, withMain, taskBehind}
 use Rattle.session.proofs.Known.{Sized}
-use Rattle.session.proofs.SessionLaws.{stored}
 use Rattle.choice.specs.Startable.{Startable}
 use Rattle.choice.specs.Shows.{indexOf}
-use Rattle.choice.proofs.Tasks.{storedAt}
+use Rattle.choice.proofs.Tasks.{front-screen}
 use Rattle.choice.proofs.Rooms.{FrontUnsought, unsought}
 use Rattle.deeds.specs.Carriable.{Changeable, Carriable}
 use Rattle.deeds.specs.Fronted.{shiftOf, frontAfter, countAfter, mainAfter}
@@ -28,18 +27,18 @@ use Rattle.deeds.specs.Rows.{shifted}
 use Rattle.deeds.proofs.Fronts.{changeable, carried}
 use Rattle.closing.specs.Closable.{Markable}
 use Rattle.starts.specs.Checks.{roomRefusal}
-use Rattle.starts.proofs.StartLaws.{start-carriable, start-sized, start-markable, finish-closes, front-top}
+use Rattle.starts.proofs.StartLaws.{start-carriable, start-sized, start-markable, finish-closes}
 
 -- ---- the task at the index of the task found is the one that the deed changes
 
 module _ (c : Session) (t : Found) where
-  change-read : (d : Deed) → FrontUnsought t d → Changeable d (storedAt c (shiftOf d (placeOf t) (c .n))) → Changeable d (storedAt c (indexOf t))
+  change-read : (d : Deed) → FrontUnsought t d → Changeable d (taskBehind c (shiftOf d (placeOf t) (c .n))) → Changeable d (taskBehind c (indexOf t))
   change-read Deed.New u h = h
   change-read (Deed.InFront x) u h = rw u h
   change-read (Deed.MoveAnd x) u h = h
 
   front-read : (b : ℕ) (d : Deed) → FrontUnsought t d
-      → frontAfter b d (storedAt c (indexOf t)) ≡ frontAfter b d (storedAt c (shiftOf d (placeOf t) (c .n)))
+      → frontAfter b d (taskBehind c (indexOf t)) ≡ frontAfter b d (taskBehind c (shiftOf d (placeOf t) (c .n)))
   front-read b Deed.New u = refl
   front-read b (Deed.InFront x) u = rw u
   front-read b (Deed.MoveAnd x) u = refl
@@ -58,36 +57,36 @@ module _ {tb : List ℕ} {c : Session} {b : ℕ} {f : Flags} (z : Sized c) (h : 
   pub picked-carriable : Carriable c d p
   picked-carriable = rw (i .deed, i .place) (start-carriable tb c b f z h room)
 
-  pub picked-changeable : Changeable d (storedAt c k)
+  pub picked-changeable : Changeable d (taskBehind c k)
   picked-changeable =
       let t = choose tb (view c) b f .found in
       let n = rw (i .deed, i .place) at (changeable c z p d picked-carriable) in
       rw (i .index, i .deed) (change-read c t (deedOf (choose tb (view c) b f .rule)) (unsought tb (view c) b f) n)
 
   -- the session with the deed's task in front
-  picked-started : stored (shifted (frontAfter b d (storedAt c k)) (shiftOf d p (c .n)) (c .tasks)) (countAfter d (c .n)) (mainAfter d p (c .main))
+  picked-started : withMain (withCount (withTasks c (shifted (frontAfter b d (taskBehind c k)) (shiftOf d p (c .n)) (c .tasks))) (countAfter d (c .n))) (mainAfter d p (c .main))
       ≡ hold (startedBy (choose tb (view c) b f) b (view c))
   picked-started =
       let t = choose tb (view c) b f .found in
       let r = deedOf (choose tb (view c) b f .rule) in
       rw (i .index, i .deed, i .place)
-      (ap (λ (x : Task). stored (shifted x (shiftOf r (placeOf t) (c .n)) (c .tasks)) (countAfter r (c .n)) (mainAfter r (placeOf t) (c .main)))
+      (ap (λ (x : Task). withMain (withCount (withTasks c (shifted x (shiftOf r (placeOf t) (c .n)) (c .tasks))) (countAfter r (c .n))) (mainAfter r (placeOf t) (c .main)))
       (front-read c t b r (unsought tb (view c) b f))
       ∙ sym (carried c z (placeOf t) b r (start-carriable tb c b f z h room)))
 
   -- the same, by what the code has of it
-  pub picked-put : {v : Task} → v ≡ frontAfter b d (storedAt c k) → {j : ℕ} → j ≡ shiftOf d p (c .n) → {n : ℕ} → n ≡ countAfter d (c .n)
+  pub picked-put : {v : Task} → v ≡ frontAfter b d (taskBehind c k) → {j : ℕ} → j ≡ shiftOf d p (c .n) → {n : ℕ} → n ≡ countAfter d (c .n)
       → {m : ℕ} → m ≡ mainAfter d p (c .main)
-      → stored (shifted v j (c .tasks)) n m ≡ hold (startedBy (choose tb (view c) b f) b (view c))
+      → withMain (withCount (withTasks c (shifted v j (c .tasks))) n) m ≡ hold (startedBy (choose tb (view c) b f) b (view c))
   picked-put v j n m = rw (v, j, n, m) picked-started
 
   pub picked-sized : {u : Session} → u ≡ hold (startedBy (choose tb (view c) b f) b (view c)) → Sized u
   picked-sized e = rw e (start-sized tb c b f z h room)
 
-  module _ {u : Session} (e : u ≡ hold (startedBy (choose tb (view c) b f) b (view c))) {a : ℕ} (g : a ≡ top (viewTask (storedAt c 0))) where
+  module _ {u : Session} (e : u ≡ hold (startedBy (choose tb (view c) b f) b (view c))) {a : ℕ} (g : a ≡ top (viewTask (taskBehind c 0))) where
     pub picked-markable : Markable u d p (eqb b a)
-    picked-markable = rw (e, i .deed, i .place, g, ← front-top tb c b f z h) (start-markable tb c b f z h room)
+    picked-markable = rw (e, i .deed, i .place, g, ← front-screen c (h .some)) (start-markable tb c b f z h room)
 
     pub picked-finished : {v : Session} → v ≡ hold (closeAt (markAfter d p (eqb b a)) (view u)) → v ≡ hold (finishedBy (choose tb (view c) b f) b (view c))
     picked-finished q =
-        rw (q, e, i .deed, i .place, g, ← front-top tb c b f z h) (sym (finish-closes tb c b f z h room))
+        rw (q, e, i .deed, i .place, g, ← front-screen c (h .some)) (sym (finish-closes tb c b f z h room))

@@ -19,7 +19,7 @@ use Rattle.model.specs.Calls.{startedBy}
 use Rattle.model.specs.Marks.{markIn, closeAt, Stands}
 use Rattle.session.specs.declared.Session.{Session}
 use Rattle.session.specs.declared.Task.{Task}
-use Rattle.session.specs.Stored.{view, viewTask, hold, noTask, storageBlank}
+use Rattle.session.specs.Stored.{view, viewTask, hold, noTask, storageBlank, taskBehind}
 use Rattle.session.proofs.Known.{Sized}
 use Rattle.choice.specs.Shows.{indexOf}
 use Rattle.choice.specs.Startable.{Startable}
@@ -37,7 +37,7 @@ use Rattle.plans.specs.Plans.{closes, Near, Opens}
 use Rattle.plans.specs.Shown.{Uncovers}
 use Rattle.plans.proofs.Closes.{putIn, plan-closes, plan-puttable}
 use Rattle.starts.specs.declared.Chosen.{Chosen}
-use Rattle.starts.specs.Steps.{taskAt, markOf, made, Plannable, planShift, planMark, planNext, startPlan}
+use Rattle.starts.specs.Steps.{markOf, made, Plannable, planShift, planMark, planNext, startPlan}
 
 -- ---- where a marked screen may stand
 
@@ -125,7 +125,7 @@ module _ {tb : List ℕ} {c : Session} {b : ℕ} {f : Flags} (z : Sized c) (h : 
   mark = planMark fin b c t x
 
   abbrev isB : Bool
-  isB = eqb b (top (viewTask (taskAt c 0)))
+  isB = eqb b (top (viewTask (taskBehind c 0)))
 
   -- the session before the marked screen closes
   abbrev put : Session
@@ -163,7 +163,7 @@ module _ {tb : List ℕ} {c : Session} {b : ℕ} {f : Flags} (z : Sized c) (h : 
   stands = within fin (x .deed) (x .place) (c .n) isB (h .some)
 
   -- the test of the second task's height reads the old front task
-  same : (j i : ℕ) → mark ≡ Mark.Stands (suc j) i → leb (taskAt put 1 .height) 1 ≡ leb (taskAt c 0 .height) 1
+  same : (j i : ℕ) → mark ≡ Mark.Stands (suc j) i → leb (taskBehind put 1 .height) 1 ≡ leb (taskBehind c 0 .height) 1
   same j i e =
       ap (λ (u : Task). leb (u .height) 1)
       (second-at shift (c .tasks) (stands .1 .1 j i e) (let l = z .tasks in omega arith) next)
@@ -198,12 +198,12 @@ count-some (Deed.InFront c) n some = some
 count-some (Deed.MoveAnd c) n some = some
 
 module _ {tb : List ℕ} {c : Session} {b : ℕ} {f : Flags} (z : Sized c) (h : Startable tb c b) {t : Task} {x : Chosen}
-    (ok : Plannable tb c b f t x) (fin : Bool) {a : ℕ} (top-is : a ≡ top (viewTask (taskAt c 0)))
+    (ok : Plannable tb c b f t x) (fin : Bool) {a : ℕ} (top-is : a ≡ top (viewTask (taskBehind c 0)))
     {mark : Mark} (mark-is : mark ≡ markOf fin (x .deed) (x .place) (eqb b a)) {next : Task} (next-is : next ≡ frontAfter b (x .deed) t)
     {n : ℕ} (count-is : n ≡ countAfter (x .deed) (c .n)) where
   pub closing-requires : Opens mark next × (1 ≤ n)
   closing-requires = (rw (mark-is, top-is, next-is) (start-opens z h ok fin), rw count-is (count-some (x .deed) (c .n) (h .some)))
 
   pub plan-is : {k : ℕ} → k ≡ shiftOf (x .deed) (x .place) (c .n) → {m : ℕ} → m ≡ mainAfter (x .deed) (x .place) (c .main)
-      → closes mark (leb (next .height) 1) (leb (taskAt c 0 .height) 1) next k n m ≡ startPlan fin b c t x
+      → closes mark (leb (next .height) 1) (leb (taskBehind c 0 .height) 1) next k n m ≡ startPlan fin b c t x
   plan-is shift-is main-is = rw (mark-is, top-is, next-is, count-is, shift-is, main-is)

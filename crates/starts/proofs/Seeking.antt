@@ -9,7 +9,7 @@ use Rattle.model.specs.Session.{mostTasks}
 use Rattle.model.specs.Flags.{flagsOf}
 use Rattle.session.specs.declared.Session.{Session}
 use Rattle.session.specs.declared.Task.{Task}
-use Rattle.session.specs.Stored.{Ready}
+use Rattle.session.specs.Stored.{Ready, taskBehind}
 use Rattle.session.proofs.Known.{Sized}
 use Rattle.choice.specs.Startable.{Startable}
 use Rattle.choice.proofs.Tasks.{index-inside, index-stands}
@@ -19,7 +19,7 @@ use Rattle.plans.specs.declared.Plan.{Plan}
 use Rattle.plans.specs.Plans.{stillOf}
 use Rattle.starts.specs.declared.Sought.{Sought}
 use Rattle.starts.specs.declared.Chosen.{Chosen}
-use Rattle.starts.specs.Steps.{taskAt, noneSought, Seeks, orElse, SoughtFrom, Chooses, Plannable, startPlan, chosenStored, planUnless, planStored, Planned}
+use Rattle.starts.specs.Steps.{noneSought, Seeks, orElse, SoughtFrom, Chooses, Plannable, startPlan, chosenStored, planUnless, planStored, Planned}
 
 -- ---- the first of two refusals
 
@@ -71,7 +71,7 @@ module _ (tb : List ℕ) (c : Session) (b w k : ℕ) where
       go (suc n) e = let q = ap (λ (y : Sought). y .index) (s .none (λ o. omega arith)) in omega (arith, q)
 
   -- and planning may go on
-  pub sought-planned : {x : Sought} → SoughtFrom tb c b w k x → {t : Task} → t ≡ taskAt c (x .index) → Planned tb c b w t x
+  pub sought-planned : {x : Sought} → SoughtFrom tb c b w k x → {t : Task} → t ≡ taskBehind c (x .index) → Planned tb c b w t x
   sought-planned s task e = let (h, q) = s .seeks e in (h, (q, task))
 
 -- ---- planned
@@ -100,12 +100,12 @@ module _ (tb : List ℕ) (c : Session) (b w k : ℕ) (passed : k ≡ 0) (fin : B
         let p = chooses .place in
         λ i. record { number = n i; deed = d i; place = p i }
 
-    module _ (room : x .number ≡ 0) {t : Task} (task : t ≡ taskAt c j) where
+    module _ (room : x .number ≡ 0) {t : Task} (task : t ≡ taskBehind c j) where
       pub chosen-plannable : Plannable tb c b (flagsOf w) t x
       chosen-plannable =
           record {
             chosen = record { number = chooses .number; deed = chooses .deed; place = chooses .place; index = refl };
-            task = task ∙ ap (taskAt c) (chooses .index);
+            task = task ∙ ap (taskBehind c) (chooses .index);
             room = room;
           }
 

@@ -1,14 +1,13 @@
 -- What a start on a sound session gives the functions that it calls: the choice's task is there, the deed finds room where
 -- no 23 or 24 is given, and a screen stands at the mark afterwards.
 use Prim.Native.Nat.{ℕ, _≤_}
-use mathlib.Core.Path.{_≡_, ap}
+use mathlib.Core.Path.{_≡_}
 use mathlib.Core.Bool.{false, _&&_}
 use mathlib.Core.List.{List}
 use lib.Dec.{eqb}
-use lib.ListN.{getD}
 use Rattle.model.specs.declared.Choice.{Choice}
 use Rattle.model.specs.declared.Flags.{Flags}
-use Rattle.model.specs.Session.{frontScreen, top, count, mostTasks}
+use Rattle.model.specs.Session.{frontScreen, count, mostTasks}
 use Rattle.model.specs.Search.{placeOf}
 use Rattle.model.specs.Rules.{choose}
 use Rattle.model.specs.Deeds.{deedOf}
@@ -20,9 +19,9 @@ use Rattle.model.proofs.Deeds.{Ready as DeedReady, carry-sound}
 use Rattle.model.proofs.Start.{choose-ready}
 use Rattle.model.proofs.Finish.{markOf, finished-by, marked-stands}
 use Rattle.session.specs.declared.Session.{Session}
-use Rattle.session.specs.Stored.{view, viewTask, hold, noTask}
+use Rattle.session.specs.Stored.{view, hold}
 use Rattle.session.proofs.Known.{Sized}
-use Rattle.session.proofs.StoredLaws.{view-at, view-hold, view-count, blank-few, sound-blank, sound-view, sound-fits, hold-blank, hold-sized}
+use Rattle.session.proofs.StoredLaws.{view-hold, view-count, blank-few, sound-blank, sound-view, sound-fits, hold-blank, hold-sized}
 use Rattle.choice.specs.Startable.{Startable}
 use Rattle.deeds.specs.Carriable.{Carriable}
 use Rattle.deeds.proofs.Carried.{carriable}
@@ -76,7 +75,3 @@ module _ (tb : List ℕ) (c : Session) (b : ℕ) (f : Flags) (z : Sized c) (h : 
     pub finish-closes : hold (finishedBy chosen b (view c))
         ≡ hold (closeAt (markOf chosen b (view c)) (view (hold (startedBy chosen b (view c)))))
     finish-closes = rw (view-hold (startedBy chosen b (view c)), finished-by tb b f (view c) sound-v some)
-
-  -- the front screen as code reads it
-  pub front-top : frontScreen (view c) ≡ top (viewTask (getD (c .tasks) 0 noTask))
-  front-top = ap top (view-at c 0 (h .some))

@@ -19,19 +19,15 @@ use Rattle.model.specs.Calls.{startedBy, finishedBy}
 use Rattle.model.specs.Marks.{markAfter}
 use Rattle.session.specs.declared.Session.{Session}
 use Rattle.session.specs.declared.Task.{Task}
-use Rattle.session.specs.Stored.{view, viewTask}
+use Rattle.session.specs.Stored.{view, viewTask, taskBehind}
 use Rattle.choice.specs.Shows.{indexOf}
 use Rattle.choice.specs.Startable.{Startable}
 use Rattle.deeds.specs.Fronted.{shiftOf, frontAfter, countAfter, mainAfter}
 use Rattle.starts.specs.Checks.{startEntry, roomRefusal}
 use Rattle.plans.specs.declared.Plan.{Plan}
-use Rattle.plans.specs.Plans as plans
 use Rattle.plans.specs.Plans.{stillOf, closes}
 use Rattle.starts.specs.declared.Sought.{Sought}
 use Rattle.starts.specs.declared.Chosen.{Chosen}
-
-abbrev pub taskAt : Session → ℕ → Task
-taskAt c i = plans.taskAt c i
 
 -- ---- seeking
 
@@ -74,7 +70,7 @@ markOf false d p isB = Mark.Gone
 -- t and x were read and chosen, and there is room
 pub record Plannable (tb : List ℕ) (c : Session) (b : ℕ) (f : Flags) (t : Task) (x : Chosen) : Type 0 where
   pub chosen : Chooses tb c b f (indexOf (choose tb (view c) b f .found)) x
-  pub task : t ≡ taskAt c (indexOf (choose tb (view c) b f .found))
+  pub task : t ≡ taskBehind c (indexOf (choose tb (view c) b f .found))
   pub room : x .number ≡ 0
 
 -- a start of b, or a finishing one, where t is the task at the index of the task found
@@ -83,14 +79,14 @@ module _ (finishing : Bool) (b : ℕ) (c : Session) (t : Task) (x : Chosen) wher
   planShift = shiftOf (x .deed) (x .place) (c .n)
 
   abbrev pub planMark : Mark
-  planMark = markOf finishing (x .deed) (x .place) (eqb b (top (viewTask (taskAt c 0))))
+  planMark = markOf finishing (x .deed) (x .place) (eqb b (top (viewTask (taskBehind c 0))))
 
   abbrev pub planNext : Task
   planNext = frontAfter b (x .deed) t
 
   abbrev pub startPlan : Plan
   startPlan =
-      closes planMark (leb (planNext .height) 1) (leb (taskAt c 0 .height) 1) planNext planShift
+      closes planMark (leb (planNext .height) 1) (leb (taskBehind c 0 .height) 1) planNext planShift
       (countAfter (x .deed) (c .n)) (mainAfter (x .deed) (x .place) (c .main))
 
 -- what the definition chooses, and the plan of it
@@ -103,7 +99,7 @@ chosenStored tb c b f =
     }
 
 abbrev pub roomyPlan : List ℕ → Session → ℕ → Flags → Bool → Plan
-roomyPlan tb c b f finishing = startPlan finishing b c (taskAt c (indexOf (choose tb (view c) b f .found))) (chosenStored tb c b f)
+roomyPlan tb c b f finishing = startPlan finishing b c (taskBehind c (indexOf (choose tb (view c) b f .found))) (chosenStored tb c b f)
 
 -- the plan p, or that of the refusal k
 abbrev pub planUnless : ℕ → Session → Plan → Plan
@@ -117,7 +113,7 @@ planStored k tb c b w finishing =
 
 -- what planning relies on: where nothing refused so far, x was sought, and t is the task at its index
 abbrev pub Planned : List ℕ → Session → ℕ → ℕ → Task → Sought → Type 0
-Planned tb c b w t x = x .number ≡ 0 → Startable tb c b × (Seeks tb c b (flagsOf w) x × (t ≡ taskAt c (x .index)))
+Planned tb c b w t x = x .number ≡ 0 → Startable tb c b × (Seeks tb c b (flagsOf w) x × (t ≡ taskBehind c (x .index)))
 
 -- the session that a finishing start, or a start, makes where there is room
 abbrev pub made : Bool → List ℕ → Session → ℕ → Flags → State ℕ

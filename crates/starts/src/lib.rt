@@ -5,10 +5,10 @@ ghost use mathlib.Core.Path.{_≡_};
 ghost use Rattle.model.specs.Flags.{flagsOf};
 ghost use Rattle.model.specs.Table.{tableRefusal};
 ghost use Rattle.model.specs.Refusals.{refusal as refusalOf};
-ghost use Rattle.session.specs.Stored.{Ready};
+ghost use Rattle.session.specs.Stored.{Ready, taskBehind};
 ghost use Rattle.choice.specs.Startable.{Startable};
 ghost use Rattle.starts.specs.Checks.{startEntry};
-ghost use Rattle.starts.specs.Steps.{taskAt, noneSought, Seeks, SoughtFrom, Chooses, markOf, Plannable, startPlan, Planned, planStored};
+ghost use Rattle.starts.specs.Steps.{noneSought, Seeks, SoughtFrom, Chooses, markOf, Plannable, startPlan, Planned, planStored};
 use model::Deed;
 use model::Flags;
 use model::Found;
@@ -99,7 +99,7 @@ pub struct Chosen {
 
 // t is the task at the index.
 fn choose(table: &[u8], s: Session, t: Task, sought: Sought, b: u8, f: Flags) -> Chosen
-    requires { ⌜ Startable (now table) s b × Seeks (now table) s b f sought × (t ≡ taskAt s (sought .index)) ⌝ }
+    requires { ⌜ Startable (now table) s b × Seeks (now table) s b f sought × (t ≡ taskBehind s (sought .index)) ⌝ }
     ensures { λ r. ⌜ Chooses (now (table .entry)) s b f (sought .index) r ⌝ }
 {
     let group = sought.group;

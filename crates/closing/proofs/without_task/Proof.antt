@@ -1,14 +1,12 @@
 -- `closing::without_task` meets its contract: the tasks behind it come one place nearer, and the last place is blank.
-use Prim.Native.Nat.{ℕ, _-_}
-use mathlib.Core.Path.{refl, _∙_, ap}
+use Prim.Native.Nat.{ℕ}
+use mathlib.Core.Path.{_∙_, ap}
 use native.Mathlib.Omega.{arith}
 use native.Mathlib.Numerals.{add-one}
 use borrow.Author.Needs.{needs}
 use Rattle.model.specs.Deeds.{mainWithout}
-use Rattle.session.specs.declared.Session.{Session}
 use Rattle.session.proofs.Known.{sized}
 use Rattle.session.proofs.StoredLaws.{blank-few}
-use Rattle.session.proofs.SessionLaws.{stored}
 use Rattle.closing.proofs.Gaps.{task-taken}
 use Rattle.closing.proofs.without_task.Statement.{statement}
 use Rattle.closing.proofs.without_task.Tie as tie
@@ -39,9 +37,7 @@ returns c =
     let start = c .before .before .before .before in
     let s = start .args .s in
     let k = start .args .behind in
-    let m = c .main-without .result in
-    ap (λ (o : Session). stored (o .tasks) (s .n - 1) m) (c .before .before .moved-up .ensures)
-    ∙ task-taken s (sized s _ (start .good .0)) (start .pre .0) k (start .pre .1) refl
+    task-taken s (sized s _ (start .good .0)) (start .pre .0) k (start .pre .1) (c .before .before .moved-up .ensures)
     (c .main-without .ensures ∙ ap (λ (p : ℕ). mainWithout p (s .main)) (add-one k))
 
 pub without-task-spec : {M : Type 1} → statement M

@@ -5,7 +5,7 @@ use native.Mathlib.Omega.{arith}
 use borrow.Author.Needs.{needs}
 use lib.ListN.{length, getD, set}
 use Rattle.session.specs.declared.Task.{Task}
-use Rattle.deeds.specs.Rows.{withScreens}
+use Rattle.session.specs.Stored.{withScreens}
 use Rattle.deeds.proofs.Rows.{closingUp, close-begin, close-step, close-end}
 use Rattle.deeds.proofs.closed_up.Statement.{statement}
 use Rattle.deeds.proofs.closed_up.Tie as tie

@@ -2,9 +2,10 @@
 use mathlib.Core.Path.{sym, _∙_, ap, ap₂, subst}
 use borrow.Author.Needs.{needs}
 use Rattle.model.specs.declared.Change.{Change}
+use Rattle.session.specs.Stored.{withRoot}
 use Rattle.deeds.specs.Carriable.{Alterable}
 use Rattle.deeds.specs.Fronted.{changedTask, rootAfter}
-use Rattle.deeds.proofs.Bases.{alterable, rooted, front-is}
+use Rattle.deeds.proofs.Bases.{alterable, front-is}
 use Rattle.deeds.proofs.front_after.Statement.{statement}
 use Rattle.deeds.proofs.front_after.Tie as tie
 
@@ -23,8 +24,8 @@ root-after-requires c κs = search needs
 returns : tie.Need-returns
 returns c =
     let a = c .before .before .before .args in
-    ap₂ rooted (c .root-after .ensures) (c .before .changed .ensures)
-    ∙ ap (λ (x : Change). rooted (rootAfter (a .t .root) (a .b) (a .deed)) (changedTask (a .b) x (a .t))) (c .before .before .change-of .ensures)
+    ap₂ withRoot (c .before .changed .ensures) (c .root-after .ensures)
+    ∙ ap (λ (x : Change). withRoot (changedTask (a .b) x (a .t)) (rootAfter (a .t .root) (a .b) (a .deed))) (c .before .before .change-of .ensures)
     ∙ front-is (a .t) (a .b) (a .deed)
 
 pub front-after-spec : {M : Type 1} → statement M

@@ -6,7 +6,7 @@ use native.Mathlib.Omega.{arith}
 use borrow.Author.Needs.{needs}
 use lib.ListN.{length, set, take, replicate, take-append-drop}
 use Rattle.session.specs.declared.Task.{Task}
-use Rattle.deeds.specs.Rows.{withScreens}
+use Rattle.session.specs.Stored.{withScreens}
 use Rattle.deeds.proofs.Rows.{blank-step}
 use Rattle.deeds.proofs.Changes.{blank-low, blank-drop}
 use Rattle.deeds.proofs.lowered.Statement.{statement}

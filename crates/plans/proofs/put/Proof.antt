@@ -7,8 +7,9 @@ use borrow.Author.Needs.{needs}
 use lib.Dec.{ltb}
 use lib.ListN.{length, set}
 use Rattle.session.specs.declared.Session.{Session}
+use Rattle.session.specs.Stored.{withTasks}
 use Rattle.session.proofs.Known.{sized}
-use Rattle.deeds.specs.Rows.{shifted, withTasks}
+use Rattle.deeds.specs.Rows.{shifted}
 use Rattle.deeds.proofs.Shifts.{shiftingIn, shifts-begin, shifts-step, shifts-end}
 use Rattle.closing.proofs.Gaps.{closingIn, closes-begin, closes-step}
 use Rattle.plans.specs.Puts.{Poppable, poppedIf, goneIf}
