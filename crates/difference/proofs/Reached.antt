@@ -8,7 +8,7 @@ use Rattle.model.specs.declared.Answer.{Answer}
 use Rattle.model.specs.Table.{tableRefusal}
 use Rattle.model.specs.Session.{State, count, screensIn}
 use Rattle.model.specs.Answers.{Outcome, lookAt}
-use Rattle.model.specs.Calls.{Call, back, look, backed, call}
+use Rattle.model.specs.Calls.{Call, back, look, backed, done, call}
 use Rattle.model.specs.Histories.{after, answers, byRules}
 use Rattle.model.proofs.Sound.{Sound}
 use Rattle.model.proofs.Close.{backed-sound}
@@ -20,8 +20,9 @@ use Rattle.session.proofs.Known.{Sized}
 use Rattle.session.proofs.StoredLaws.{held, view-hold, hold-sound, hold-sized, sound-fits, sound-blank, sound-view}
 use Rattle.answer.specs.Seen.{Seen}
 use Rattle.answer.proofs.LookLaws.{sound-seen}
-use Rattle.closing.specs.Closable.{Closable}
-use Rattle.closing.proofs.Closed.{back-closable}
+use Rattle.calls.specs.declared.Reply.{Reply}
+use Rattle.calls.specs.StoredCalls.{sharedRefusal, callStored}
+use Rattle.calls.proofs.Settling.{shared-passed, filled-view, back-own, own-accepted}
 use Rattle.difference.specs.Apart.{lookThenBacks}
 
 -- ---- one session
@@ -77,9 +78,18 @@ module _ (tb : List ℕ) (ok : tableRefusal tb ≡ 0) where
   reached-ready : {s : State ℕ} {k : ℕ} {before : List Answer} {c : Session} → Reached tb s k before c → Ready tb c
   reached-ready {c} r = record { good = ok; sound = rw (r .stored) at (hold-sound tb (view c) (r .sound)) }
 
-  -- the next Back finds a screen
-  pub reached-closable : {s : State ℕ} {k : ℕ} {before : List Answer} {c : Session} → Reached tb s k before c → 1 ≤ c .n → Closable c 0 0
-  reached-closable {c} r some = back-closable tb c (rw (r .stored) at (hold-sized (view c) (sound-fits tb (view c) (r .sound)))) (reached-ready r) some
+  -- nothing refuses the next Back, and it removes the front screen
+  pub reached-shared : {s : State ℕ} {k : ℕ} {before : List Answer} {c : Session} → Reached tb s k before c → 0 ≡ sharedRefusal tb c
+  reached-shared {c} r = let h = reached-ready r in sym (shared-passed tb c (h .good) (h .sound))
+
+  pub reached-backed : {s : State ℕ} {k : ℕ} {before : List Answer} {c : Session} → Reached tb s k before c → 1 ≤ c .n
+      → {d : Reply} → d ≡ callStored tb c back → d .session ≡ hold (backed (view c))
+  unfolding done
+  reached-backed {c} r some e =
+      let h = reached-ready r in
+      let z = rw (r .stored) at (hold-sized (view c) (sound-fits tb (view c) (r .sound))) in
+      let own = back-own tb c (filled-view tb c z h (λ none. omega arith)) in
+      ap (λ (x : Reply). x .session) (e ∙ own-accepted tb c back h own)
 
 pub reached-seen : {tb : List ℕ} {s : State ℕ} {k : ℕ} {before : List Answer} {c : Session} → Reached tb s k before c → Seen c
 reached-seen {tb} {c} r = rw (r .stored) at (sound-seen tb (view c) (r .sound))

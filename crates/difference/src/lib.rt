@@ -53,8 +53,10 @@ pub fn first_difference(table: &[u8], first: Session, second: Session) -> Differ
                 second: b,
             };
         }
-        s = closing::close(s, 0, 0);
-        t = closing::close(t, 0, 0);
+        let one = calls::back(table, s, 0);
+        let other = calls::back(table, t, 0);
+        s = one.session;
+        t = other.session;
         backs += 1;
     }
 }

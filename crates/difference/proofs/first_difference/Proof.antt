@@ -11,10 +11,10 @@ use borrow.Author.Tests.{eqb-true, eqb-false}
 use Rattle.model.specs.Session.{screensIn}
 use Rattle.model.specs.Answers.{lookAt}
 use Rattle.model.specs.Calls.{backed}
-use Rattle.session.specs.Stored.{view}
+use Rattle.session.specs.Stored.{view, hold}
 use Rattle.session.proofs.Known.{sized}
 use Rattle.session.proofs.StoredLaws.{sound-view}
-use Rattle.difference.proofs.Reached.{Both, reached-look, reached-closable, reached-seen, reached-fewer, both-count, both-back}
+use Rattle.difference.proofs.Reached.{Both, reached-look, reached-shared, reached-backed, reached-seen, reached-fewer, both-count, both-back}
 use Rattle.difference.proofs.Told.{backs-most, told}
 use Rattle.difference.proofs.first_difference.Statement.{statement}
 use Rattle.difference.proofs.first_difference.Tie as tie
@@ -69,41 +69,53 @@ goes c =
       some = g .1;
     }
 
--- Back finds a screen in both
-close-requires : tie.Need-close-requires Inv-loop μ-loop
-close-requires c κs =
+-- no Back is refused
+back-requires : tie.Need-back-requires Inv-loop μ-loop
+back-requires c κs =
     let start = c .before .before .before .before .before .before .before in
-    let l = c .before .before .before .before .before .loop in
-    reached-closable (start .args .table .now) (start .pre .0 .good) (l .inv .one) (goes c .some)
+    reached-shared (start .args .table .now) (start .pre .0 .good) (c .before .before .before .before .before .loop .inv .one)
 
-close-requires-2 : tie.Need-close-requires-2 Inv-loop μ-loop
-close-requires-2 c κs =
+back-requires-2 : tie.Need-back-requires-2 Inv-loop μ-loop
+back-requires-2 c κs =
     let start = c .before .before .before .before .before .before .before .before in
-    let l = c .before .before .before .before .before .before .loop in
-    let g = goes (c .before) in
-    reached-closable (start .args .table .now) (start .pre .0 .good) (l .inv .other) (omega (arith, both-count (l .inv) (g .looks), g .some))
+    reached-shared (start .args .table .now) (start .pre .0 .good) (c .before .before .before .before .before .before .loop .inv .other)
+
+-- what both leave
+left : (c : tie.After-back2 Inv-loop μ-loop)
+    → let l = c .before .before .before .before .before .before .before .loop in
+    (c .before .back .result .session ≡ hold (backed (view (l .s)))) × (c .back2 .result .session ≡ hold (backed (view (l .t))))
+left c =
+    let start = c .before .before .before .before .before .before .before .before .before in
+    let l = c .before .before .before .before .before .before .before .loop in
+    let tb = start .args .table .now in
+    let good = start .pre .0 .good in
+    let g = goes (c .before .before) in
+    let some : 1 ≤ l .t .n = omega (arith, both-count (l .inv) (g .looks), g .some) in
+    (reached-backed tb good (l .inv .one) (g .some) (c .before .back .ensures), reached-backed tb good (l .inv .other) some (c .back2 .ensures))
 
 add-backs : tie.Need-add-backs Inv-loop μ-loop
 add-backs c =
-    let start = c .before .before .before .before .before .before .before .before .before in
-    let l = c .before .before .before .before .before .before .before .loop in
+    let back2 = c .before .before in
+    let start = back2 .before .before .before .before .before .before .before .before .before in
+    let l = back2 .before .before .before .before .before .before .before .loop in
     let most = backs-most (l .inv) (sound-view (start .args .table .now) (start .args .first) (start .pre .0 .sound)) in
     search needs
 
 loop-less : tie.Need-loop-less Inv-loop μ-loop
-unfolding backed
 loop-less c =
-    let l = c .before .before .before .before .before .before .before .loop in
-    let fewer = reached-fewer (l .inv .one) (goes (c .before .before) .some) (c .before .close .result) (c .before .close .ensures) in
+    let back2 = c .before .before in
+    let l = back2 .before .before .before .before .before .before .before .loop in
+    let fewer = reached-fewer (l .inv .one) (goes (back2 .before .before) .some) (back2 .before .back .result .session) (left back2 .0) in
     omega arith
 
 loop-again : tie.Need-loop-again Inv-loop μ-loop
-unfolding backed
 loop-again c =
-    let start = c .before .before .before .before .before .before .before .before .before in
-    let l = c .before .before .before .before .before .before .before .loop in
-    let g = goes (c .before .before) in
-    both-back (l .inv) (g .looks) (start .pre .0 .good) (g .some) (c .before .close .result) (c .close2 .result) (c .before .close .ensures) (c .close2 .ensures)
+    let back2 = c .before .before in
+    let start = back2 .before .before .before .before .before .before .before .before .before in
+    let l = back2 .before .before .before .before .before .before .before .loop in
+    let g = goes (back2 .before .before) in
+    both-back (l .inv) (g .looks) (start .pre .0 .good) (g .some) (back2 .before .back .result .session) (back2 .back2 .result .session)
+    (left back2 .0) (left back2 .1)
 
 returns : tie.Need-returns Inv-loop μ-loop
 returns c =
@@ -124,8 +136,8 @@ first-difference-spec =
     look-at-requires
     look-at-requires-2
     agree-requires
-    close-requires
-    close-requires-2
+    back-requires
+    back-requires-2
     add-backs
     loop-less
     loop-again
