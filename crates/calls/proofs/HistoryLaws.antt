@@ -14,9 +14,8 @@ use Rattle.model.specs.Histories.{after, answers, AnswerAlike, byRules}
 use Rattle.model.proofs.Sound.{Sound}
 use Rattle.model.proofs.Keeps.{settled, fresh-sound, call-sound}
 use Rattle.session.specs.declared.Session.{Session}
-use Rattle.session.specs.Stored.{freshSession, view, hold, Ready}
-use Rattle.session.proofs.Known.{Sized}
-use Rattle.session.proofs.StoredLaws.{fresh-held, held, view-hold, hold-sound, sound-blank, sound-view}
+use Rattle.session.specs.Stored.{freshSession, hold}
+use Rattle.session.proofs.StoredLaws.{fresh-held, view-hold, hold-sound}
 use Rattle.calls.specs.declared.Reply.{Reply}
 use Rattle.calls.specs.StoredCalls.{reply, callStored, byProgram, KeepsSound}
 use Rattle.calls.proofs.Settling.{call-settled, call-keeps}
@@ -69,14 +68,6 @@ module _ (tb : List ℕ) (ok : tableRefusal tb ≡ 0) where
     λ a ks l. answers-held v h ks ∙ a ks l ∙ sym (answers-held w k ks),
     λ a ks l. sym (answers-held v h ks) ∙ a ks l ∙ answers-held w k ks,
   )
-
--- from any stored session that is sound
-module _ (tb : List ℕ) (c : Session) (z : Sized c) (h : Ready tb c) where
-  pub after-stored : (ks : List Call) → after (byProgram tb) c ks ≡ hold (after (byRules tb) (view c) ks)
-  after-stored ks = rw (held c z (sound-blank tb c (h .sound))) at (after-held tb (h .good) (view c) (sound-view tb c (h .sound)) ks)
-
-  pub answers-stored : (ks : List Call) → answers (byProgram tb) c ks ≡ answers (byRules tb) (view c) ks
-  answers-stored ks = rw (held c z (sound-blank tb c (h .sound))) at (answers-held tb (h .good) (view c) (sound-view tb c (h .sound)) ks)
 
 -- ---- from a fresh session
 

@@ -93,12 +93,6 @@ module _ (tb : List ℕ) (c : Session) where
     unfolding callStored
     call-settled h = ap settledBy (number-own h)
 
-    -- refused by any check, with its number
-    pub call-numbered : (n : ℕ) → n ≡ refusalStored tb c k → (n ≡ 0 → ⊥) → callStored tb c k ≡ reply c (refused n)
-    unfolding callStored
-    call-numbered zero e z = absurd (z refl)
-    call-numbered (suc n) e z = rw (sym e)
-
     -- a sound session stays sound
     pub call-keeps : KeepsSound tb c (callStored tb c k .session)
     call-keeps g e =

@@ -4,7 +4,7 @@ use mathlib.Core.Path.{_≡_, ap}
 use mathlib.Core.List.{List}
 use native.Mathlib.Nat.{not-suc-le-zero}
 use native.Mathlib.Omega.{arith}
-use lib.ListN.{length, getD}
+use lib.ListN.{length}
 use Rattle.model.specs.declared.Flags.{Flags}
 use Rattle.model.specs.declared.Found.{Found}
 use Rattle.model.specs.declared.Group.{Group}
@@ -18,7 +18,7 @@ use Rattle.model.proofs.Start.{Sought, seekRoot-sought, seek-sought}
 use Rattle.model.proofs.Tables.{good-shaped}
 use Rattle.session.specs.declared.Task.{Task}
 use Rattle.session.specs.declared.Session.{Session}
-use Rattle.session.specs.Stored.{view, viewTask, noTask, taskBehind}
+use Rattle.session.specs.Stored.{view, viewTask, taskBehind}
 use Rattle.session.proofs.Known.{Sized}
 use Rattle.session.proofs.StoredLaws.{view-count, view-at, sized-at, stored-height, sound-view, sound-blank, blank-few}
 use Rattle.session.proofs.TaskLaws.{view-height}

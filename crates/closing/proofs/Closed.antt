@@ -8,7 +8,7 @@ use native.Mathlib.Omega.{arith}
 use lib.ListN.{length, getD, set}
 use borrow.Author.Tests.{eq-eqb, ne-eqb, lt-ltb, le-ltb}
 use Rattle.model.specs.Lists.{isEmpty, omit}
-use Rattle.model.specs.Session.{Stack, stack, noStack, onScreens, height, count, mostTasks, mostHeight}
+use Rattle.model.specs.Session.{Stack, stack, noStack, onScreens, height, count, mostHeight}
 use Rattle.model.specs.Deeds.{mainWithout, withoutTask, taskLeft, close}
 use Rattle.model.proofs.Logic.{All-at}
 use Rattle.model.proofs.ListLaws.{omit-length}
@@ -81,11 +81,7 @@ module _ (s : Session) (z : Sized s) (k i : ℕ) (c : Closable s k i) where
       ∙ hold-set (view s) k (taskLeft (suc k) i (view s)) (c .there .0)
       ∙ ap₂ (λ (o : Session) (u : Stack ℕ). withTasks o (set (o .tasks) k (holdTask (onScreens (omit i) u)))) (held s z (c .blank)) (view-at s k inside)
 
-  -- the place is one of the array
-  pub place-inside : k < mostTasks
-  place-inside = let few = blank-few s (c .blank) in omega (arith, inside)
-
-  -- where the task has one screen: what `without_task` requires, and what it leaves
+  -- where the task has one screen
   pub task-there : (storageBlank s ≡ true) × (k < s .n)
   task-there = (c .blank, inside)
 

@@ -3,26 +3,23 @@
 use Prim.Native.Nat.{ℕ, suc, _+_, _-_, _≤_, _<_}
 use mathlib.Core.Path.{_≡_, sym, _∙_, ap, ap₂}
 use mathlib.Core.Bool.{true}
-use mathlib.Core.List.{List, _++_, map, reverse, reverse-append}
+use mathlib.Core.List.{List, _++_, reverse, reverse-append}
 use native.Mathlib.Omega.{arith}
-use lib.ListN.{length, getD, set, take, drop, replicate, length-map, length-drop, length-reverse}
+use lib.ListN.{length, getD, set, take, drop, replicate, length-drop, length-reverse}
 use lib.Seq.{take-at, take-append-le, drop-append-le}
 use Rattle.model.specs.Lists.{omit}
-use Rattle.model.specs.Session.{State, stack, onTasks, onMain, count, height, mostTasks, mostHeight}
-use Rattle.model.specs.Deeds.{mainWithout, withoutTask}
-use Rattle.model.proofs.ListLaws.{omit-length, omit-split, map-omit}
+use Rattle.model.specs.Session.{stack, height, mostTasks, mostHeight}
+use Rattle.model.proofs.ListLaws.{omit-length, omit-split}
 use Rattle.session.specs.declared.Session.{Session}
 use Rattle.session.specs.declared.Task.{Task}
-use Rattle.session.specs.Stored.{view, viewTask, hold, holdTask, pad, noTask, blankTask, withTasks, withCount, withMain, blankAbove, storageBlank}
-use Rattle.session.proofs.Known.{Sized, Screens32}
+use Rattle.session.specs.Stored.{viewTask, holdTask, pad, noTask, blankTask, withTasks, blankAbove}
+use Rattle.session.proofs.Known.{Screens32}
 use Rattle.session.proofs.Padding.{drop-pad}
-use Rattle.session.proofs.StoredLaws.{held, hold-viewTask, blank-few}
-use Rattle.session.proofs.SessionLaws.{hold-row}
+use Rattle.session.proofs.StoredLaws.{hold-viewTask}
 use Rattle.session.proofs.TaskLaws.{reverse-drop, reverse-take}
 use Rattle.deeds.specs.Rows.{closedUp}
 use Rattle.deeds.proofs.Rows.{closingUp, close-begin, close-step, close-end}
 use Rattle.deeds.proofs.Changes.{blank-low, blank-height}
-use Rattle.deeds.proofs.Fronts.{counted}
 
 module _ {A : Type 0} where
   pub pad-closed : (n : ℕ) (z : A) (m k : ℕ) (xs : List A) → m + suc k ≡ length xs → length xs ≤ n
@@ -66,34 +63,6 @@ screen-gone t l e k h =
     ∙ ap₂ (λ (j : ℕ) (u : Task). record { root = t .root; height = j - 1; screens = closedUp m k 0 (u .screens) }) n (hold-viewTask t l e)
 
 -- ---- a task gone from a session
-
-hold-gone : (v : State ℕ) (m k : ℕ) → m + suc k ≡ count v → count v ≤ mostTasks
-    → hold (onTasks (omit m) v) ≡ withCount (withTasks (hold v) (closedUp m k blankTask (hold v .tasks))) (count v - 1)
-unfolding hold
-hold-gone v m k e h =
-    let l : length (omit m (v .tasks)) ≡ count v - 1 = omega (arith, omit-length m (v .tasks) (omega arith)) in
-    let c = length-map (v .tasks) holdTask in
-    hold-row v (omit m) l
-    (ap (pad mostTasks blankTask) (map-omit holdTask m (v .tasks))
-    ∙ pad-closed mostTasks blankTask m k (map holdTask (v .tasks)) (omega arith) (omega arith))
-
-task-gone : (s : Session) → Sized s → storageBlank s ≡ true → (k : ℕ) → k < s .n
-    → hold (withoutTask (suc k) (view s))
-    ≡ withMain (withCount (withTasks s (closedUp k (s .n - 1 - k) blankTask (s .tasks))) (s .n - 1)) (mainWithout (suc k) (s .main))
-unfolding view hold
-task-gone s z e k h =
-    let c = counted s z e in
-    let few = blank-few s e in
-    let j = s .n - 1 - k in
-    let m = mainWithout (suc k) in
-    hold-gone (onMain m (view s)) k j (omega arith) (omega arith)
-    ∙ ap₂ (λ (o : Session) (i : ℕ). withMain (withCount (withTasks o (closedUp k j blankTask (o .tasks))) (i - 1)) (m (s .main))) (held s z e) c
-
--- so of o, whose tasks have come nearer, with one less of them and the main place
-pub task-taken : (s : Session) → Sized s → storageBlank s ≡ true → (k : ℕ) → k < s .n
-    → {o : Session} → o ≡ withTasks s (closedUp k (s .n - 1 - k) blankTask (s .tasks)) → {m : ℕ} → m ≡ mainWithout (suc k) (s .main)
-    → withMain (withCount o (s .n - 1)) m ≡ hold (withoutTask (suc k) (view s))
-task-taken s z e k h f g = ap₂ (λ (o : Session) (m : ℕ). withMain (withCount o (s .n - 1)) m) f g ∙ sym (task-gone s z e k h)
 
 -- ---- the loop that takes a task of a session away: its invariant at the beginning, after a turn and at the end
 

@@ -2,15 +2,12 @@
 -- change.
 use Prim.Native.Nat.{ℕ, zero, suc, _+_, _-_, _≤_, _<_}
 use mathlib.Core.Path.{_≡_, refl, sym, _∙_, ap, ap₂}
-use mathlib.Core.Bool.{not}
 use mathlib.Core.List.{List, [], _∷_, _++_}
 use native.Mathlib.Omega.{arith}
 use native.Mathlib.Numerals.{add-one}
 use native.Mathlib.Nat.{not-suc-le-zero}
-use lib.Dec.{eqb}
 use lib.ListN.{length, getD, set, take, drop, replicate, length-drop, take-append-drop}
 use lib.Seq.{set-at, take-suc, append-snoc, length-take-le, drop-drop, getD-drop, paste, paste-zero, paste-suc, drop-paste}
-use Rattle.model.specs.Lists.{if_then_else_}
 use Rattle.session.specs.Stored.{pad}
 use Rattle.session.proofs.Padding.{take-pad, drop-pad}
 use Rattle.session.proofs.TaskLaws.{lift-copied}
@@ -36,17 +33,6 @@ module _ {A : Type 0} where
   pub shift-end : (x : A) (k : ℕ) (xs : List A) → 0 < length xs → set (shifting 0 k (drop (suc k) xs) xs) 0 x ≡ shifted x k xs
   shift-end x k [] h = absurd (omega arith)
   shift-end x k (y ∷ ys) h = refl
-
-  -- without a loop, where at most two go back: the second and the third place take the one before them, or keep their own
-  pub shift-near : (d v : A) (k : ℕ) (xs : List A) → k ≤ 2 → 2 < length xs → {x : A} → x ≡ (if eqb k 2 then getD xs 1 d else getD xs 2 d)
-      → {y : A} → y ≡ (if not (eqb k 0) then getD xs 0 d else getD (set xs 2 x) 1 d) → set (set (set xs 2 x) 1 y) 0 v ≡ shifted v k xs
-  shift-near d v k [] l h e f = absurd (omega arith)
-  shift-near d v k (a ∷ []) l h e f = absurd (omega arith)
-  shift-near d v k (a ∷ b ∷ []) l h e f = absurd (omega arith)
-  shift-near d v zero (a ∷ b ∷ c ∷ xs) l h e f = rw (e, f)
-  shift-near d v (suc zero) (a ∷ b ∷ c ∷ xs) l h e f = rw (e, f)
-  shift-near d v (suc (suc zero)) (a ∷ b ∷ c ∷ xs) l h e f = rw (e, f)
-  shift-near d v (suc (suc (suc k))) (a ∷ b ∷ c ∷ xs) l h e f = absurd (omega arith)
 
   pub pad-shifted : (n : ℕ) (z x : A) (k : ℕ) (xs : List A) → length xs ≡ k → k < n → pad n z (x ∷ xs) ≡ shifted x k (pad n z xs)
   unfolding pad

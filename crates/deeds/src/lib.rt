@@ -1,4 +1,4 @@
-// What a rule does, carried out on stored sessions. Nothing is checked again: what is needed is required.
+// What a rule does to the task in front and to the numbers. Nothing is checked again: what is needed is required.
 
 ghost use Prim.Native.Nat.{_+_, _≤_, _<_};
 ghost use mathlib.Core.Path.{_≡_};
@@ -9,32 +9,14 @@ ghost use Rattle.model.specs.Session.{stack};
 ghost use Rattle.model.specs.declared.Change.{Change};
 ghost use Rattle.model.specs.declared.Deed.{Deed};
 ghost use Rattle.model.specs.Deeds.{mainMoved};
-ghost use Rattle.session.specs.Stored.{holdTask, withScreens, withTasks, blankAbove};
+ghost use Rattle.session.specs.Stored.{holdTask, withScreens, blankAbove};
 ghost use Rattle.deeds.specs.Carriable.{Placed, Alterable, Changeable};
 ghost use Rattle.deeds.specs.Fronted.{baseOf, changedTask, shiftOf, changeOf, rootAfter, frontAfter, countAfter, mainAfter};
-ghost use Rattle.deeds.specs.Rows.{shifted, closedUp, lowest};
+ghost use Rattle.deeds.specs.Rows.{closedUp, lowest};
 use model::Change;
 use model::Deed;
 use session::Session;
 use session::Task;
-
-// ---- rows of tasks
-
-// t is put in front, the first k tasks go one place back, and the one behind them gives way.
-pub fn put_front(s: Session, t: Task, k: usize) -> Session
-    requires { ⌜ k < 16 ⌝ }
-    ensures { λ r. ⌜ r ≡ withTasks s (shifted t k (s .tasks)) ⌝ }
-{
-    let mut out = s;
-    let mut i = k;
-    while i > 0 {
-        let x = out.tasks[i - 1];
-        out.tasks[i] = x;
-        i -= 1;
-    }
-    out.tasks[0] = t;
-    out
-}
 
 // ---- the main place
 

@@ -10,10 +10,6 @@ use Rattle.model.specs.Lists.{if_then_else_, isEmpty, isPlace, further, 
 
 -- ---- places
 
-pub isPlace-true : (p : ℕ) → isPlace p ≡ true → suc (pred p) ≡ p
-isPlace-true zero e = absurd (false≢true e)
-isPlace-true (suc k) e = refl
-
 pub isPlace-false : (p : ℕ) → isPlace p ≡ false → p ≡ 0
 isPlace-false zero e = refl
 isPlace-false (suc k) e = absurd (true≢false e)

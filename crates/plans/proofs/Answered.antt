@@ -8,12 +8,12 @@ use lib.Dec.{ltb}
 use lib.ListN.{length, getD}
 use Rattle.model.specs.Lists.{omit}
 use Rattle.model.specs.Session.{mostTasks}
-use Rattle.model.specs.Answers.{lookAt, refused, answerBy}
+use Rattle.model.specs.Answers.{lookAt}
 use Rattle.session.specs.declared.Session.{Session}
 use Rattle.session.specs.declared.Task.{Task}
 use Rattle.session.specs.Stored.{view, noTask, blankTask, taskBehind}
 use Rattle.session.proofs.Known.{Sized}
-use Rattle.answer.specs.Seen.{Seen, answerOf}
+use Rattle.answer.specs.Seen.{Seen}
 use Rattle.answer.proofs.LookLaws.{look-fronted}
 use Rattle.deeds.specs.Rows.{shifted}
 use Rattle.plans.specs.declared.Plan.{Plan}
@@ -68,14 +68,6 @@ module _ (s : Session) (z : Sized s) (p : Plan) (accepted : p .refusal ≡ 0) (u
 
   pub answers-look : answerFor p (taskBehind s 1) ≡ lookAt (view (putOf s p))
   answers-look = rw (accepted, ← shown) (sym (look-fronted (putOf s p) sizes seen))
-
--- a refused call
-pub answers-refused : (p : Plan) (t : Task) → (p .refusal ≡ 0 → ⊥) → answerFor p t ≡ refused (p .refusal)
-answers-refused p t bad = go (p .refusal) refl
-  where
-    go : (k : ℕ) → p .refusal ≡ k → answerBy k (answerOf (shownBy (p .gone) (p .front) t) (p .n) (p .main)) ≡ refused k
-    go zero e = absurd (bad e)
-    go (suc k) e = refl
 
 pub refused-showable : (p : Plan) (t : Task) → (p .refusal ≡ 0 → ⊥) → Showable p t
 refused-showable p t bad e = absurd (bad e)

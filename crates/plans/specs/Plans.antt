@@ -3,14 +3,13 @@ use Prim.Native.Nat.{ℕ, zero, suc, _-_, _<_}
 use mathlib.Core.Path.{_≡_}
 use mathlib.Core.Bool.{Bool, true, false, not, _&&_}
 use lib.Dec.{eqb, ltb}
-use lib.ListN.{getD}
 use Rattle.model.specs.declared.Mark.{Mark}
 use Rattle.model.specs.Lists.{if_then_else_, omit}
 use Rattle.model.specs.Session.{stack}
 use Rattle.model.specs.Deeds.{mainWithout}
 use Rattle.session.specs.declared.Task.{Task}
 use Rattle.session.specs.declared.Session.{Session}
-use Rattle.session.specs.Stored.{viewTask, holdTask, noTask, blankAbove, taskBehind}
+use Rattle.session.specs.Stored.{viewTask, holdTask, blankAbove, taskBehind}
 use Rattle.plans.specs.declared.Plan.{Plan}
 
 -- ---- a refused call: nothing changes

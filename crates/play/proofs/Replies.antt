@@ -7,8 +7,8 @@ use mathlib.Core.List.{List}
 use native.Mathlib.Omega.{arith}
 use Rattle.model.specs.Table.{tableRefusal}
 use Rattle.model.specs.Session.{State, fresh, mostTasks, sound}
-use Rattle.model.specs.Answers.{Outcome, outcome, refused, settle}
-use Rattle.model.specs.Calls.{Call, ownChecks, done, answerTo, refusalOf, call}
+use Rattle.model.specs.Answers.{outcome, refused, settle}
+use Rattle.model.specs.Calls.{ownChecks, done, answerTo, refusalOf, call}
 use Rattle.model.specs.Player.{Request, unplayable, asks, requestOf}
 use Rattle.model.specs.Player as player
 use Rattle.model.proofs.RefusalLaws.{checks-bad-table}
@@ -20,10 +20,9 @@ use Rattle.session.specs.Stored.{freshSession, view, hold, Ready, taskBehind}
 use Rattle.session.proofs.Known.{Sized}
 use Rattle.session.proofs.StoredLaws.{fresh-held, held, view-hold, hold-sound, hold-blank, hold-sized, sound-fits, sound-view}
 use Rattle.starts.specs.declared.Sought.{Sought}
-use Rattle.starts.specs.Steps.{Planned}
 use Rattle.starts.proofs.Seeking.{sought-inside, sought-planned}
 use Rattle.calls.specs.declared.Reply.{Reply}
-use Rattle.calls.specs.StoredCalls.{reply, sharedRefusal, callStored}
+use Rattle.calls.specs.StoredCalls.{reply, sharedRefusal}
 use Rattle.calls.proofs.Settling.{shared-bad-table, shared-passed, call-refused}
 use Rattle.calls.proofs.PlanSettling.{Gives, still-gives, look-gives, launch-gives, back-gives, start-gives}
 use Rattle.calls.proofs.HistoryLaws.{storedOutcome, call-held}

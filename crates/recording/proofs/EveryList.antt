@@ -15,7 +15,7 @@ use Rattle.model.specs.Table.{tableShaped, tableFilled}
 use Rattle.model.specs.Session.{State, sound}
 use Rattle.model.specs.Answers.{Outcome, outcome, settle}
 use Rattle.model.specs.Image.{trailerIn, lengthIn, imageShaped}
-use Rattle.model.specs.Calls.{Call, launch, start, finishingStart, back, look, restore, ownChecks, done, refusalOf, call}
+use Rattle.model.specs.Calls.{Call, launch, start, finishingStart, back, look, restore, ownChecks, refusalOf, call}
 use Rattle.model.specs.Histories.{after, answers, IsByte, wordCount, IsWord, Passable, byRules}
 use Rattle.model.proofs.Logic.{and-decides, leb-decides, eqb-decides, self-decides, refuted, if-elim, All-at, All-map}
 use Rattle.model.proofs.ListLaws.{All-drop, All-to-map}

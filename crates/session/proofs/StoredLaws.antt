@@ -220,10 +220,6 @@ pub view-at : (c : Session) (i : ℕ) → i < c .n → getD (view c .tasks) i no
 unfolding view viewTask
 view-at c i h = List·getD-map viewTask (take (c .n) (c .tasks)) i noTask ∙ ap viewTask (getD-take (c .n) (c .tasks) i noTask h)
 
-pub view-root : (c : Session) (i : ℕ) → i < c .n → getD (view c .tasks) i noStack .root ≡ getD (c .tasks) i noTask .root
-unfolding viewTask
-view-root c i h = ap (λ (t : Stack ℕ). t .root) (view-at c i h)
-
 -- ---- a task that is stored
 
 pub sized-at : (c : Session) → Sized c → (i : ℕ) → i < mostTasks → Screens32 (getD (c .tasks) i noTask)

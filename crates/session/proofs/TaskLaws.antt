@@ -6,7 +6,7 @@ use mathlib.Core.List.{List, [], _∷_, _++_, reverse, reverse-cons, reverse-app
 use native.Mathlib.Omega.{arith}
 use native.Mathlib.Numerals.{add-one}
 use lib.ListN.{length, getD, set, take, drop, replicate, length-reverse, length-drop, take-append-drop, List·getD-append}
-use lib.Seq.{take-at, drop-at, getD-at, getD-take, length-take-le, take-suc-set, take-suc, take-set-le, set-at, drop-cons, paste, length-paste-head}
+use lib.Seq.{take-at, drop-at, getD-at, getD-take, length-take-le, set-at, drop-cons, paste, length-paste-head}
 use Rattle.model.specs.Lists.{toFront}
 use Rattle.model.specs.Session.{stack, height, mostHeight}
 use Rattle.model.proofs.ListLaws.{toFront-length, toFront-split}
@@ -66,28 +66,6 @@ hold-popped r x xs h =
     let s : pad mostHeight 0 (reverse xs) ≡ set (pad mostHeight 0 (reverse xs ++ (x ∷ []))) (suc (length xs) - 1) 0 =
     pad-pop mostHeight 0 (suc (length xs) - 1) x (reverse xs) (length-reverse xs ∙ l) (omega arith) in
     rw (reverse-cons x xs) (λ i. record { root = r; height = l i; screens = s i })
-
-pub view-pushed : (t : Task) (b : ℕ) → t .height < mostHeight → length (t .screens) ≡ mostHeight
-    → viewTask (pushed t b) ≡ stack (t .root) (b ∷ viewTask t .screens)
-unfolding viewTask
-view-pushed t b h l =
-    let below = take (t .height) (t .screens) in
-    let s : take (t .height + 1) (set (t .screens) (t .height) b) ≡ below ++ (b ∷ []) =
-    rw (add-one (t .height)) (take-suc-set (t .screens) (t .height) b (omega arith)) in
-    ap (λ (ys : List ℕ). stack (t .root) (reverse ys)) s ∙ ap (stack (t .root)) (reverse-append below (b ∷ []))
-
-pub view-popped : (t : Task) → 0 < t .height → t .height ≤ length (t .screens)
-    → viewTask (popped t) ≡ stack (t .root) (drop 1 (viewTask t .screens))
-unfolding viewTask
-view-popped t h l =
-    let k = t .height - 1 in
-    let s : take k (set (t .screens) k 0) ≡ take k (t .screens) = take-set-le k (t .screens) k 0 (omega arith) in
-    let n : t .height ≡ suc k = omega arith in
-    let u : take (t .height) (t .screens) ≡ take k (t .screens) ++ (getD (t .screens) k 0 ∷ []) =
-    ap (λ (j : ℕ). take j (t .screens)) n ∙ take-suc (t .screens) k 0 (omega arith) in
-    ap (λ (ys : List ℕ). stack (t .root) (reverse ys)) s
-    ∙ sym (ap (λ (ys : List ℕ). stack (t .root) (drop 1 (reverse ys))) u
-    ∙ ap (λ (ys : List ℕ). stack (t .root) (drop 1 ys)) (reverse-append (take k (t .screens)) (getD (t .screens) k 0 ∷ [])))
 
 -- ---- clear and lift
 

@@ -1,9 +1,7 @@
 -- `answer::of_front` meets its contract, by whether a task stands.
 use Prim.Native.Nat.{ℕ, zero, suc}
-use mathlib.Core.Path.{_≡_, refl, sym}
+use mathlib.Core.Path.{_≡_, refl}
 use native.Mathlib.Omega.{arith}
-use borrow.Author.Needs.{needs}
-use Rattle.model.specs.declared.Answer.{Answer}
 use Rattle.model.specs.Session.{top}
 use Rattle.session.specs.declared.Task.{Task}
 use Rattle.session.specs.Stored.{viewTask}

@@ -4,7 +4,6 @@ use mathlib.Core.Path.{_≡_, sym, _∙_, ap}
 use native.Mathlib.Omega.{arith}
 use borrow.Author.Needs.{needs}
 use Rattle.model.specs.declared.Mark.{Mark}
-use Rattle.model.specs.Table.{tableRefusal}
 use Rattle.model.proofs.Tables.{good-shaped}
 use Rattle.starts.proofs.Seeking.{or-none, unless-found, unless-passed}
 use Rattle.calls.proofs.launch_plan.Statement.{statement}

@@ -66,14 +66,8 @@ joined-size c =
     ap (λ (o : Session). length (o .tasks)) (joined c)
     ∙ popped-length (a .plan .pops) (a .plan .front) (a .plan .shift) (a .s .tasks) (omega (arith, start .pre .few)) ∙ z
 
-cast-i : tie.Need-cast-i Inv-loop μ-loop Inv-loop2 μ-loop2
-cast-i c = search needs
-
 loop-holds : tie.Need-loop-holds Inv-loop μ-loop Inv-loop2 μ-loop2
 loop-holds c = (search needs, shifts-begin (c .before .before .args .s) (c .before .before .args .plan .shift))
-
-sub-x : tie.Need-sub-x Inv-loop μ-loop Inv-loop2 μ-loop2
-sub-x c = search needs
 
 mul-x : tie.Need-mul-x Inv-loop μ-loop Inv-loop2 μ-loop2
 mul-x c = omega (arith, few (c .before))
@@ -87,12 +81,6 @@ mul-x-2 c = omega (arith, few (c .before .before))
 element-set-from-x : tie.Need-element-set-from-x Inv-loop μ-loop Inv-loop2 μ-loop2
 element-set-from-x c = omega (arith, few (c .before .before))
 
-sub-i : tie.Need-sub-i Inv-loop μ-loop Inv-loop2 μ-loop2
-sub-i c = search needs
-
-loop-less : tie.Need-loop-less Inv-loop μ-loop Inv-loop2 μ-loop2
-loop-less c = search needs
-
 loop-again : tie.Need-loop-again Inv-loop μ-loop Inv-loop2 μ-loop2
 loop-again c =
     let at = c .before .before in
@@ -101,23 +89,11 @@ loop-again c =
     let a = start .args in
     (omega arith, shifts-step (a .s) (a .plan .shift) (size start) (start .pre .few) (here .i) (c .before .loop-test .taken) (here .inv .0) (here .inv .1))
 
-element-set-from-front : tie.Need-element-set-from-front Inv-loop μ-loop Inv-loop2 μ-loop2
-element-set-from-front c = search needs
-
-element-copy-out-x-2 : tie.Need-element-copy-out-x-2 Inv-loop μ-loop Inv-loop2 μ-loop2
-element-copy-out-x-2 c = search needs
-
 pop-requires : tie.Need-pop-requires Inv-loop μ-loop Inv-loop2 μ-loop2
 pop-requires c κs =
     let end = c .before .before in
     let start = end .before .before .before .before in
     subst (λ (o : Session). Poppable (start .args .plan .pops) (o .tasks)) (sym (moved end)) (start .pre .second) (c .before .if1 .taken)
-
-element-set-from-out : tie.Need-element-set-from-out Inv-loop μ-loop Inv-loop2 μ-loop2
-element-set-from-out c = search needs
-
-cast-j : tie.Need-cast-j Inv-loop μ-loop Inv-loop2 μ-loop2
-cast-j c = search needs
 
 loop2-holds : tie.Need-loop2-holds Inv-loop μ-loop Inv-loop2 μ-loop2
 loop2-holds c =
@@ -125,9 +101,6 @@ loop2-holds c =
     let m = c .before .before .before .before .before .before .args .plan .gone in
     let e : 0 ≡ m - m = omega arith in
     ((omega arith, omega arith), closes-begin s m ∙ ap (closingIn s m) e)
-
-add-x : tie.Need-add-x Inv-loop μ-loop Inv-loop2 μ-loop2
-add-x c = search needs
 
 mul-x-3 : tie.Need-mul-x-3 Inv-loop μ-loop Inv-loop2 μ-loop2
 mul-x-3 c = omega arith
@@ -141,12 +114,6 @@ mul-x-4 c = omega arith
 element-set-from-x-2 : tie.Need-element-set-from-x-2 Inv-loop μ-loop Inv-loop2 μ-loop2
 element-set-from-x-2 c = omega arith
 
-add-j : tie.Need-add-j Inv-loop μ-loop Inv-loop2 μ-loop2
-add-j c = search needs
-
-loop2-less : tie.Need-loop2-less Inv-loop μ-loop Inv-loop2 μ-loop2
-loop2-less c = search needs
-
 loop2-again : tie.Need-loop2-again Inv-loop μ-loop Inv-loop2 μ-loop2
 loop2-again c =
     let at = c .before .before in
@@ -158,9 +125,6 @@ loop2-again c =
       (omega arith, omega arith),
       closes-step s m (joined-size join) (here .j - m) (here .j) (omega arith) (omega arith) (here .inv .1) ∙ ap (closingIn s m) e,
     )
-
-element-set-from-blank : tie.Need-element-set-from-blank Inv-loop μ-loop Inv-loop2 μ-loop2
-element-set-from-blank c = search needs
 
 returns : tie.Need-returns Inv-loop μ-loop Inv-loop2 μ-loop2
 returns c =
@@ -188,30 +152,30 @@ put-spec =
     μ-loop
     Inv-loop2
     μ-loop2
-    cast-i
+    (λ c. search needs)
     loop-holds
-    sub-x
+    (λ c. search needs)
     mul-x
     element-copy-out-x
     mul-x-2
     element-set-from-x
-    sub-i
-    loop-less
+    (λ c. search needs)
+    (λ c. search needs)
     loop-again
-    element-set-from-front
-    element-copy-out-x-2
+    (λ c. search needs)
+    (λ c. search needs)
     pop-requires
-    element-set-from-out
-    cast-j
+    (λ c. search needs)
+    (λ c. search needs)
     loop2-holds
-    add-x
+    (λ c. search needs)
     mul-x-3
     element-copy-out-x-3
     mul-x-4
     element-set-from-x-2
-    add-j
-    loop2-less
+    (λ c. search needs)
+    (λ c. search needs)
     loop2-again
-    element-set-from-blank
+    (λ c. search needs)
     returns
     returns-2)

@@ -1,9 +1,7 @@
 -- `play::plan_for` meets its contract: the kind chooses the call whose plan it is.
-use mathlib.Core.Path.{_≡_, _∙_, sym}
 use mathlib.Core.Bool.{false}
 use borrow.Author.Needs.{needs}
 use Rattle.session.proofs.Known.{sized}
-use Rattle.session.specs.Stored.{Ready}
 use Rattle.plans.proofs.Closes.{back-opens}
 use Rattle.play.specs.Steps.{planFor}
 use Rattle.play.proofs.Requests.{request-1, request-2, request-3, request-4, request-5, request-none}

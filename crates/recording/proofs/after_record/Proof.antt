@@ -1,5 +1,4 @@
 -- The call of a record, by its kind.
-use borrow.Author.Needs.{needs}
 use mathlib.Core.Path.{_≡_, sym, ap}
 use borrow.Author.Tests.{ne-eqb}
 use Rattle.model.specs.Histories.{after}
