@@ -18,7 +18,7 @@ use Rattle.session.specs.Stored.{view, hold, holdTask, pad, blankTask, Ready, t
 use Rattle.session.proofs.Known.{Sized}
 use Rattle.session.proofs.StoredLaws.{held, sound-blank}
 use Rattle.answer.specs.Seen.{Seen}
-use Rattle.choice.specs.Startable.{Startable}
+use Rattle.rules.specs.Startable.{Startable}
 use Rattle.starts.specs.Checks.{startEntry, roomRefusal}
 use Rattle.starts.proofs.Entries.{start-numbers, start-split}
 use Rattle.plans.specs.declared.Plan.{Plan}
@@ -238,7 +238,7 @@ module _ (tb : List ℕ) (c : Session) (z : Sized c) (b w : ℕ) (fin : Bool) wh
       go zero q room =
           let s : Startable tb c b = entered-startable tb c b w 0 h q in
           let ok : Plannable tb c b (flagsOf w) _ (chosenStored tb c b (flagsOf w)) =
-          record { chosen = record { number = refl; deed = refl; place = refl; index = refl }; task = refl; room = room } in
+          record { chosen = record { number = refl; effect = refl; place = refl; index = refl }; task = refl; room = room } in
           record {
             accepted = start-accepts z s ok fin;
             puttable = start-puttable z s ok fin;

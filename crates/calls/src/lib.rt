@@ -14,7 +14,7 @@ ghost use Rattle.starts.specs.Steps.{orElse};
 ghost use Rattle.calls.specs.StoredCalls.{reply, sharedRefusal, callStored};
 ghost use Rattle.calls.specs.CallPlans.{launchPlan, backMark, backPlan};
 use model::Answer;
-use model::Deed;
+use model::Effect;
 use model::Mark;
 use plans::Plan;
 use session::Session;
@@ -76,7 +76,7 @@ pub fn launch_plan(table: &[u8], s: Session, shared: u8) -> Plan
     }
     let b = table::main_screen(table);
     let blank = s.tasks[0];
-    let front = deeds::front_after(blank, b, Deed::New);
+    let front = effects::front_after(blank, b, Effect::New);
     plans::closing_plan(Mark::Gone, front, 0, 0, 1, 1)
 }
 

@@ -9,7 +9,7 @@ use lib.ListN.{length, getD, set}
 use borrow.Author.Tests.{eq-eqb, ne-eqb, lt-ltb, le-ltb}
 use Rattle.model.specs.Lists.{isEmpty, omit}
 use Rattle.model.specs.Session.{Stack, stack, noStack, onScreens, height, count, mostHeight}
-use Rattle.model.specs.Deeds.{mainWithout, withoutTask, taskLeft, close}
+use Rattle.model.specs.Effects.{mainWithout, withoutTask, taskLeft, close}
 use Rattle.model.proofs.Logic.{All-at}
 use Rattle.model.proofs.ListLaws.{omit-length}
 use Rattle.model.proofs.Sound.{TaskSound}
@@ -21,8 +21,8 @@ use Rattle.session.proofs.Known.{Sized}
 use Rattle.session.proofs.StoredLaws.{held, hold-viewTask, view-at, blank-few, sized-at, sound-blank, sound-view}
 use Rattle.session.proofs.SessionLaws.{hold-set}
 use Rattle.session.proofs.TaskLaws.{hold-popped}
-use Rattle.deeds.proofs.Changes.{blank-low, blank-height}
-use Rattle.deeds.proofs.Fronts.{counted, stored-blank}
+use Rattle.effects.proofs.Changes.{blank-low, blank-height}
+use Rattle.effects.proofs.Fronts.{counted, stored-blank}
 use Rattle.closing.specs.Closable.{Closable}
 
 -- ---- the main place

@@ -17,9 +17,9 @@ use Rattle.session.proofs.Known.{Screens32}
 use Rattle.session.proofs.Padding.{drop-pad}
 use Rattle.session.proofs.StoredLaws.{hold-viewTask}
 use Rattle.session.proofs.TaskLaws.{reverse-drop, reverse-take}
-use Rattle.deeds.specs.Rows.{closedUp}
-use Rattle.deeds.proofs.Rows.{closingUp, close-begin, close-step, close-end}
-use Rattle.deeds.proofs.Changes.{blank-low, blank-height}
+use Rattle.effects.specs.Rows.{closedUp}
+use Rattle.effects.proofs.Rows.{closingUp, close-begin, close-step, close-end}
+use Rattle.effects.proofs.Changes.{blank-low, blank-height}
 
 module _ {A : Type 0} where
   pub pad-closed : (n : ℕ) (z : A) (m k : ℕ) (xs : List A) → m + suc k ≡ length xs → length xs ≤ n

@@ -4,7 +4,7 @@ use mathlib.Core.Path.{_≡_, sym, _∙_, ap, subst}
 use mathlib.Core.Bool.{Bool, true}
 use borrow.Author.Tests.{le-leb, lt-leb}
 use Rattle.model.specs.declared.Change.{Change}
-use Rattle.model.specs.declared.Deed.{Deed}
+use Rattle.model.specs.declared.Effect.{Effect}
 use Rattle.model.specs.declared.Mark.{Mark}
 use Rattle.model.specs.Lists.{if_then_else_}
 use Rattle.model.specs.Session.{State}
@@ -28,11 +28,11 @@ pub closed-gone : (s : Session) → Sized s → storageBlank s ≡ true → {m :
 closed-gone s z b e = sym (held s z b) ∙ closed-at (view s) e
 
 -- after a move and a change, by the place that the task came from
-module _ (p : ℕ) (isB : Bool) {d : Deed} {c : Change} (e : d ≡ Deed.MoveAnd c) where
+module _ (p : ℕ) (isB : Bool) {d : Effect} {c : Change} (e : d ≡ Effect.MoveAnd c) where
   pub mark-first : p ≤ 1 → markAfter d p isB ≡ markIn c isB
   mark-first l =
-      ap (λ (x : Deed). markAfter x p isB) e ∙ ap (λ (b : Bool). if b then markIn c isB else Mark.Stands 1 0) (le-leb p 1 l)
+      ap (λ (x : Effect). markAfter x p isB) e ∙ ap (λ (b : Bool). if b then markIn c isB else Mark.Stands 1 0) (le-leb p 1 l)
 
   pub mark-behind : 1 < p → markAfter d p isB ≡ Mark.Stands 1 0
   mark-behind l =
-      ap (λ (x : Deed). markAfter x p isB) e ∙ ap (λ (b : Bool). if b then markIn c isB else Mark.Stands 1 0) (lt-leb p 1 l)
+      ap (λ (x : Effect). markAfter x p isB) e ∙ ap (λ (b : Bool). if b then markIn c isB else Mark.Stands 1 0) (lt-leb p 1 l)

@@ -2,7 +2,7 @@
 use Prim.Native.Nat.{ℕ}
 use mathlib.Core.Path.{_≡_}
 use mathlib.Core.Bool.{Bool, true}
-use Rattle.model.specs.declared.Deed.{Deed}
+use Rattle.model.specs.declared.Effect.{Effect}
 use Rattle.model.specs.declared.Mark.{Mark}
 use Rattle.model.specs.Marks.{markAfter, Stands}
 use Rattle.session.specs.declared.Session.{Session}
@@ -14,6 +14,6 @@ pub record Closable (s : Session) (k i : ℕ) : Type 0 where
   pub there : Stands (Mark.Stands k i) (view s)
 
 -- the marked screen stands where its mark says, or it is gone
-pub record Markable (s : Session) (d : Deed) (p : ℕ) (isB : Bool) : Type 0 where
+pub record Markable (s : Session) (d : Effect) (p : ℕ) (isB : Bool) : Type 0 where
   pub blank : storageBlank s ≡ true
   pub marked : Stands (markAfter d p isB) (view s)

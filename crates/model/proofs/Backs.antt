@@ -11,7 +11,7 @@ use Rattle.model.specs.Lists.{All}
 use Rattle.model.specs.Refusals.{refusal}
 use Rattle.model.specs.Table.{tableRefusal}
 use Rattle.model.specs.Session.{Stack, State, stack, count, screensIn, fresh, mostTasks, mostHeight}
-use Rattle.model.specs.Deeds.{close}
+use Rattle.model.specs.Effects.{close}
 use Rattle.model.specs.Answers.{outcome, settle, lookAt}
 use Rattle.model.specs.Calls.{back, look, backed, ownChecks, done, call}
 use Rattle.model.proofs.Sessions.{withTasks, same-fields}

@@ -12,7 +12,7 @@ use borrow.Author.Tests.{eqb-false, ltb-true, ltb-false}
 use Rattle.model.specs.Lists.{isEmpty, omit, Pairwise}
 use Rattle.model.specs.Table.{sizeOf, rootsOnce}
 use Rattle.model.specs.Session.{Stack, State, noStack, onScreens, onTasks, taskAt}
-use Rattle.model.specs.Deeds.{mainWithout, withoutTask, taskLeft, close}
+use Rattle.model.specs.Effects.{mainWithout, withoutTask, taskLeft, close}
 use Rattle.model.specs.Calls.{backed}
 use Rattle.model.proofs.Logic.{if-elim, All-at}
 use Rattle.model.proofs.ListLaws.{All-omit, All-set, Pairwise-of-map, Pairwise-omit, Pairwise-to-map, isEmpty-length, omit-before, omit-behind, omit-inside, omit-length, omit-length-le}

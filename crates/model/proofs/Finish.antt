@@ -9,21 +9,21 @@ use lib.Dec.{eqb}
 use lib.ListN.{length}
 use Rattle.model.specs.declared.Change.{Change}
 use Rattle.model.specs.declared.Choice.{Choice}
-use Rattle.model.specs.declared.Deed.{Deed}
+use Rattle.model.specs.declared.Effect.{Effect}
 use Rattle.model.specs.declared.Flags.{Flags}
 use Rattle.model.specs.declared.Mark.{Mark}
 use Rattle.model.specs.Refusals.{refusal}
 use Rattle.model.specs.Session.{Stack, State, stack, taskAt, front, frontScreen, count}
 use Rattle.model.specs.Flags.{flagsOf}
 use Rattle.model.specs.Search.{placeOf}
-use Rattle.model.specs.Deeds.{deedOf}
+use Rattle.model.specs.Effects.{effectOf}
 use Rattle.model.specs.Rules.{choose}
 use Rattle.model.specs.Calls.{chosen, startedBy, started, finishedBy, finished, startChecks}
 use Rattle.model.specs.Marks.{markAfter, closeAt, Stands}
 use Rattle.model.proofs.Sessions.{withTasks}
 use Rattle.model.proofs.Sound.{Sound}
 use Rattle.model.proofs.Close.{close-sound}
-use Rattle.model.proofs.Deeds.{Suits, Ready}
+use Rattle.model.proofs.Effects.{Suits, Ready}
 use Rattle.model.proofs.Marks.{AbleIn, Able, finished-carry}
 use Rattle.model.proofs.MarkStands.{mark-stands}
 use Rattle.model.proofs.Start.{choose-ready, start-accepted, started-sound}
@@ -41,14 +41,14 @@ module _ (tb : List ℕ) (b : ℕ) where
   first-able c (suc zero) s l h g = suits-able c (front s) h
   first-able c (suc (suc p)) s l h g = absurd (omega arith)
 
-  ready-able : (d : Deed) (p : ℕ) (s : State ℕ) → Ready tb b s d p → Able d p b s
-  ready-able Deed.New p s h = tt
-  ready-able (Deed.InFront c) p s h = suits-able c (front s) (h .1)
-  ready-able (Deed.MoveAnd c) p s h = (h .0 .1, first-able c p s (h .0 .0) (h .1))
+  ready-able : (d : Effect) (p : ℕ) (s : State ℕ) → Ready tb b s d p → Able d p b s
+  ready-able Effect.New p s h = tt
+  ready-able (Effect.InFront c) p s h = suits-able c (front s) (h .1)
+  ready-able (Effect.MoveAnd c) p s h = (h .0 .1, first-able c p s (h .0 .0) (h .1))
 
 -- where the front screen from before stands after the start
 abbrev pub markOf : Choice → ℕ → State ℕ → Mark
-markOf c b s = markAfter (deedOf (c .rule)) (placeOf (c .found)) (eqb b (frontScreen s))
+markOf c b s = markAfter (effectOf (c .rule)) (placeOf (c .found)) (eqb b (frontScreen s))
 
 module _ (tb : List ℕ) (b : ℕ) (f : Flags) where
   -- what is shown of a sound session that is not empty, and of the choice that a start makes in it
@@ -56,14 +56,14 @@ module _ (tb : List ℕ) (b : ℕ) (f : Flags) where
       (shown : (o : State ℕ) (r x : ℕ) (xs : List ℕ) (ts : List (Stack ℕ))
       → let s = withTasks o (stack r (x ∷ xs) ∷ ts) in
       let c = choose tb s b f in
-      Able (deedOf (c .rule)) (placeOf (c .found)) b s → P s) where
+      Able (effectOf (c .rule)) (placeOf (c .found)) b s → P s) where
     in-task : (o : State ℕ) (r : ℕ) (xs : List ℕ) (ts : List (Stack ℕ)) → 1 ≤ length xs → Sound tb (withTasks o (stack r xs ∷ ts))
         → P (withTasks o (stack r xs ∷ ts))
     in-task o r [] ts l h = absurd (not-suc-le-zero l)
     in-task o r (x ∷ xs) ts l h =
         let s = withTasks o (stack r (x ∷ xs) ∷ ts) in
         let c = choose tb s b f in
-        shown o r x xs ts (ready-able tb b (deedOf (c .rule)) (placeOf (c .found)) s (choose-ready tb s b f h (omega arith)))
+        shown o r x xs ts (ready-able tb b (effectOf (c .rule)) (placeOf (c .found)) s (choose-ready tb s b f h (omega arith)))
 
     in-session : (o : State ℕ) (ts : List (Stack ℕ)) → Sound tb (withTasks o ts) → 1 ≤ length ts → P (withTasks o ts)
     in-session o [] h l = absurd (not-suc-le-zero l)
@@ -82,7 +82,7 @@ module _ (tb : List ℕ) (b : ℕ) (f : Flags) where
       in-session (λ s. Stands (markOf (choose tb s b f) b s) (startedBy (choose tb s b f) b s))
       (λ o r x xs ts a.
       let c = choose tb (withTasks o (stack r (x ∷ xs) ∷ ts)) b f in
-      mark-stands o b r x xs ts (deedOf (c .rule)) (placeOf (c .found)) a) s (s .tasks) h l
+      mark-stands o b r x xs ts (effectOf (c .rule)) (placeOf (c .found)) a) s (s .tasks) h l
 
 close-at-sound : (tb : List ℕ) (k : Mark) (s : State ℕ) → Sound tb s → Sound tb (closeAt k s)
 close-at-sound tb Mark.Gone s h = h

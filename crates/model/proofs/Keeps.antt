@@ -16,7 +16,7 @@ use Rattle.model.proofs.Logic.{and-left}
 use Rattle.model.proofs.RefusalLaws.{refusal-skip, checks-own}
 use Rattle.model.proofs.Sound.{Sound, sound-decides}
 use Rattle.model.proofs.Close.{no-main, backed-sound}
-use Rattle.model.proofs.Deeds.{new-task-sound}
+use Rattle.model.proofs.Effects.{new-task-sound}
 use Rattle.model.proofs.Start.{started-sound}
 use Rattle.model.proofs.Finish.{finished-sound}
 

@@ -10,7 +10,7 @@ pub mod SearchLaws
 pub mod RuleLaws
 pub mod RoomLaws
 pub mod Close
-pub mod Deeds
+pub mod Effects
 pub mod Marks
 pub mod MarkStands
 pub mod Start

@@ -9,12 +9,12 @@ use lib.Dec.{eqb}
 use lib.ListN.{length}
 use borrow.Author.Tests.{lt-leb}
 use Rattle.model.specs.declared.Change.{Change}
-use Rattle.model.specs.declared.Deed.{Deed}
+use Rattle.model.specs.declared.Effect.{Effect}
 use Rattle.model.specs.declared.Mark.{Mark}
 use Rattle.model.specs.Lists.{find, putSecond, toFront}
 use Rattle.model.specs.Session.{Stack, State, stack}
 use Rattle.model.specs.Search.{holds}
-use Rattle.model.specs.Deeds.{move, changed, changeFront, putNew, carryOut}
+use Rattle.model.specs.Effects.{move, changed, changeFront, putNew, carryOut}
 use Rattle.model.specs.Marks.{markIn, markAfter, Stands}
 use Rattle.model.proofs.ListLaws.{toFront-length}
 use Rattle.model.proofs.Sessions.{withTasks}
@@ -50,11 +50,11 @@ module _ (s : State ℕ) (b r x : ℕ) (xs : List ℕ) (ts : List (Stack ℕ)) w
   behind o c [] l = absurd (not-suc-le-zero l)
   behind o c (u ∷ us) l = (omega arith, omega arith)
 
-  pub mark-stands : (d : Deed) (p : ℕ) → Able d p b before → Stands (markAfter d p (eqb b x)) (carryOut (eqb b) b b d p before)
+  pub mark-stands : (d : Effect) (p : ℕ) → Able d p b before → Stands (markAfter d p (eqb b x)) (carryOut (eqb b) b b d p before)
   unfolding carryOut putNew changeFront move
-  mark-stands Deed.New p h = (omega arith, omega arith)
-  mark-stands (Deed.InFront c) p h = in-front s c (eqb b x) refl h
-  mark-stands (Deed.MoveAnd c) zero h = in-front (move 0 s) c (eqb b x) refl (h .1 (omega arith))
-  mark-stands (Deed.MoveAnd c) (suc zero) h = in-front (move 1 s) c (eqb b x) refl (h .1 (omega arith))
-  mark-stands (Deed.MoveAnd c) (suc (suc k)) h =
+  mark-stands Effect.New p h = (omega arith, omega arith)
+  mark-stands (Effect.InFront c) p h = in-front s c (eqb b x) refl h
+  mark-stands (Effect.MoveAnd c) zero h = in-front (move 0 s) c (eqb b x) refl (h .1 (omega arith))
+  mark-stands (Effect.MoveAnd c) (suc zero) h = in-front (move 1 s) c (eqb b x) refl (h .1 (omega arith))
+  mark-stands (Effect.MoveAnd c) (suc (suc k)) h =
       rw (lt-leb (suc (suc k)) 1 (omega arith)) (behind (move (suc (suc k)) s) c (toFront k ts) (omega (arith, toFront-length k ts, h .0)))

@@ -1,6 +1,6 @@
 -- The mark of a finishing start, followed as a position. `finished` runs the start on screens that carry a mark and
 -- closes the marked one; here that is shown to be the plain start, and then closing the screen at a position that is
--- read off the deed: `finished-carry`. Code follows the position.
+-- read off the effect: `finished-carry`. Code follows the position.
 use Prim.Native.Nat.{ℕ, zero, suc, _≤_, pred}
 use mathlib.Core.Path.{_≡_, refl, _∙_, ap, ap₂}
 use mathlib.Core.Bool.{Bool, true, false, false≢true}
@@ -11,19 +11,19 @@ use lib.Dec.{eqb}
 use lib.ListN.{length, set, drop, length-map, List·getD-map}
 use borrow.Author.Tests.{lt-leb}
 use Rattle.model.specs.declared.Change.{Change}
-use Rattle.model.specs.declared.Deed.{Deed}
+use Rattle.model.specs.declared.Effect.{Effect}
 use Rattle.model.specs.declared.Mark.{Mark}
 use Rattle.model.specs.Lists.{if_then_else_, isEmpty, isPlace, further, find, omit, putSecond, toFront, All}
 use Rattle.model.specs.Session.{Stack, State, stack, noStack, onScreens, onTasks, taskAt, front, count}
 use Rattle.model.specs.Search.{holds}
-use Rattle.model.specs.Deeds.{move, changed, changeFront, putNew, carryOut, withoutTask, taskLeft, close}
+use Rattle.model.specs.Effects.{move, changed, changeFront, putNew, carryOut, withoutTask, taskLeft, close}
 use Rattle.model.specs.Calls.{Marked, unmarked, mapScreens, mapState, markFront, placeOfMark, closeMarked}
 use Rattle.model.specs.Marks.{markIn, markAfter, closeAt}
 use Rattle.model.proofs.Logic.{All-of}
 use Rattle.model.proofs.Sessions.{withTasks}
 use Rattle.model.proofs.ListLaws.{toFront-length, All-drop, All-toFront, All-to-map, map-omit, map-set, map-toFront, map-drop, map-onFirst, find-map, isEmpty-map}
 
--- ---- deeds and closing do not look at marks
+-- ---- effects and closing do not look at marks
 
 module _ {A B : Type 0} (f : A → B) where
   map-close : (p i : ℕ) (s : State A) → mapState f (close p i s) ≡ close p i (mapState f s)
@@ -63,11 +63,11 @@ module _ {A B : Type 0} (f : A → B) where
     unfolding mapState move
     map-move p s = rw (map-toFront (mapScreens f) (pred p) (s .tasks))
 
-    map-carry : (d : Deed) (p : ℕ) (s : State A) → mapState f (carryOut (λ y. isB (f y)) b x d p s) ≡ carryOut isB b (f x) d p (mapState f s)
+    map-carry : (d : Effect) (p : ℕ) (s : State A) → mapState f (carryOut (λ y. isB (f y)) b x d p s) ≡ carryOut isB b (f x) d p (mapState f s)
     unfolding carryOut mapState putNew
-    map-carry Deed.New p s = refl
-    map-carry (Deed.InFront c) p s = map-change-front c s
-    map-carry (Deed.MoveAnd c) p s = map-change-front c (move p s) ∙ ap (changeFront (changed isB (f x) c)) (map-move p s)
+    map-carry Effect.New p s = refl
+    map-carry (Effect.InFront c) p s = map-change-front c s
+    map-carry (Effect.MoveAnd c) p s = map-change-front c (move p s) ∙ ap (changeFront (changed isB (f x) c)) (map-move p s)
 
 -- ---- where the mark is found
 
@@ -123,11 +123,11 @@ AbleIn Change.Clear b xs = holds b xs ≡ true
 AbleIn Change.Lift b xs = holds b xs ≡ true
 AbleIn Change.Push b xs = Unit {0}
 
--- what a deed needs
-abbrev pub Able : Deed → ℕ → ℕ → State ℕ → Type 0
-Able Deed.New p b s = Unit {0}
-Able (Deed.InFront c) p b s = AbleIn c b (front s .screens)
-Able (Deed.MoveAnd c) p b s = (p ≤ count s) × (p ≤ 1 → AbleIn c b (front s .screens))
+-- what an effect needs
+abbrev pub Able : Effect → ℕ → ℕ → State ℕ → Type 0
+Able Effect.New p b s = Unit {0}
+Able (Effect.InFront c) p b s = AbleIn c b (front s .screens)
+Able (Effect.MoveAnd c) p b s = (p ≤ count s) × (p ≤ 1 → AbleIn c b (front s .screens))
 
 -- a session whose front screen is x
 module _ (s : State ℕ) (b r x : ℕ) (xs : List ℕ) (ts : List (Stack ℕ)) where
@@ -209,15 +209,15 @@ module _ (s : State ℕ) (b r x : ℕ) (xs : List ℕ) (ts : List (Stack ℕ)) w
   moved-mark o c (u ∷ us) l h =
       marked-second o _ (stack r (markedX ∷ below)) markedX below us (changed-unmarked c (u .screens) (h .0)) refl refl
 
-  carry-mark : (d : Deed) (p : ℕ) (same : Bool) → eqb b x ≡ same → Able d p b before
+  carry-mark : (d : Effect) (p : ℕ) (same : Bool) → eqb b x ≡ same → Able d p b before
       → closeMarked (carryOut isBmarked b (unmarked b) d p (markFront before))
       ≡ closeAt (markAfter d p same) (carryOut isBmarked b (unmarked b) d p (markFront before))
   unfolding carryOut markFront mapState putNew changeFront move
-  carry-mark Deed.New p same e h = marked-second (putNew b (unmarked b) (mapState unmarked s)) (stack b (unmarked b ∷ [])) (stack r (markedX ∷ below)) markedX below others (refl, tt) refl refl
-  carry-mark (Deed.InFront c) p same e h = front-mark (mapState unmarked s) c same e h
-  carry-mark (Deed.MoveAnd c) zero same e h = front-mark (move 0 (mapState unmarked s)) c same e (h .1 (omega arith))
-  carry-mark (Deed.MoveAnd c) (suc zero) same e h = front-mark (move 1 (mapState unmarked s)) c same e (h .1 (omega arith))
-  carry-mark (Deed.MoveAnd c) (suc (suc k)) same e h =
+  carry-mark Effect.New p same e h = marked-second (putNew b (unmarked b) (mapState unmarked s)) (stack b (unmarked b ∷ [])) (stack r (markedX ∷ below)) markedX below others (refl, tt) refl refl
+  carry-mark (Effect.InFront c) p same e h = front-mark (mapState unmarked s) c same e h
+  carry-mark (Effect.MoveAnd c) zero same e h = front-mark (move 0 (mapState unmarked s)) c same e (h .1 (omega arith))
+  carry-mark (Effect.MoveAnd c) (suc zero) same e h = front-mark (move 1 (mapState unmarked s)) c same e (h .1 (omega arith))
+  carry-mark (Effect.MoveAnd c) (suc (suc k)) same e h =
       rw (lt-leb (suc (suc k)) 1 (omega arith))
       (moved-mark (move (suc (suc k)) (mapState unmarked s)) c (toFront k others) (omega (arith, toFront-length k others, length-map ts (mapScreens unmarked), h .0))
       (All-toFront (λ t. Unmarked (t .screens)) k others (unheld-all ts)))
@@ -237,7 +237,7 @@ module _ (s : State ℕ) (b r x : ℕ) (xs : List ℕ) (ts : List (Stack ℕ)) w
       plains (u ∷ us) = ap₂ (λ (zs : List ℕ) (vs : List (Stack ℕ)). stack (u .root) zs ∷ vs) (plain (u .screens)) (plains us)
 
   -- a finishing start is the start, and then the screen at the mark's position closes
-  pub finished-carry : (d : Deed) (p : ℕ) → Able d p b before
+  pub finished-carry : (d : Effect) (p : ℕ) → Able d p b before
       → mapState (λ y. y .screen) (closeMarked (carryOut isBmarked b (unmarked b) d p (markFront before)))
       ≡ closeAt (markAfter d p (eqb b x)) (carryOut (eqb b) b b d p before)
   finished-carry d p h =

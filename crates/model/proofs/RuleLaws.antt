@@ -82,7 +82,7 @@ module _ (tb : List ℕ) (s : State ℕ) (b : ℕ) (f : Flags) where
   unfolding rulesOf fits
   group-fits Group.Instance h = true≢false (h .1 .0)
   group-fits Group.Task h = true≢false (h .1 .1 .1 .0)
-  group-fits Group.Near h = true≢false (h .1 .1 .1 .0)
+  group-fits Group.NotApart h = true≢false (h .1 .1 .1 .0)
   group-fits Group.Apart h = true≢false (h .1 .1 .1 .1 .1 .1 .1 .0)
 
   -- "The first rule that fits is used": the rule chosen stands in its group and fits, and no earlier one of the group does

@@ -18,13 +18,13 @@ use Rattle.model.specs.Session.{Stack, State, noStack, taskAt, front, fr
 use Rattle.model.specs.Flags.{flagsOf, hasOtherBit}
 use Rattle.model.specs.Search.{placeOf, isFound, isFoundByRoot, hasRoot, hasAffinity, seekRoot, seekAffinity, seek, holds}
 use Rattle.model.specs.Rules.{rulesOf, isApart, groupOf, soughtBy, taskFound, fits, chooseIn, choose}
-use Rattle.model.specs.Deeds.{deedOf}
+use Rattle.model.specs.Effects.{effectOf}
 use Rattle.model.specs.Calls.{chosen, started, startChecks, makesTask, overfills}
 use Rattle.model.proofs.Logic.{All-map, All-of, All-at, if-elim, first-elim, never, contradiction, and-left, and-right, or-false-right}
 use Rattle.model.proofs.ListLaws.{found-at, found-none, isEmpty-length}
 use Rattle.model.proofs.RefusalLaws.{refusal-skip}
 use Rattle.model.proofs.Sound.{TaskSound, Sound, Plain}
-use Rattle.model.proofs.Deeds.{IsPlaceIn, Takes, RootFree, Ready, carry-sound}
+use Rattle.model.proofs.Effects.{IsPlaceIn, Takes, RootFree, Ready, carry-sound}
 
 -- ---- what a search tells
 
@@ -82,7 +82,7 @@ module _ (tb : List ℕ) (s : State ℕ) (b : ℕ) where
 module _ (tb : List ℕ) (s : State ℕ) (b : ℕ) where
   -- the rule can be carried out, where t was found
   abbrev pub RuleReady : Found → Rule → Type 0
-  RuleReady t r = Ready tb b s (deedOf r) (placeOf t)
+  RuleReady t r = Ready tb b s (effectOf r) (placeOf t)
 
   abbrev pub ChoiceReady : Choice → Type 0
   ChoiceReady c = RuleReady (c .found) (c .rule)
@@ -92,7 +92,7 @@ module _ (tb : List ℕ) (s : State ℕ) (b : ℕ) (f : Flags) where
   FirstReady g t = RuleReady tb s b t (first Rule.R18 (fits tb s b f t) (rulesOf g))
 
   instance-ready : (t : Found) → Sought tb s b t → FirstReady Group.Instance t
-  unfolding fits rulesOf deedOf
+  unfolding fits rulesOf effectOf
   instance-ready t h =
       first-elim (RuleReady tb s b t) Rule.R18 (fits tb s b f t) (rulesOf Group.Instance)
       (λ x. (found-inside tb s b t x h, tt), λ x. (λ _. nowhere-free tb s b t x h, never))
@@ -113,7 +113,7 @@ module _ (tb : List ℕ) (s : State ℕ) (b : ℕ) (f : Flags) where
       takes-held e k = (found-inside tb s b t e h, (found-takes t e h, k))
 
       task-ready : FirstReady Group.Task t
-      unfolding fits rulesOf deedOf
+      unfolding fits rulesOf effectOf
       task-ready =
           first-elim (RuleReady tb s b t) Rule.R18 (fits tb s b f t) (rulesOf Group.Task) (
             λ x. takes (and-left _ _ x),
@@ -121,7 +121,7 @@ module _ (tb : List ℕ) (s : State ℕ) (b : ℕ) (f : Flags) where
           )
 
       apart-ready : RootFree tb b (s .tasks) → FirstReady Group.Apart t
-      unfolding fits rulesOf deedOf
+      unfolding fits rulesOf effectOf
       apart-ready free =
           first-elim (RuleReady tb s b t) Rule.R18 (fits tb s b f t) (rulesOf Group.Apart) (
             λ _. free,
@@ -156,11 +156,11 @@ module _ (tb : List ℕ) (s : State ℕ) (b : ℕ) (f : Flags) where
               sym q ∙ ap (isSingleInstance tb) (sym (ap (λ (l : List ℕ). getD l 0 0) (k .lone q))) ∙ e
           go false q = refl
 
-      near-ready : Plain tb (frontScreen s) → FirstReady Group.Near Found.Nowhere
-      unfolding fits rulesOf deedOf
+      near-ready : Plain tb (frontScreen s) → FirstReady Group.NotApart Found.Nowhere
+      unfolding fits rulesOf effectOf
       near-ready e =
           let k : Takes tb b (front s) = record { plainRoot = front-root e; plainScreen = plain } in
-          first-elim (RuleReady tb s b Found.Nowhere) Rule.R18 (fits tb s b f Found.Nowhere) (rulesOf Group.Near) (
+          first-elim (RuleReady tb s b Found.Nowhere) Rule.R18 (fits tb s b f Found.Nowhere) (rulesOf Group.NotApart) (
             λ _. (some, tt),
             λ _. (λ x. (some, (k, and-right (f .ctp) _ x)), λ _. (λ x. (some, (k, and-right (f .rtf) _ x)), λ _. (λ _. (some, k), never))),
           )
@@ -185,8 +185,8 @@ module _ (tb : List ℕ) (s : State ℕ) (b w : ℕ) where
     pub known : b < sizeOf tb
     pub sixOnly : hasOtherBit w ≡ false
     pub some : 1 ≤ count s
-    pub taskFits : (makesTask (deedOf (chosen tb s b w .rule)) && eqb (count s) mostTasks) ≡ false
-    pub screenFits : overfills (deedOf (chosen tb s b w .rule)) (placeOf (chosen tb s b w .found)) s ≡ false
+    pub taskFits : (makesTask (effectOf (chosen tb s b w .rule)) && eqb (count s) mostTasks) ≡ false
+    pub screenFits : overfills (effectOf (chosen tb s b w .rule)) (placeOf (chosen tb s b w .found)) s ≡ false
 
   pub start-accepted : refusal (startChecks tb s b w) ≡ 0 → Accepted
   start-accepted e =
@@ -208,5 +208,5 @@ pub started-sound : (tb : List ℕ) (s : State ℕ) (b w : ℕ)
 unfolding started
 started-sound tb s b w h e =
     let a = start-accepted tb s b w e in
-    carry-sound tb b (a .known) (deedOf (chosen tb s b w .rule)) (placeOf (chosen tb s b w .found)) s
+    carry-sound tb b (a .known) (effectOf (chosen tb s b w .rule)) (placeOf (chosen tb s b w .found)) s
     (choose-ready tb s b (flagsOf w) h (a .some)) (a .taskFits) (a .screenFits) h

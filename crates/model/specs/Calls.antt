@@ -7,7 +7,7 @@ use lib.ListN.{length, drop}
 use Rattle.model.specs.declared.Answer.{Answer}
 use Rattle.model.specs.declared.Choice.{Choice}
 use Rattle.model.specs.declared.Change.{Change}
-use Rattle.model.specs.declared.Deed.{Deed}
+use Rattle.model.specs.declared.Effect.{Effect}
 use Rattle.model.specs.Lists.{if_then_else_, isEmpty, isPlace, find, onFirst}
 use Rattle.model.specs.Refusals.{Check, check, refusal}
 use Rattle.model.specs.Table.{sizeOf, mainScreen, tableChecks}
@@ -15,7 +15,7 @@ use Rattle.model.specs.Session.{Stack, State, stack, state, taskAt, fron
 use Rattle.model.specs.Flags.{flagsOf, hasOtherBit}
 use Rattle.model.specs.Search.{placeOf}
 use Rattle.model.specs.Rules.{choose}
-use Rattle.model.specs.Deeds.{deedOf, changeFront, carryOut, close}
+use Rattle.model.specs.Effects.{effectOf, changeFront, carryOut, close}
 use Rattle.model.specs.Answers.{Outcome, outcome, lookAt, settle}
 use Rattle.model.specs.Image.{image, imageChecks, sessionIn}
 
@@ -34,7 +34,7 @@ chosen tb s b w = choose tb s b (flagsOf w)
 
 -- the choice carried out, on screens of any kind
 abbrev pub carryChoice : {A : Type 0} → (A → Bool) → ℕ → A → Choice → State A → State A
-carryChoice isB b newB c s = carryOut isB b newB (deedOf (c .rule)) (placeOf (c .found)) s
+carryChoice isB b newB c s = carryOut isB b newB (effectOf (c .rule)) (placeOf (c .found)) s
 
 -- a start by the rule chosen
 abbrev pub startedBy : Choice → ℕ → State ℕ → State ℕ
@@ -109,10 +109,10 @@ backed s = close 1 0 s
 
 -- ---- checks
 
-abbrev pub makesTask : Deed → Bool
-makesTask Deed.New = true
-makesTask (Deed.InFront c) = false
-makesTask (Deed.MoveAnd c) = false
+abbrev pub makesTask : Effect → Bool
+makesTask Effect.New = true
+makesTask (Effect.InFront c) = false
+makesTask (Effect.MoveAnd c) = false
 
 abbrev pub isPush : Change → Bool
 isPush Change.Keep = false
@@ -122,16 +122,16 @@ isPush Change.Lift = false
 isPush Change.Push = true
 
 -- a push "(not after empty)" onto a task of the greatest height; p is the place of the task found
-abbrev pub overfills : Deed → ℕ → State ℕ → Bool
-overfills Deed.New p s = false
-overfills (Deed.InFront c) p s = isPush c && eqb (height (front s)) mostHeight
-overfills (Deed.MoveAnd c) p s = isPush c && eqb (height (taskAt (s .tasks) p)) mostHeight
+abbrev pub overfills : Effect → ℕ → State ℕ → Bool
+overfills Effect.New p s = false
+overfills (Effect.InFront c) p s = isPush c && eqb (height (front s)) mostHeight
+overfills (Effect.MoveAnd c) p s = isPush c && eqb (height (taskAt (s .tasks) p)) mostHeight
 
 -- "23: a new task is needed and n = 16", "24: a push onto a task of 32 (not after empty)"
 abbrev pub roomChecks : Choice → State ℕ → List Check
 roomChecks c s =
-    check 23 (makesTask (deedOf (c .rule)) && eqb (count s) mostTasks)
-    ∷ check 24 (overfills (deedOf (c .rule)) (placeOf (c .found)) s)
+    check 23 (makesTask (effectOf (c .rule)) && eqb (count s) mostTasks)
+    ∷ check 24 (overfills (effectOf (c .rule)) (placeOf (c .found)) s)
     ∷ []
 
 -- "Start checks 3, 4, 21, then 23 or 24." "3: start: B not below N", "4: start: a bit outside the six",

@@ -6,7 +6,7 @@ pub mod Session
 pub mod Flags
 pub mod Search
 pub mod Rules
-pub mod Deeds
+pub mod Effects
 pub mod Answers
 pub mod Image
 pub mod Calls

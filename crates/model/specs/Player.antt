@@ -82,19 +82,19 @@ recordsIn (k ∷ b ∷ w₃ ∷ w₂ ∷ w₁ ∷ []) = recordOf k unplayable �
 recordsIn (k ∷ b ∷ w₃ ∷ w₂ ∷ w₁ ∷ w₀ ∷ rest) = recordOf k (requestOf k b (wordOf w₃ w₂ w₁ w₀)) ∷ recordsIn rest
 
 -- "Refusal 9 comes before all checks of the call, prints the kind byte, 9 and a refusal's zeros, and reading goes on."
-unfoldable pub reply : List ℕ → State ℕ → Request → Outcome
-reply tb s unplayable = outcome s (refused 9)
-reply tb s (asks c) = call tb s c
+unfoldable pub outcomeOf : List ℕ → State ℕ → Request → Outcome
+outcomeOf tb s unplayable = outcome s (refused 9)
+outcomeOf tb s (asks c) = call tb s c
 
 -- "One line a record": the text of a list of records, and the session after it
 unfoldable pub textOf : List ℕ → State ℕ → List Record → List ℕ
 textOf tb s [] = []
 textOf tb s (r ∷ rs) =
-    lineOf (r .kind) (reply tb s (r .request) .answer) ++ textOf tb (reply tb s (r .request) .session) rs
+    lineOf (r .kind) (outcomeOf tb s (r .request) .answer) ++ textOf tb (outcomeOf tb s (r .request) .session) rs
 
 unfoldable pub sessionAfter : List ℕ → State ℕ → List Record → State ℕ
 sessionAfter tb s [] = s
-sessionAfter tb s (r ∷ rs) = sessionAfter tb (reply tb s (r .request) .session) rs
+sessionAfter tb s (r ∷ rs) = sessionAfter tb (outcomeOf tb s (r .request) .session) rs
 
 -- ---- the whole input
 

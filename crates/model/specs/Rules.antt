@@ -17,7 +17,7 @@ use Rattle.model.specs.Search.{placeOf, isFound, isFoundByRoot, seekRoot
 unfoldable pub rulesOf : Group → List Rule
 rulesOf Group.Instance = Rule.R1 ∷ Rule.R2 ∷ []
 rulesOf Group.Task = Rule.R3 ∷ Rule.R4 ∷ Rule.R5 ∷ Rule.R6 ∷ []
-rulesOf Group.Near = Rule.R7 ∷ Rule.R8 ∷ Rule.R9 ∷ Rule.R10 ∷ []
+rulesOf Group.NotApart = Rule.R7 ∷ Rule.R8 ∷ Rule.R9 ∷ Rule.R10 ∷ []
 rulesOf Group.Apart = Rule.R11 ∷ Rule.R12 ∷ Rule.R13 ∷ Rule.R14 ∷ Rule.R15 ∷ Rule.R16 ∷ Rule.R17 ∷ Rule.R18 ∷ []
 
 -- a start of the screen b, with the flags f, in the session s, whose front screen is A
@@ -34,14 +34,14 @@ module _ (tb : List ℕ) (s : State ℕ) (b : ℕ) (f : Flags) where
   groupOf =
       if isSingleInstance tb b then Group.Instance else
       if isSingleTask tb b then Group.Task else
-      if isApart then Group.Apart else Group.Near
+      if isApart then Group.Apart else Group.NotApart
 
   -- how each group seeks a task: "found by root"; "sought by root, then by affinity"; not at all; "R11 MTK: new. Then
   -- sought by root, then by affinity."
   unfoldable pub soughtBy : Group → Found
   soughtBy Group.Instance = seekRoot b (s .tasks)
   soughtBy Group.Task = seek tb b (s .tasks)
-  soughtBy Group.Near = Found.Nowhere
+  soughtBy Group.NotApart = Found.Nowhere
   soughtBy Group.Apart = if f .mtk then Found.Nowhere else seek tb b (s .tasks)
 
   -- the task found

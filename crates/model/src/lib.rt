@@ -53,7 +53,7 @@ pub enum Rule {
 pub enum Group {
     Instance,
     Task,
-    Near,
+    NotApart,
     Apart,
 }
 
@@ -80,7 +80,7 @@ pub enum Change {
 }
 
 // What a rule does: a new task; a change of the front task; or a move and a change of the task moved.
-pub enum Deed {
+pub enum Effect {
     New,
     InFront(Change),
     MoveAnd(Change),

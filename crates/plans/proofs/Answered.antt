@@ -15,7 +15,7 @@ use Rattle.session.specs.Stored.{view, noTask, blankTask, taskBehind}
 use Rattle.session.proofs.Known.{Sized}
 use Rattle.answer.specs.Seen.{Seen}
 use Rattle.answer.proofs.LookLaws.{look-fronted}
-use Rattle.deeds.specs.Rows.{shifted}
+use Rattle.effects.specs.Rows.{shifted}
 use Rattle.plans.specs.declared.Plan.{Plan}
 use Rattle.plans.specs.Puts.{poppedIf, goneIf, rowOf, putOf}
 use Rattle.plans.specs.Shown.{shownBy, answerFor, Showable, Uncovers}

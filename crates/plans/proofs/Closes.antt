@@ -16,13 +16,13 @@ use Rattle.session.specs.declared.Task.{Task}
 use Rattle.session.specs.Stored.{view, hold, noTask, withTasks, withCount, withMain, storageBlank, Ready, taskBehind}
 use Rattle.session.proofs.Known.{Sized}
 use Rattle.session.proofs.StoredLaws.{held, stored-height}
-use Rattle.deeds.specs.Rows.{shifted}
-use Rattle.deeds.proofs.Fronts.{counted}
+use Rattle.effects.specs.Rows.{shifted}
+use Rattle.effects.proofs.Fronts.{counted}
 use Rattle.closing.specs.Closable.{Closable}
 use Rattle.closing.proofs.Closed.{screen-there, screen-closed, top-closed, back-closable}
 use Rattle.plans.specs.declared.Plan.{Plan}
 use Rattle.plans.specs.Puts.{putOf, Puttable}
-use Rattle.plans.specs.Plans.{stillOf, closes, Near, Opens}
+use Rattle.plans.specs.Plans.{stillOf, closes, NearFront, Opens}
 use Rattle.plans.proofs.Gone.{task-goes}
 
 -- ---- a marked screen
@@ -33,7 +33,7 @@ module _ (c : Session) (t : Task) (k n m : ℕ) where
   putIn = withMain (withCount (withTasks c (shifted t k (c .tasks))) n) m
 
   module _ (z : Sized putIn) (blank : storageBlank putIn ≡ true) where
-    pub plan-closes : (mark : Mark) → Near mark → Stands mark (view putIn)
+    pub plan-closes : (mark : Mark) → NearFront mark → Stands mark (view putIn)
         → (one one′ : Bool) → leb (t .height) 1 ≡ one
         → ((j i : ℕ) → mark ≡ Mark.Stands (suc j) i → leb (taskBehind putIn 1 .height) 1 ≡ one′)
         → putOf c (closes mark one one′ t k n m) ≡ hold (closeAt mark (view putIn))
@@ -51,7 +51,7 @@ module _ (c : Session) (t : Task) (k n m : ℕ) where
     plan-closes (Mark.Stands (suc (suc j)) i) near there one one′ e f = absurd (omega (arith, near .0))
 
     -- and it can be put
-    pub plan-puttable : k < mostTasks → (mark : Mark) → Near mark → Stands mark (view putIn) → (one one′ : Bool)
+    pub plan-puttable : k < mostTasks → (mark : Mark) → NearFront mark → Stands mark (view putIn) → (one one′ : Bool)
         → ((j i : ℕ) → mark ≡ Mark.Stands (suc j) i → leb (taskBehind putIn 1 .height) 1 ≡ one′) → Puttable c (closes mark one one′ t k n m)
     plan-puttable l Mark.Gone near there one one′ f = record { few = l; second = λ e. absurd (false≢true e) }
     plan-puttable l (Mark.Stands zero i) near there true one′ f = record { few = l; second = λ e. absurd (false≢true e) }

@@ -7,14 +7,14 @@ use native.Mathlib.Omega.{arith}
 use lib.ListN.{length, getD, replicate, length-map, replicate-append-replicate}
 use Rattle.model.specs.Lists.{omit}
 use Rattle.model.specs.Session.{State, onTasks, onMain, count, mostTasks}
-use Rattle.model.specs.Deeds.{mainWithout, withoutTask, close}
+use Rattle.model.specs.Effects.{mainWithout, withoutTask, close}
 use Rattle.model.proofs.ListLaws.{omit-length, map-omit}
 use Rattle.session.specs.declared.Session.{Session}
 use Rattle.session.specs.Stored.{view, hold, holdTask, pad, noTask, blankTask, withTasks, withCount, withMain, storageBlank}
 use Rattle.session.proofs.Known.{Sized}
 use Rattle.session.proofs.StoredLaws.{held, blank-few}
 use Rattle.session.proofs.SessionLaws.{hold-row}
-use Rattle.deeds.proofs.Fronts.{counted}
+use Rattle.effects.proofs.Fronts.{counted}
 use Rattle.closing.specs.Closable.{Closable}
 use Rattle.closing.proofs.Closed.{task-there, task-closed, screen-there}
 

@@ -14,7 +14,7 @@ use Rattle.model.specs.Session.{mostTasks}
 use Rattle.session.specs.declared.Session.{Session}
 use Rattle.session.specs.declared.Task.{Task}
 use Rattle.session.specs.Stored.{noTask, blankTask, withTasks, withCount, withMain, popped}
-use Rattle.deeds.specs.Rows.{shifted, closedUp}
+use Rattle.effects.specs.Rows.{shifted, closedUp}
 use Rattle.closing.proofs.Gaps.{closingIn, closes-begin, closes-end}
 use Rattle.plans.specs.declared.Plan.{Plan}
 use Rattle.plans.specs.Puts.{poppedIf, goneIf, putOf, frontAlone}

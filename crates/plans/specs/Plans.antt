@@ -6,7 +6,7 @@ use lib.Dec.{eqb, ltb}
 use Rattle.model.specs.declared.Mark.{Mark}
 use Rattle.model.specs.Lists.{if_then_else_, omit}
 use Rattle.model.specs.Session.{stack}
-use Rattle.model.specs.Deeds.{mainWithout}
+use Rattle.model.specs.Effects.{mainWithout}
 use Rattle.session.specs.declared.Task.{Task}
 use Rattle.session.specs.declared.Session.{Session}
 use Rattle.session.specs.Stored.{viewTask, holdTask, blankAbove, taskBehind}
@@ -67,7 +67,7 @@ abbrev pub Opens : Mark → Task → Type 0
 Opens mark t = (i : ℕ) → mark ≡ Mark.Stands 0 i → (blankAbove t ≡ true) × (i < t .height)
 
 -- it stands in front, or on top of the second task
-abbrev pub Near : Mark → Type 0
-Near Mark.Gone = Unit {0}
-Near (Mark.Stands zero i) = Unit {0}
-Near (Mark.Stands (suc j) i) = (j ≡ 0) × (i ≡ 0)
+abbrev pub NearFront : Mark → Type 0
+NearFront Mark.Gone = Unit {0}
+NearFront (Mark.Stands zero i) = Unit {0}
+NearFront (Mark.Stands (suc j) i) = (j ≡ 0) × (i ≡ 0)

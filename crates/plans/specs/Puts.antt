@@ -10,7 +10,7 @@ use Rattle.model.specs.Session.{mostTasks, mostHeight}
 use Rattle.session.specs.declared.Task.{Task}
 use Rattle.session.specs.declared.Session.{Session}
 use Rattle.session.specs.Stored.{noTask, blankTask, withTasks, withCount, withMain, popped}
-use Rattle.deeds.specs.Rows.{shifted}
+use Rattle.effects.specs.Rows.{shifted}
 use Rattle.plans.specs.declared.Plan.{Plan}
 
 -- the task behind the front one loses its top screen

@@ -7,7 +7,7 @@ use native.Mathlib.Omega.{arith}
 use lib.ListN.{length, length-append}
 use Rattle.model.specs.Session.{State}
 use Rattle.model.specs.Answers.{refused}
-use Rattle.model.specs.Player.{Record, recordOf, unplayable, reply, lineOf, textOf, sessionAfter, longestLine}
+use Rattle.model.specs.Player.{Record, recordOf, unplayable, outcomeOf, lineOf, textOf, sessionAfter, longestLine}
 use Rattle.model.specs.Written.{written}
 use Rattle.model.proofs.WrittenLaws.{Wrote, wrote-nil, wrote-append}
 use Rattle.session.specs.declared.Session.{Session}
@@ -17,21 +17,21 @@ use Rattle.session.proofs.StoredLaws.{held}
 use Rattle.calls.specs.declared.Reply.{Reply}
 use Rattle.play.specs.declared.Played.{Played}
 use Rattle.play.specs.Steps.{Playable, replyStored}
-use Rattle.play.specs.Fitting.{fitting, bytesOf, Plays}
+use Rattle.play.specs.Fitting.{fitting, bytesTaken, Plays}
 use Rattle.play.proofs.Replies.{reply-session, reply-answer, reply-playable}
 
 module _ (tb : List ℕ) where
   pub after-append : (rs qs : List Record) (s : State ℕ) → sessionAfter tb s (rs ++ qs) ≡ sessionAfter tb (sessionAfter tb s rs) qs
   unfolding sessionAfter
   after-append [] qs s = refl
-  after-append (r ∷ rs) qs s = after-append rs qs (reply tb s (r .request) .session)
+  after-append (r ∷ rs) qs s = after-append rs qs (outcomeOf tb s (r .request) .session)
 
   pub text-append : (rs qs : List Record) (s : State ℕ) → textOf tb s (rs ++ qs) ≡ textOf tb s rs ++ textOf tb (sessionAfter tb s rs) qs
   unfolding textOf sessionAfter
   text-append [] qs s = refl
   text-append (r ∷ rs) qs s =
-      let line = lineOf (r .kind) (reply tb s (r .request) .answer) in
-      let u = reply tb s (r .request) .session in
+      let line = lineOf (r .kind) (outcomeOf tb s (r .request) .answer) in
+      let u = outcomeOf tb s (r .request) .session in
       ap (λ (l : List ℕ). line ++ l) (text-append rs qs u) ∙ sym (append-assoc line (textOf tb u rs) (textOf tb (sessionAfter tb u rs) qs))
 
 -- the session c and the text d′ up to `at` that the records rs leave, from the session v and the buffer d
@@ -53,8 +53,8 @@ pub reached-more : {tb out out′ out″ : List ℕ} {v : State ℕ} {rs : List 
 unfolding textOf sessionAfter
 reached-more {tb} {out} {out′} {out″} {v} {rs} {c} {at} {next} h fits r {d} e w =
     let q = r .request in
-    let line = lineOf (r .kind) (reply tb (view c) q .answer) in
-    let told : d .answer ≡ reply tb (view c) q .answer = ap (λ (x : Reply). x .answer) e ∙ reply-answer tb c (h .sized) (h .playable) q in
+    let line = lineOf (r .kind) (outcomeOf tb (view c) q .answer) in
+    let told : d .answer ≡ outcomeOf tb (view c) q .answer = ap (λ (x : Reply). x .answer) e ∙ reply-answer tb c (h .sized) (h .playable) q in
     let k : textOf tb v (rs ++ (r ∷ [])) ≡ textOf tb v rs ++ line =
     text-append tb rs (r ∷ []) v ∙ rw (← (h .session)) (ap (λ (l : List ℕ). textOf tb v rs ++ l) (append-nil line)) in
     let (playable, sizes) = reply-playable tb c (h .sized) (h .playable) q in
@@ -85,7 +85,7 @@ pub plays-cut : {tb d d′ d″ : List ℕ} {rs : List Record} {s : Session} {p 
     → Plays tb s rs d d′ p → (kind : ℕ) → Wrote d′ (p .written) (lineOf kind (refused 9)) d″ next
     → p .written ≤ length d → next ≤ p .written + longestLine
     → (used : ℕ) → Plays tb s (rs ++ (recordOf kind unplayable ∷ [])) d d″ (record { session = p .session; used = used; written = next })
-unfolding textOf sessionAfter reply
+unfolding textOf sessionAfter outcomeOf
 plays-cut {tb} {d} {d′} {d″} {rs} {s} {p} {next} h kind w fits b used =
     let line = lineOf kind (refused 9) in
     let e : textOf tb (view s) (rs ++ (recordOf kind unplayable ∷ [])) ≡ textOf tb (view s) rs ++ line =
@@ -102,9 +102,9 @@ plays-cut {tb} {d} {d′} {d″} {rs} {s} {p} {next} h kind w fits b used =
 
 -- the clauses of `play`, where rs are the records that fit
 pub plays-clauses : {tb d d′ : List ℕ} {rs : List Record} {s : Session} {p : Played}
-    → Plays tb s rs d d′ p → (input : List ℕ) → fitting input d ≡ rs → p .used ≡ bytesOf input rs → longestLine * length rs ≤ length d
+    → Plays tb s rs d d′ p → (input : List ℕ) → fitting input d ≡ rs → p .used ≡ bytesTaken input rs → longestLine * length rs ≤ length d
     → (p .session ≡ hold (sessionAfter tb (view s) (fitting input d)))
-    × ((p .used ≡ bytesOf input (fitting input d))
+    × ((p .used ≡ bytesTaken input (fitting input d))
     × ((p .written ≡ length (textOf tb (view s) (fitting input d)))
     × ((d′ ≡ written d 0 (textOf tb (view s) (fitting input d)))
     × (Playable tb (p .session) × (p .written ≤ length d)))))

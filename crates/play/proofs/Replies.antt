@@ -9,8 +9,7 @@ use Rattle.model.specs.Table.{tableRefusal}
 use Rattle.model.specs.Session.{State, fresh, mostTasks, sound}
 use Rattle.model.specs.Answers.{outcome, refused, settle}
 use Rattle.model.specs.Calls.{ownChecks, done, answerTo, refusalOf, call}
-use Rattle.model.specs.Player.{Request, unplayable, asks, requestOf}
-use Rattle.model.specs.Player as player
+use Rattle.model.specs.Player.{Request, unplayable, asks, requestOf, outcomeOf}
 use Rattle.model.proofs.RefusalLaws.{checks-bad-table}
 use Rattle.model.proofs.Sound.{Sound}
 use Rattle.model.proofs.Keeps.{fresh-sound, call-sound}
@@ -93,8 +92,8 @@ module _ (tb : List ℕ) (c : Session) (z : Sized c) (p : Playable tb c) where
   same = held c z (p .blank)
 
   -- under a refused table every call is refused
-  bad-stored : (n : ℕ) → tableRefusal tb ≡ suc n → (q : Request) → replyStored tb c q ≡ storedOutcome (player.reply tb (view c) q)
-  unfolding player.reply call refusalOf
+  bad-stored : (n : ℕ) → tableRefusal tb ≡ suc n → (q : Request) → replyStored tb c q ≡ storedOutcome (outcomeOf tb (view c) q)
+  unfolding outcomeOf call refusalOf
   bad-stored n e unplayable = ap (λ (d : Session). reply d (refused 9)) (sym same)
   bad-stored n e (asks k) =
       call-refused tb c k (suc n) (shared-bad-table tb c (suc n) e (λ o. omega arith)) (λ o. omega arith)
@@ -102,27 +101,27 @@ module _ (tb : List ℕ) (c : Session) (z : Sized c) (p : Playable tb c) where
       ∙ sym (ap (λ (m : ℕ). storedOutcome (settle outcome m (view c) (done tb (view c) k) (answerTo tb (view c) k)))
       (checks-bad-table tb n (sound tb (view c)) (ownChecks tb (view c) k) e))
 
-  good-stored : tableRefusal tb ≡ 0 → (q : Request) → replyStored tb c q ≡ storedOutcome (player.reply tb (view c) q)
-  unfolding player.reply
+  good-stored : tableRefusal tb ≡ 0 → (q : Request) → replyStored tb c q ≡ storedOutcome (outcomeOf tb (view c) q)
+  unfolding outcomeOf
   good-stored e unplayable = ap (λ (d : Session). reply d (refused 9)) (sym same)
   good-stored e (asks k) = rw same at (call-held tb e (view c) (sound-view tb c (p .sound e)) k)
 
-  pub reply-stored : (q : Request) → replyStored tb c q ≡ storedOutcome (player.reply tb (view c) q)
+  pub reply-stored : (q : Request) → replyStored tb c q ≡ storedOutcome (outcomeOf tb (view c) q)
   reply-stored q = go (tableRefusal tb) refl
     where
-      go : (n : ℕ) → tableRefusal tb ≡ n → replyStored tb c q ≡ storedOutcome (player.reply tb (view c) q)
+      go : (n : ℕ) → tableRefusal tb ≡ n → replyStored tb c q ≡ storedOutcome (outcomeOf tb (view c) q)
       go zero e = good-stored e q
       go (suc n) e = bad-stored n e q
 
   -- ---- the session after it
 
-  reply-sound : tableRefusal tb ≡ 0 → (q : Request) → Sound tb (player.reply tb (view c) q .session)
-  unfolding player.reply
+  reply-sound : tableRefusal tb ≡ 0 → (q : Request) → Sound tb (outcomeOf tb (view c) q .session)
+  unfolding outcomeOf
   reply-sound e unplayable = sound-view tb c (p .sound e)
   reply-sound e (asks k) = call-sound tb e (view c) (sound-view tb c (p .sound e)) k
 
-  bad-kept : (n : ℕ) → tableRefusal tb ≡ suc n → (q : Request) → player.reply tb (view c) q .session ≡ view c
-  unfolding player.reply call refusalOf
+  bad-kept : (n : ℕ) → tableRefusal tb ≡ suc n → (q : Request) → outcomeOf tb (view c) q .session ≡ view c
+  unfolding outcomeOf call refusalOf
   bad-kept n e unplayable = refl
   bad-kept n e (asks k) =
       ap (λ (m : ℕ). settle outcome m (view c) (done tb (view c) k) (answerTo tb (view c) k) .session)
@@ -132,14 +131,14 @@ module _ (tb : List ℕ) (c : Session) (z : Sized c) (p : Playable tb c) where
   reply-playable q = rw (reply-stored q) (go (tableRefusal tb) refl)
     where
       u : State ℕ
-      u = player.reply tb (view c) q .session
+      u = outcomeOf tb (view c) q .session
 
       go : (n : ℕ) → tableRefusal tb ≡ n → Playable tb (hold u) × Sized (hold u)
       go zero e = let h = reply-sound e q in (sound-playable tb u h, sound-sized tb u h)
       go (suc n) e = rw (bad-kept n e q, same) (p, z)
 
-  pub reply-session : (q : Request) → view (replyStored tb c q .session) ≡ player.reply tb (view c) q .session
-  reply-session q = ap (λ (r : Reply). view (r .session)) (reply-stored q) ∙ view-hold (player.reply tb (view c) q .session)
+  pub reply-session : (q : Request) → view (replyStored tb c q .session) ≡ outcomeOf tb (view c) q .session
+  reply-session q = ap (λ (r : Reply). view (r .session)) (reply-stored q) ∙ view-hold (outcomeOf tb (view c) q .session)
 
-  pub reply-answer : (q : Request) → replyStored tb c q .answer ≡ player.reply tb (view c) q .answer
+  pub reply-answer : (q : Request) → replyStored tb c q .answer ≡ outcomeOf tb (view c) q .answer
   reply-answer q = ap (λ (r : Reply). r .answer) (reply-stored q)

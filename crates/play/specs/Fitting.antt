@@ -18,8 +18,8 @@ abbrev pub fitting : List ℕ → List ℕ → List Record
 fitting input out = take (length out / longestLine) (recordsIn input)
 
 -- the bytes of these records, of which the input's last one may be cut
-abbrev pub bytesOf : List ℕ → List Record → ℕ
-bytesOf input rs = min (length input) (6 * length rs)
+abbrev pub bytesTaken : List ℕ → List Record → ℕ
+bytesTaken input rs = min (length input) (6 * length rs)
 
 -- the fields of that record: "kind .., screen, flag word high byte first"
 abbrev pub fieldsAt : List ℕ → ℕ → Fields

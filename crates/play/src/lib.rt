@@ -8,7 +8,7 @@ ghost use Rattle.model.specs.Player.{requestOf, recordsIn, textOf, sessionAfter
 ghost use Rattle.model.specs.Written.{written as writtenInto};
 ghost use Rattle.session.specs.Stored.{view, hold, Ready};
 ghost use Rattle.play.specs.Steps.{Playable, isStart, SoughtFor, PlannedFor, planFor};
-ghost use Rattle.play.specs.Fitting.{fitting, bytesOf, fieldsAt, Plays};
+ghost use Rattle.play.specs.Fitting.{fitting, bytesTaken, fieldsAt, Plays};
 use plans::Plan;
 use session::Session;
 use session::Task;
@@ -116,7 +116,7 @@ fn play_whole(table: &[u8], from: Session, input: &[u8], count: usize, out: &mut
 pub fn play(table: &[u8], from: Session, input: &[u8], out: &mut [u8]) -> Played
     requires { ⌜ Playable (now table) from ⌝ }
     ensures session { λ r. ⌜ r .session ≡ hold (sessionAfter (now (table .entry)) (view from) (fitting (now (input .entry)) (now (out .entry)))) ⌝ }
-    ensures used { λ r. ⌜ r .used ≡ bytesOf (now (input .entry)) (fitting (now (input .entry)) (now (out .entry))) ⌝ }
+    ensures used { λ r. ⌜ r .used ≡ bytesTaken (now (input .entry)) (fitting (now (input .entry)) (now (out .entry))) ⌝ }
     ensures written { λ r. ⌜ r .written ≡ length (textOf (now (table .entry)) (view from) (fitting (now (input .entry)) (now (out .entry)))) ⌝ }
     ensures text { λ r. ⌜ now (out .exit) ≡ writtenInto (now (out .entry)) 0 (textOf (now (table .entry)) (view from) (fitting (now (input .entry)) (now (out .entry)))) ⌝ }
     ensures keeps { λ r. ⌜ Playable (now (table .entry)) (r .session) ⌝ }

@@ -1,75 +1,75 @@
 -- A start made on the stored session where it stands, by what was read of it: the rule and the task found, the task at
--- its index, the deed and the place.
+-- its index, the effect and the place.
 use Prim.Native.Nat.{ℕ}
 use mathlib.Core.Path.{_≡_, refl, sym, _∙_, ap}
 use mathlib.Core.List.{List}
 use lib.Dec.{eqb}
-use Rattle.model.specs.declared.Deed.{Deed}
+use Rattle.model.specs.declared.Effect.{Effect}
 use Rattle.model.specs.declared.Flags.{Flags}
 use Rattle.model.specs.declared.Found.{Found}
 use Rattle.model.specs.Session.{top}
 use Rattle.model.specs.Search.{placeOf}
 use Rattle.model.specs.Rules.{choose}
-use Rattle.model.specs.Deeds.{deedOf}
+use Rattle.model.specs.Effects.{effectOf}
 use Rattle.model.specs.Calls.{startedBy, finishedBy}
 use Rattle.model.specs.Marks.{markAfter, closeAt}
 use Rattle.session.specs.declared.Session.{Session}
 use Rattle.session.specs.declared.Task.{Task}
 use Rattle.session.specs.Stored.{view, viewTask, hold, withTasks, withCount, withMain, taskBehind}
 use Rattle.session.proofs.Known.{Sized}
-use Rattle.choice.specs.Startable.{Startable}
-use Rattle.choice.specs.Shows.{indexOf}
-use Rattle.choice.proofs.Tasks.{front-screen}
-use Rattle.choice.proofs.Rooms.{FrontUnsought, unsought}
-use Rattle.deeds.specs.Carriable.{Changeable, Carriable}
-use Rattle.deeds.specs.Fronted.{shiftOf, frontAfter, countAfter, mainAfter}
-use Rattle.deeds.specs.Rows.{shifted}
-use Rattle.deeds.proofs.Fronts.{changeable, carried}
+use Rattle.rules.specs.Startable.{Startable}
+use Rattle.rules.specs.Shows.{indexOf}
+use Rattle.rules.proofs.Tasks.{front-screen}
+use Rattle.rules.proofs.Rooms.{FrontUnsought, unsought}
+use Rattle.effects.specs.Carriable.{Changeable, Carriable}
+use Rattle.effects.specs.Fronted.{shiftOf, frontAfter, countAfter, mainAfter}
+use Rattle.effects.specs.Rows.{shifted}
+use Rattle.effects.proofs.Fronts.{changeable, carried}
 use Rattle.closing.specs.Closable.{Markable}
 use Rattle.starts.specs.Checks.{roomRefusal}
 use Rattle.starts.proofs.StartLaws.{start-carriable, start-sized, start-markable, finish-closes}
 
--- ---- the task at the index of the task found is the one that the deed changes
+-- ---- the task at the index of the task found is the one that the effect changes
 
 module _ (c : Session) (t : Found) where
-  change-read : (d : Deed) → FrontUnsought t d → Changeable d (taskBehind c (shiftOf d (placeOf t) (c .n))) → Changeable d (taskBehind c (indexOf t))
-  change-read Deed.New u h = h
-  change-read (Deed.InFront x) u h = rw u h
-  change-read (Deed.MoveAnd x) u h = h
+  change-read : (d : Effect) → FrontUnsought t d → Changeable d (taskBehind c (shiftOf d (placeOf t) (c .n))) → Changeable d (taskBehind c (indexOf t))
+  change-read Effect.New u h = h
+  change-read (Effect.InFront x) u h = rw u h
+  change-read (Effect.MoveAnd x) u h = h
 
-  front-read : (b : ℕ) (d : Deed) → FrontUnsought t d
+  front-read : (b : ℕ) (d : Effect) → FrontUnsought t d
       → frontAfter b d (taskBehind c (indexOf t)) ≡ frontAfter b d (taskBehind c (shiftOf d (placeOf t) (c .n)))
-  front-read b Deed.New u = refl
-  front-read b (Deed.InFront x) u = rw u
-  front-read b (Deed.MoveAnd x) u = refl
+  front-read b Effect.New u = refl
+  front-read b (Effect.InFront x) u = rw u
+  front-read b (Effect.MoveAnd x) u = refl
 
 -- ---- what is read for a start
 
 -- the index of the task found, what is done and the place, by the choice of the definition
-pub record Picked (tb : List ℕ) (c : Session) (b : ℕ) (f : Flags) (k : ℕ) (d : Deed) (p : ℕ) : Type 0 where
+pub record Picked (tb : List ℕ) (c : Session) (b : ℕ) (f : Flags) (k : ℕ) (d : Effect) (p : ℕ) : Type 0 where
   pub index : k ≡ indexOf (choose tb (view c) b f .found)
-  pub deed : d ≡ deedOf (choose tb (view c) b f .rule)
+  pub effect : d ≡ effectOf (choose tb (view c) b f .rule)
   pub place : p ≡ placeOf (choose tb (view c) b f .found)
 
 -- where there is room
 module _ {tb : List ℕ} {c : Session} {b : ℕ} {f : Flags} (z : Sized c) (h : Startable tb c b) (room : roomRefusal tb c b f ≡ 0)
-    {k : ℕ} {d : Deed} {p : ℕ} (i : Picked tb c b f k d p) where
+    {k : ℕ} {d : Effect} {p : ℕ} (i : Picked tb c b f k d p) where
   pub picked-carriable : Carriable c d p
-  picked-carriable = rw (i .deed, i .place) (start-carriable tb c b f z h room)
+  picked-carriable = rw (i .effect, i .place) (start-carriable tb c b f z h room)
 
   pub picked-changeable : Changeable d (taskBehind c k)
   picked-changeable =
       let t = choose tb (view c) b f .found in
-      let n = rw (i .deed, i .place) at (changeable c z p d picked-carriable) in
-      rw (i .index, i .deed) (change-read c t (deedOf (choose tb (view c) b f .rule)) (unsought tb (view c) b f) n)
+      let n = rw (i .effect, i .place) at (changeable c z p d picked-carriable) in
+      rw (i .index, i .effect) (change-read c t (effectOf (choose tb (view c) b f .rule)) (unsought tb (view c) b f) n)
 
-  -- the session with the deed's task in front
+  -- the session with the effect's task in front
   picked-started : withMain (withCount (withTasks c (shifted (frontAfter b d (taskBehind c k)) (shiftOf d p (c .n)) (c .tasks))) (countAfter d (c .n))) (mainAfter d p (c .main))
       ≡ hold (startedBy (choose tb (view c) b f) b (view c))
   picked-started =
       let t = choose tb (view c) b f .found in
-      let r = deedOf (choose tb (view c) b f .rule) in
-      rw (i .index, i .deed, i .place)
+      let r = effectOf (choose tb (view c) b f .rule) in
+      rw (i .index, i .effect, i .place)
       (ap (λ (x : Task). withMain (withCount (withTasks c (shifted x (shiftOf r (placeOf t) (c .n)) (c .tasks))) (countAfter r (c .n))) (mainAfter r (placeOf t) (c .main)))
       (front-read c t b r (unsought tb (view c) b f))
       ∙ sym (carried c z (placeOf t) b r (start-carriable tb c b f z h room)))
@@ -85,8 +85,8 @@ module _ {tb : List ℕ} {c : Session} {b : ℕ} {f : Flags} (z : Sized c) (h : 
 
   module _ {u : Session} (e : u ≡ hold (startedBy (choose tb (view c) b f) b (view c))) {a : ℕ} (g : a ≡ top (viewTask (taskBehind c 0))) where
     pub picked-markable : Markable u d p (eqb b a)
-    picked-markable = rw (e, i .deed, i .place, g, ← front-screen c (h .some)) (start-markable tb c b f z h room)
+    picked-markable = rw (e, i .effect, i .place, g, ← front-screen c (h .some)) (start-markable tb c b f z h room)
 
     pub picked-finished : {v : Session} → v ≡ hold (closeAt (markAfter d p (eqb b a)) (view u)) → v ≡ hold (finishedBy (choose tb (view c) b f) b (view c))
     picked-finished q =
-        rw (q, e, i .deed, i .place, g, ← front-screen c (h .some)) (sym (finish-closes tb c b f z h room))
+        rw (q, e, i .effect, i .place, g, ← front-screen c (h .some)) (sym (finish-closes tb c b f z h room))

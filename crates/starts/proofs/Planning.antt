@@ -9,7 +9,7 @@ use lib.Dec.{eqb, leb}
 use lib.ListN.{length, getD}
 use borrow.Author.Tests.{lt-leb}
 use Rattle.model.specs.declared.Change.{Change}
-use Rattle.model.specs.declared.Deed.{Deed}
+use Rattle.model.specs.declared.Effect.{Effect}
 use Rattle.model.specs.declared.Flags.{Flags}
 use Rattle.model.specs.declared.Mark.{Mark}
 use Rattle.model.specs.Lists.{if_then_else_}
@@ -21,11 +21,11 @@ use Rattle.session.specs.declared.Session.{Session}
 use Rattle.session.specs.declared.Task.{Task}
 use Rattle.session.specs.Stored.{view, viewTask, hold, noTask, storageBlank, taskBehind}
 use Rattle.session.proofs.Known.{Sized}
-use Rattle.choice.specs.Shows.{indexOf}
-use Rattle.choice.specs.Startable.{Startable}
-use Rattle.deeds.specs.Fronted.{shiftOf, frontAfter, countAfter, mainAfter}
-use Rattle.deeds.specs.Rows.{shifted}
-use Rattle.deeds.proofs.Fronts.{shift-low}
+use Rattle.rules.specs.Shows.{indexOf}
+use Rattle.rules.specs.Startable.{Startable}
+use Rattle.effects.specs.Fronted.{shiftOf, frontAfter, countAfter, mainAfter}
+use Rattle.effects.specs.Rows.{shifted}
+use Rattle.effects.proofs.Fronts.{shift-low}
 use Rattle.closing.specs.Closable.{Markable}
 use Rattle.closing.proofs.Closed.{screen-there}
 use Rattle.closing.proofs.Marked.{closable, closed-gone}
@@ -33,18 +33,18 @@ use Rattle.starts.specs.Checks.{roomRefusal}
 use Rattle.starts.proofs.Picks.{Picked, picked-carriable, picked-put, picked-sized, picked-markable, picked-finished}
 use Rattle.plans.specs.declared.Plan.{Plan}
 use Rattle.plans.specs.Puts.{putOf, Puttable}
-use Rattle.plans.specs.Plans.{closes, Near, Opens}
+use Rattle.plans.specs.Plans.{closes, NearFront, Opens}
 use Rattle.plans.specs.Shown.{Uncovers}
 use Rattle.plans.proofs.Closes.{putIn, plan-closes, plan-puttable}
 use Rattle.starts.specs.declared.Chosen.{Chosen}
-use Rattle.starts.specs.Steps.{markOf, made, Plannable, planShift, planMark, planNext, startPlan}
+use Rattle.starts.specs.Steps.{markIf, made, Plannable, planShift, planMark, planNext, startPlan}
 
 -- ---- where a marked screen may stand
 
 -- in front where no task goes back, or on top of the second task where some do
 abbrev Within : Mark → ℕ → Type 0
 Within mark k =
-    Near mark
+    NearFront mark
     × (((i : ℕ) → mark ≡ Mark.Stands 0 i → k ≡ 0) × ((j i : ℕ) → mark ≡ Mark.Stands (suc j) i → 1 ≤ k))
 
 none : (k : ℕ) → Within Mark.Gone k
@@ -71,11 +71,11 @@ within-change Change.Lift true = first 0
 within-change Change.Lift false = first 1
 within-change Change.Push isB = first 1
 
-within : (fin : Bool) (d : Deed) (p n : ℕ) (isB : Bool) → 1 ≤ n → Within (markOf fin d p isB) (shiftOf d p n)
+within : (fin : Bool) (d : Effect) (p n : ℕ) (isB : Bool) → 1 ≤ n → Within (markIf fin d p isB) (shiftOf d p n)
 within false d p n isB some = none (shiftOf d p n)
-within true Deed.New p n isB some = behind n some
-within true (Deed.InFront c) p n isB some = within-change c isB
-within true (Deed.MoveAnd c) p n isB some = go p
+within true Effect.New p n isB some = behind n some
+within true (Effect.InFront c) p n isB some = within-change c isB
+within true (Effect.MoveAnd c) p n isB some = go p
   where
     go : (p : ℕ) → Within (if leb p 1 then markIn c isB else Mark.Stands 1 0) (pred p)
     go zero = within-change c isB
@@ -112,8 +112,8 @@ module _ {tb : List ℕ} {c : Session} {b : ℕ} {f : Flags} (z : Sized c) (h : 
   abbrev found : ℕ
   found = indexOf (choose tb (view c) b f .found)
 
-  pub picks : Picked tb c b f found (x .deed) (x .place)
-  picks = record { index = refl; deed = ok .chosen .deed; place = ok .chosen .place }
+  pub picks : Picked tb c b f found (x .effect) (x .place)
+  picks = record { index = refl; effect = ok .chosen .effect; place = ok .chosen .place }
 
   abbrev next : Task
   next = planNext fin b c t x
@@ -129,12 +129,12 @@ module _ {tb : List ℕ} {c : Session} {b : ℕ} {f : Flags} (z : Sized c) (h : 
 
   -- the session before the marked screen closes
   abbrev put : Session
-  put = putIn c next shift (countAfter (x .deed) (c .n)) (mainAfter (x .deed) (x .place) (c .main))
+  put = putIn c next shift (countAfter (x .effect) (c .n)) (mainAfter (x .effect) (x .place) (c .main))
 
   put-started : put ≡ hold (startedBy (choose tb (view c) b f) b (view c))
-  put-started = picked-put z h room picks (ap (frontAfter b (x .deed)) (ok .task)) refl refl refl
+  put-started = picked-put z h room picks (ap (frontAfter b (x .effect)) (ok .task)) refl refl refl
 
-  markable : Markable put (x .deed) (x .place) isB
+  markable : Markable put (x .effect) (x .place) isB
   markable = picked-markable z h room picks put-started refl
 
   put-sized : Sized put
@@ -146,21 +146,21 @@ module _ {tb : List ℕ} {c : Session} {b : ℕ} {f : Flags} (z : Sized c) (h : 
   put-marked : Stands mark (view put)
   put-marked = go fin
     where
-      go : (fin : Bool) → Stands (markOf fin (x .deed) (x .place) isB) (view put)
+      go : (fin : Bool) → Stands (markIf fin (x .effect) (x .place) isB) (view put)
       go true = markable .marked
       go false = tt
 
   put-makes : hold (closeAt mark (view put)) ≡ hold (made fin tb c b f)
   put-makes = go fin
     where
-      go : (fin : Bool) → hold (closeAt (markOf fin (x .deed) (x .place) isB) (view put)) ≡ hold (made fin tb c b f)
+      go : (fin : Bool) → hold (closeAt (markIf fin (x .effect) (x .place) isB) (view put)) ≡ hold (made fin tb c b f)
       go true = picked-finished z h room picks put-started refl refl
       go false = sym (closed-gone put put-sized put-blank {m = Mark.Gone} refl) ∙ put-started
 
   -- ---- the mark
 
   stands : Within mark shift
-  stands = within fin (x .deed) (x .place) (c .n) isB (h .some)
+  stands = within fin (x .effect) (x .place) (c .n) isB (h .some)
 
   -- the test of the second task's height reads the old front task
   same : (j i : ℕ) → mark ≡ Mark.Stands (suc j) i → leb (taskBehind put 1 .height) 1 ≡ leb (taskBehind c 0 .height) 1
@@ -178,7 +178,7 @@ module _ {tb : List ℕ} {c : Session} {b : ℕ} {f : Flags} (z : Sized c) (h : 
 
   pub start-puttable : Puttable c plan
   start-puttable =
-      plan-puttable c next shift _ _ put-sized put-blank (shift-low c z (x .place) (x .deed) (picked-carriable z h room picks))
+      plan-puttable c next shift _ _ put-sized put-blank (shift-low c z (x .place) (x .effect) (picked-carriable z h room picks))
       mark (stands .0) put-marked _ _ same
 
   pub start-uncovers : Uncovers plan
@@ -192,18 +192,18 @@ module _ {tb : List ℕ} {c : Session} {b : ℕ} {f : Flags} (z : Sized c) (h : 
 
 -- ---- by what the code has of it
 
-count-some : (d : Deed) (n : ℕ) → 1 ≤ n → 1 ≤ countAfter d n
-count-some Deed.New n some = omega arith
-count-some (Deed.InFront c) n some = some
-count-some (Deed.MoveAnd c) n some = some
+count-some : (d : Effect) (n : ℕ) → 1 ≤ n → 1 ≤ countAfter d n
+count-some Effect.New n some = omega arith
+count-some (Effect.InFront c) n some = some
+count-some (Effect.MoveAnd c) n some = some
 
 module _ {tb : List ℕ} {c : Session} {b : ℕ} {f : Flags} (z : Sized c) (h : Startable tb c b) {t : Task} {x : Chosen}
     (ok : Plannable tb c b f t x) (fin : Bool) {a : ℕ} (top-is : a ≡ top (viewTask (taskBehind c 0)))
-    {mark : Mark} (mark-is : mark ≡ markOf fin (x .deed) (x .place) (eqb b a)) {next : Task} (next-is : next ≡ frontAfter b (x .deed) t)
-    {n : ℕ} (count-is : n ≡ countAfter (x .deed) (c .n)) where
+    {mark : Mark} (mark-is : mark ≡ markIf fin (x .effect) (x .place) (eqb b a)) {next : Task} (next-is : next ≡ frontAfter b (x .effect) t)
+    {n : ℕ} (count-is : n ≡ countAfter (x .effect) (c .n)) where
   pub closing-requires : Opens mark next × (1 ≤ n)
-  closing-requires = (rw (mark-is, top-is, next-is) (start-opens z h ok fin), rw count-is (count-some (x .deed) (c .n) (h .some)))
+  closing-requires = (rw (mark-is, top-is, next-is) (start-opens z h ok fin), rw count-is (count-some (x .effect) (c .n) (h .some)))
 
-  pub plan-is : {k : ℕ} → k ≡ shiftOf (x .deed) (x .place) (c .n) → {m : ℕ} → m ≡ mainAfter (x .deed) (x .place) (c .main)
+  pub plan-is : {k : ℕ} → k ≡ shiftOf (x .effect) (x .place) (c .n) → {m : ℕ} → m ≡ mainAfter (x .effect) (x .place) (c .main)
       → closes mark (leb (next .height) 1) (leb (taskBehind c 0 .height) 1) next k n m ≡ startPlan fin b c t x
   plan-is shift-is main-is = rw (mark-is, top-is, next-is, count-is, shift-is, main-is)

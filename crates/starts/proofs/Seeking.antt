@@ -11,8 +11,8 @@ use Rattle.session.specs.declared.Session.{Session}
 use Rattle.session.specs.declared.Task.{Task}
 use Rattle.session.specs.Stored.{Ready, taskBehind}
 use Rattle.session.proofs.Known.{Sized}
-use Rattle.choice.specs.Startable.{Startable}
-use Rattle.choice.proofs.Tasks.{index-inside, index-stands}
+use Rattle.rules.specs.Startable.{Startable}
+use Rattle.rules.proofs.Tasks.{index-inside, index-stands}
 use Rattle.starts.specs.Checks.{startEntry, roomRefusal}
 use Rattle.starts.proofs.Entries.{start-entered}
 use Rattle.plans.specs.declared.Plan.{Plan}
@@ -96,15 +96,15 @@ module _ (tb : List ℕ) (c : Session) (b w k : ℕ) (passed : k ≡ 0) (fin : B
     chosen-is : x ≡ chosenStored tb c b (flagsOf w)
     chosen-is =
         let n = chooses .number in
-        let d = chooses .deed in
+        let d = chooses .effect in
         let p = chooses .place in
-        λ i. record { number = n i; deed = d i; place = p i }
+        λ i. record { number = n i; effect = d i; place = p i }
 
     module _ (room : x .number ≡ 0) {t : Task} (task : t ≡ taskBehind c j) where
       pub chosen-plannable : Plannable tb c b (flagsOf w) t x
       chosen-plannable =
           record {
-            chosen = record { number = chooses .number; deed = chooses .deed; place = chooses .place; index = refl };
+            chosen = record { number = chooses .number; effect = chooses .effect; place = chooses .place; index = refl };
             task = task ∙ ap (taskBehind c) (chooses .index);
             room = room;
           }

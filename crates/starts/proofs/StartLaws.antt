@@ -1,4 +1,4 @@
--- What a start on a sound session gives the functions that it calls: the choice's task is there, the deed finds room where
+-- What a start on a sound session gives the functions that it calls: the choice's task is there, the effect finds room where
 -- no 23 or 24 is given, and a screen stands at the mark afterwards.
 use Prim.Native.Nat.{ℕ, _≤_}
 use mathlib.Core.Path.{_≡_}
@@ -10,21 +10,21 @@ use Rattle.model.specs.declared.Flags.{Flags}
 use Rattle.model.specs.Session.{frontScreen, count, mostTasks}
 use Rattle.model.specs.Search.{placeOf}
 use Rattle.model.specs.Rules.{choose}
-use Rattle.model.specs.Deeds.{deedOf}
+use Rattle.model.specs.Effects.{effectOf}
 use Rattle.model.specs.Calls.{startedBy, finishedBy, makesTask, overfills}
 use Rattle.model.specs.Marks.{closeAt}
 use Rattle.model.proofs.RefusalLaws.{refusal-skip}
 use Rattle.model.proofs.Sound.{Sound}
-use Rattle.model.proofs.Deeds.{Ready as DeedReady, carry-sound}
+use Rattle.model.proofs.Effects.{Ready as EffectReady, carry-sound}
 use Rattle.model.proofs.Start.{choose-ready}
 use Rattle.model.proofs.Finish.{markOf, finished-by, marked-stands}
 use Rattle.session.specs.declared.Session.{Session}
 use Rattle.session.specs.Stored.{view, hold}
 use Rattle.session.proofs.Known.{Sized}
 use Rattle.session.proofs.StoredLaws.{view-hold, view-count, blank-few, sound-blank, sound-view, sound-fits, hold-blank, hold-sized}
-use Rattle.choice.specs.Startable.{Startable}
-use Rattle.deeds.specs.Carriable.{Carriable}
-use Rattle.deeds.proofs.Carried.{carriable}
+use Rattle.rules.specs.Startable.{Startable}
+use Rattle.effects.specs.Carriable.{Carriable}
+use Rattle.effects.proofs.Carried.{carriable}
 use Rattle.closing.specs.Closable.{Markable}
 use Rattle.starts.specs.Checks.{roomRefusal}
 
@@ -43,28 +43,28 @@ module _ (tb : List ℕ) (c : Session) (b : ℕ) (f : Flags) (z : Sized c) (h : 
   some : 1 ≤ count (view c)
   some = rw counted (h .some)
 
-  deed-ready : DeedReady tb b (view c) (deedOf (chosen .rule)) (placeOf (chosen .found))
-  deed-ready = choose-ready tb (view c) b f sound-v some
+  effect-ready : EffectReady tb b (view c) (effectOf (chosen .rule)) (placeOf (chosen .found))
+  effect-ready = choose-ready tb (view c) b f sound-v some
 
   module _ (room : roomRefusal tb c b f ≡ 0) where
-    no-23 : (makesTask (deedOf (chosen .rule)) && eqb (count (view c)) mostTasks) ≡ false
+    no-23 : (makesTask (effectOf (chosen .rule)) && eqb (count (view c)) mostTasks) ≡ false
     no-23 = refusal-skip 22 _ _ room .0
 
-    no-24 : overfills (deedOf (chosen .rule)) (placeOf (chosen .found)) (view c) ≡ false
+    no-24 : overfills (effectOf (chosen .rule)) (placeOf (chosen .found)) (view c) ≡ false
     no-24 = refusal-skip 23 _ _ (refusal-skip 22 _ _ room .1) .0
 
-    -- the deed may be carried out
-    pub start-carriable : Carriable c (deedOf (chosen .rule)) (placeOf (chosen .found))
-    start-carriable = carriable tb b c (deedOf (chosen .rule)) (placeOf (chosen .found)) (h .ready .sound) deed-ready no-23 no-24
+    -- the effect may be carried out
+    pub start-carriable : Carriable c (effectOf (chosen .rule)) (placeOf (chosen .found))
+    start-carriable = carriable tb b c (effectOf (chosen .rule)) (placeOf (chosen .found)) (h .ready .sound) effect-ready no-23 no-24
 
     started-sound : Sound tb (startedBy chosen b (view c))
-    started-sound = carry-sound tb b (h .known) (deedOf (chosen .rule)) (placeOf (chosen .found)) (view c) deed-ready no-23 no-24 sound-v
+    started-sound = carry-sound tb b (h .known) (effectOf (chosen .rule)) (placeOf (chosen .found)) (view c) effect-ready no-23 no-24 sound-v
 
     pub start-sized : Sized (hold (startedBy chosen b (view c)))
     start-sized = hold-sized (startedBy chosen b (view c)) (sound-fits tb (startedBy chosen b (view c)) started-sound)
 
     -- the marked screen may be closed
-    pub start-markable : Markable (hold (startedBy chosen b (view c))) (deedOf (chosen .rule)) (placeOf (chosen .found)) (eqb b (frontScreen (view c)))
+    pub start-markable : Markable (hold (startedBy chosen b (view c))) (effectOf (chosen .rule)) (placeOf (chosen .found)) (eqb b (frontScreen (view c)))
     start-markable =
         record {
           blank = hold-blank (startedBy chosen b (view c)) (sound-fits tb (startedBy chosen b (view c)) started-sound);

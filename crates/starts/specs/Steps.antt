@@ -4,7 +4,7 @@ use mathlib.Core.Path.{_≡_}
 use mathlib.Core.Bool.{Bool, true, false}
 use mathlib.Core.List.{List}
 use lib.Dec.{eqb, leb}
-use Rattle.model.specs.declared.Deed.{Deed}
+use Rattle.model.specs.declared.Effect.{Effect}
 use Rattle.model.specs.declared.Flags.{Flags}
 use Rattle.model.specs.declared.Found.{Found}
 use Rattle.model.specs.declared.Group.{Group}
@@ -14,15 +14,15 @@ use Rattle.model.specs.Session.{State, top}
 use Rattle.model.specs.Flags.{flagsOf}
 use Rattle.model.specs.Search.{placeOf}
 use Rattle.model.specs.Rules.{groupOf, soughtBy, choose}
-use Rattle.model.specs.Deeds.{deedOf}
+use Rattle.model.specs.Effects.{effectOf}
 use Rattle.model.specs.Calls.{startedBy, finishedBy}
 use Rattle.model.specs.Marks.{markAfter}
 use Rattle.session.specs.declared.Session.{Session}
 use Rattle.session.specs.declared.Task.{Task}
 use Rattle.session.specs.Stored.{view, viewTask, taskBehind}
-use Rattle.choice.specs.Shows.{indexOf}
-use Rattle.choice.specs.Startable.{Startable}
-use Rattle.deeds.specs.Fronted.{shiftOf, frontAfter, countAfter, mainAfter}
+use Rattle.rules.specs.Shows.{indexOf}
+use Rattle.rules.specs.Startable.{Startable}
+use Rattle.effects.specs.Fronted.{shiftOf, frontAfter, countAfter, mainAfter}
 use Rattle.starts.specs.Checks.{startEntry, roomRefusal}
 use Rattle.plans.specs.declared.Plan.{Plan}
 use Rattle.plans.specs.Plans.{stillOf, closes}
@@ -32,7 +32,7 @@ use Rattle.starts.specs.declared.Chosen.{Chosen}
 -- ---- seeking
 
 abbrev pub noneSought : ℕ → Sought
-noneSought k = record { number = k; index = 0; found = Found.Nowhere; group = Group.Near }
+noneSought k = record { number = k; index = 0; found = Found.Nowhere; group = Group.NotApart }
 
 -- the start may be made, and this is sought
 pub record Seeks (tb : List ℕ) (c : Session) (b : ℕ) (f : Flags) (x : Sought) : Type 0 where
@@ -57,15 +57,15 @@ pub record SoughtFrom (tb : List ℕ) (c : Session) (b w k : ℕ) (x : Sought) :
 -- k is the index of the task found
 pub record Chooses (tb : List ℕ) (c : Session) (b : ℕ) (f : Flags) (k : ℕ) (x : Chosen) : Type 0 where
   pub number : x .number ≡ roomRefusal tb c b f
-  pub deed : x .deed ≡ deedOf (choose tb (view c) b f .rule)
+  pub effect : x .effect ≡ effectOf (choose tb (view c) b f .rule)
   pub place : x .place ≡ placeOf (choose tb (view c) b f .found)
   pub index : k ≡ indexOf (choose tb (view c) b f .found)
 
 -- ---- planning
 
-abbrev pub markOf : Bool → Deed → ℕ → Bool → Mark
-markOf true d p isB = markAfter d p isB
-markOf false d p isB = Mark.Gone
+abbrev pub markIf : Bool → Effect → ℕ → Bool → Mark
+markIf true d p isB = markAfter d p isB
+markIf false d p isB = Mark.Gone
 
 -- t and x were read and chosen, and there is room
 pub record Plannable (tb : List ℕ) (c : Session) (b : ℕ) (f : Flags) (t : Task) (x : Chosen) : Type 0 where
@@ -76,25 +76,25 @@ pub record Plannable (tb : List ℕ) (c : Session) (b : ℕ) (f : Flags) (t : Ta
 -- a start of b, or a finishing one, where t is the task at the index of the task found
 module _ (finishing : Bool) (b : ℕ) (c : Session) (t : Task) (x : Chosen) where
   abbrev pub planShift : ℕ
-  planShift = shiftOf (x .deed) (x .place) (c .n)
+  planShift = shiftOf (x .effect) (x .place) (c .n)
 
   abbrev pub planMark : Mark
-  planMark = markOf finishing (x .deed) (x .place) (eqb b (top (viewTask (taskBehind c 0))))
+  planMark = markIf finishing (x .effect) (x .place) (eqb b (top (viewTask (taskBehind c 0))))
 
   abbrev pub planNext : Task
-  planNext = frontAfter b (x .deed) t
+  planNext = frontAfter b (x .effect) t
 
   abbrev pub startPlan : Plan
   startPlan =
       closes planMark (leb (planNext .height) 1) (leb (taskBehind c 0 .height) 1) planNext planShift
-      (countAfter (x .deed) (c .n)) (mainAfter (x .deed) (x .place) (c .main))
+      (countAfter (x .effect) (c .n)) (mainAfter (x .effect) (x .place) (c .main))
 
 -- what the definition chooses, and the plan of it
 abbrev pub chosenStored : List ℕ → Session → ℕ → Flags → Chosen
 chosenStored tb c b f =
     record {
       number = roomRefusal tb c b f;
-      deed = deedOf (choose tb (view c) b f .rule);
+      effect = effectOf (choose tb (view c) b f .rule);
       place = placeOf (choose tb (view c) b f .found);
     }
 

@@ -6,10 +6,10 @@ ghost use Rattle.model.specs.Flags.{flagsOf};
 ghost use Rattle.model.specs.Table.{tableRefusal};
 ghost use Rattle.model.specs.Refusals.{refusal as refusalOf};
 ghost use Rattle.session.specs.Stored.{Ready, taskBehind};
-ghost use Rattle.choice.specs.Startable.{Startable};
+ghost use Rattle.rules.specs.Startable.{Startable};
 ghost use Rattle.starts.specs.Checks.{startEntry};
-ghost use Rattle.starts.specs.Steps.{noneSought, Seeks, SoughtFrom, Chooses, markOf, Plannable, startPlan, Planned, planStored};
-use model::Deed;
+ghost use Rattle.starts.specs.Steps.{noneSought, Seeks, SoughtFrom, Chooses, markIf, Plannable, startPlan, Planned, planStored};
+use model::Effect;
 use model::Flags;
 use model::Found;
 use model::Group;
@@ -56,7 +56,7 @@ pub fn none_sought(number: u8) -> Sought
         number: number,
         index: 0,
         found: Found::Nowhere,
-        group: Group::Near,
+        group: Group::NotApart,
     }
 }
 
@@ -65,11 +65,11 @@ fn seek_task(table: &[u8], s: Session, b: u8, f: Flags) -> Sought
     ensures { λ r. ⌜ Seeks (now (table .entry)) s b f r ⌝ }
 {
     let front = s.tasks[0];
-    let group = choice::group_of(table, front.top(), b, f);
-    let found = choice::sought_by(table, s, b, f, group);
+    let group = rules::group_of(table, front.top(), b, f);
+    let found = rules::sought_by(table, s, b, f, group);
     Sought {
         number: 0,
-        index: choice::index_of(found),
+        index: rules::index_of(found),
         found: found,
         group: group,
     }
@@ -93,7 +93,7 @@ pub fn seek(table: &[u8], s: Session, b: u8, word: u32, number: u8) -> Sought
 // What is chosen: 23, 24 or 0, what is done, and the place of the task found.
 pub struct Chosen {
     pub number: u8,
-    pub deed: Deed,
+    pub effect: Effect,
     pub place: u8,
 }
 
@@ -104,23 +104,23 @@ fn choose(table: &[u8], s: Session, t: Task, sought: Sought, b: u8, f: Flags) ->
 {
     let group = sought.group;
     let found = sought.found;
-    let rule = choice::rule_in(table, group, t, s.main, b, f, found);
-    let deed = choice::deed_of(rule);
+    let rule = rules::rule_in(table, group, t, s.main, b, f, found);
+    let effect = rules::effect_of(rule);
     Chosen {
-        number: choice::room_refusal(s.n, t, deed),
-        deed: deed,
-        place: choice::place_of(found),
+        number: rules::room_refusal(s.n, t, effect),
+        effect: effect,
+        place: rules::place_of(found),
     }
 }
 
 // ---- plan
 
 // The mark of a start: none but where it finishes.
-fn mark_of(finishing: bool, deed: Deed, place: u8, same: bool) -> Mark
-    ensures { λ r. ⌜ r ≡ markOf finishing deed place same ⌝ }
+fn mark_if(finishing: bool, effect: Effect, place: u8, same: bool) -> Mark
+    ensures { λ r. ⌜ r ≡ markIf finishing effect place same ⌝ }
 {
     if finishing {
-        return closing::mark_of(deed, place, same);
+        return closing::mark_of(effect, place, same);
     }
     Mark::Gone
 }
@@ -139,12 +139,12 @@ fn start_plan(
     ensures { λ r. ⌜ r ≡ startPlan finishing b s t chosen ⌝ }
 {
     let front = s.tasks[0];
-    let deed = chosen.deed;
-    let shift = deeds::shift_of(deed, chosen.place, s.n);
-    let n = deeds::count_after(deed, s.n);
-    let main = deeds::main_after(deed, chosen.place, s.main);
-    let mark = mark_of(finishing, deed, chosen.place, b == front.top());
-    let next = deeds::front_after(t, b, deed);
+    let effect = chosen.effect;
+    let shift = effects::shift_of(effect, chosen.place, s.n);
+    let n = effects::count_after(effect, s.n);
+    let main = effects::main_after(effect, chosen.place, s.main);
+    let mark = mark_if(finishing, effect, chosen.place, b == front.top());
+    let next = effects::front_after(t, b, effect);
     plans::closing_plan(mark, next, front.height, shift, n, main)
 }
 

@@ -1,7 +1,7 @@
--- `closing::mark_of` meets its contract, deed by deed.
+-- `closing::mark_of` meets its contract, effect by effect.
 use mathlib.Core.Path.{sym, _∙_, ap}
 use borrow.Author.Needs.{needs}
-use Rattle.model.specs.declared.Deed.{Deed}
+use Rattle.model.specs.declared.Effect.{Effect}
 use Rattle.model.specs.Marks.{markAfter}
 use Rattle.closing.proofs.Marked.{mark-first, mark-behind}
 use Rattle.closing.proofs.mark_of.Statement.{statement}
@@ -10,47 +10,47 @@ use Rattle.closing.proofs.mark_of.Tie as tie
 enum-told : tie.Need-enum-told
 enum-told c = search needs
 
-enum-known-deed : tie.Need-enum-known-deed
-enum-known-deed c = search needs
+enum-known-effect : tie.Need-enum-known-effect
+enum-known-effect c = search needs
 
 mark-in-requires : tie.Need-mark-in-requires
 mark-in-requires c κs = search needs
 
-enum-known-deed-2 : tie.Need-enum-known-deed-2
-enum-known-deed-2 c = search needs
+enum-known-effect-2 : tie.Need-enum-known-effect-2
+enum-known-effect-2 c = search needs
 
 mark-in-requires-2 : tie.Need-mark-in-requires-2
 mark-in-requires-2 c κs = search needs
 
 -- a new task
 returns-2 : tie.Need-returns-2
-returns-2 c = let a = c .before .before .args in sym (ap (λ (d : Deed). markAfter d (a .place) (a .same)) (c .enum-told .given .1))
+returns-2 c = let a = c .before .before .args in sym (ap (λ (d : Effect). markAfter d (a .place) (a .same)) (c .enum-told .given .1))
 
 -- a change of the front task
 returns-3 : tie.Need-returns-3
 returns-3 c =
     let a = c .before .before .before .before .args in
-    c .mark-in .ensures ∙ sym (ap (λ (d : Deed). markAfter d (a .place) (a .same)) (c .before .before .deed .given .1))
+    c .mark-in .ensures ∙ sym (ap (λ (d : Effect). markAfter d (a .place) (a .same)) (c .before .before .effect .given .1))
 
 -- a move and a change
 returns : tie.Need-returns
 returns c =
     let a = c .before .before .before .before .before .args in
-    c .mark-in2 .ensures ∙ sym (mark-first (a .place) (a .same) (c .before .before .before .deed2 .given .1) (c .before .if1 .taken))
+    c .mark-in2 .ensures ∙ sym (mark-first (a .place) (a .same) (c .before .before .before .effect2 .given .1) (c .before .if1 .taken))
 
 returns-4 : tie.Need-returns-4
 returns-4 c =
     let a = c .before .before .before .before .args in
-    sym (mark-behind (a .place) (a .same) (c .before .before .deed2 .given .1) (c .if1 .left))
+    sym (mark-behind (a .place) (a .same) (c .before .before .effect2 .given .1) (c .if1 .left))
 
 pub mark-of-spec : {M : Type 1} → statement M
 mark-of-spec =
     tie.close
     (tie.spec
     enum-told
-    enum-known-deed
+    enum-known-effect
     mark-in-requires
-    enum-known-deed-2
+    enum-known-effect-2
     mark-in-requires-2
     returns
     returns-2

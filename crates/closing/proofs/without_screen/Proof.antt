@@ -5,7 +5,7 @@ use native.Mathlib.Omega.{arith}
 use borrow.Author.Needs.{needs}
 use lib.ListN.{length}
 use Rattle.session.specs.declared.Task.{Task}
-use Rattle.deeds.proofs.Changes.{blank-low}
+use Rattle.effects.proofs.Changes.{blank-low}
 use Rattle.closing.proofs.Gaps.{screen-gone}
 use Rattle.closing.proofs.without_screen.Statement.{statement}
 use Rattle.closing.proofs.without_screen.Tie as tie

@@ -4,7 +4,7 @@ use mathlib.Core.Path.{_∙_, ap}
 use native.Mathlib.Numerals.{add-one}
 use borrow.Author.Needs.{needs}
 use borrow.Author.Tests.{lt-ltb, le-ltb}
-use Rattle.model.specs.Deeds.{mainWithout}
+use Rattle.model.specs.Effects.{mainWithout}
 use Rattle.plans.proofs.main_by.Statement.{statement}
 use Rattle.plans.proofs.main_by.Tie as tie
 

@@ -9,8 +9,8 @@ use lib.ListN.{length, set}
 use Rattle.session.specs.declared.Session.{Session}
 use Rattle.session.specs.Stored.{withTasks}
 use Rattle.session.proofs.Known.{sized}
-use Rattle.deeds.specs.Rows.{shifted}
-use Rattle.deeds.proofs.Shifts.{shiftingIn, shifts-begin, shifts-step, shifts-end}
+use Rattle.effects.specs.Rows.{shifted}
+use Rattle.effects.proofs.Shifts.{shiftingIn, shifts-begin, shifts-step, shifts-end}
 use Rattle.closing.proofs.Gaps.{closingIn, closes-begin, closes-step}
 use Rattle.plans.specs.Puts.{Poppable, poppedIf, goneIf}
 use Rattle.plans.proofs.Rows.{pops-by, stays-by, goes, none-goes, popped-length}

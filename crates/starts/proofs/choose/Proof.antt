@@ -1,17 +1,17 @@
--- `starts::choose` meets its contract: the rule and the task found are the definition's, and so are the deed and the number.
+-- `starts::choose` meets its contract: the rule and the task found are the definition's, and so are the effect and the number.
 use Prim.Native.Nat.{_<_}
 use mathlib.Core.Path.{_≡_, sym, _∙_, ap, subst}
 use borrow.Author.Needs.{needs}
 use Rattle.model.specs.declared.Choice.{Choice}
-use Rattle.model.specs.Deeds.{deedOf}
+use Rattle.model.specs.Effects.{effectOf}
 use Rattle.model.specs.Search.{placeOf}
 use Rattle.model.specs.Rules.{choose}
 use Rattle.session.specs.Stored.{view}
 use Rattle.session.proofs.Known.{Sized, sized}
 use Rattle.session.proofs.StoredLaws.{view-main}
-use Rattle.choice.specs.Shows.{indexOf, Shows, Filled}
-use Rattle.choice.proofs.Tasks.{own-row, task-filled, counted, stored-shows, index-stands}
-use Rattle.choice.proofs.Groups.{chosen-in}
+use Rattle.rules.specs.Shows.{indexOf, Shows, Filled}
+use Rattle.rules.proofs.Tasks.{own-row, task-filled, counted, stored-shows, index-stands}
+use Rattle.rules.proofs.Groups.{chosen-in}
 use Rattle.starts.proofs.choose.Statement.{statement}
 use Rattle.starts.proofs.choose.Tie as tie
 
@@ -39,8 +39,8 @@ rule-in-requires c κs =
     let a = start .args in
     (filled start, own-row (a .table .now) (a .s) (a .b) (sizes start) (start .pre .0))
 
-deed-of-requires : tie.Need-deed-of-requires
-deed-of-requires c κs = search needs
+effect-of-requires : tie.Need-effect-of-requires
+effect-of-requires c κs = search needs
 
 room-refusal-requires : tie.Need-room-refusal-requires
 room-refusal-requires c κs = filled (c .before .before .before)
@@ -61,19 +61,19 @@ chosen c =
 
 returns : tie.Need-returns
 returns c =
-    let deed = c .before .before in
-    let start = deed .before .before .before in
+    let effect = c .before .before in
+    let start = effect .before .before .before in
     let a = start .args in
     let tb = a .table .now in
     let f = a .f in
-    let e = chosen (deed .before) in
-    let d = deed .deed-of .ensures ∙ ap (λ (x : Choice). deedOf (x .rule)) e in
+    let e = chosen (effect .before) in
+    let d = effect .effect-of .ensures ∙ ap (λ (x : Choice). effectOf (x .rule)) e in
     record {
       number = c .before .room-refusal .ensures tb (view (a .s)) (a .b) f (subst (λ (x : Choice). Shows (view (a .s)) (x .found) (a .t)) e (shows start)) (counted tb (a .s) (a .b) (sizes start) (start .pre .0)) d;
-      deed = d;
+      effect = d;
       place = c .place-of .ensures ∙ ap (λ (x : Choice). placeOf (x .found)) e;
       index = start .pre .1 .index ∙ ap (λ (x : Choice). indexOf (x .found)) e;
     }
 
 pub choose-spec : {M : Type 1} → statement M
-choose-spec = tie.close (tie.spec rule-in-requires deed-of-requires room-refusal-requires place-of-requires returns)
+choose-spec = tie.close (tie.spec rule-in-requires effect-of-requires room-refusal-requires place-of-requires returns)

@@ -2,7 +2,7 @@
 use mathlib.Core.Path.{_≡_, sym, _∙_}
 use borrow.Author.Needs.{needs}
 use Rattle.model.specs.Refusals.{refusal}
-use Rattle.choice.specs.Startable.{Startable}
+use Rattle.rules.specs.Startable.{Startable}
 use Rattle.starts.specs.Checks.{startEntry}
 use Rattle.starts.proofs.Seeking.{or-first, or-second, sought-refused, entered-startable, sought-found}
 use Rattle.starts.proofs.seek.Statement.{statement}

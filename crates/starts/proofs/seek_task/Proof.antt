@@ -2,7 +2,7 @@
 use mathlib.Core.Path.{refl, sym, _∙_}
 use borrow.Author.Needs.{needs}
 use Rattle.session.proofs.Known.{Sized, sized}
-use Rattle.choice.proofs.Tasks.{own-row, top-row, task-filled, front-screen}
+use Rattle.rules.proofs.Tasks.{own-row, top-row, task-filled, front-screen}
 use Rattle.starts.proofs.seek_task.Statement.{statement}
 use Rattle.starts.proofs.seek_task.Tie as tie
 

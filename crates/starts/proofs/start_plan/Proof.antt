@@ -7,10 +7,10 @@ use Rattle.model.specs.Rules.{choose}
 use Rattle.session.specs.Stored.{view}
 use Rattle.session.proofs.Known.{Sized, sized}
 use Rattle.session.proofs.StoredLaws.{blank-few, sound-blank}
-use Rattle.choice.specs.Shows.{indexOf}
-use Rattle.choice.proofs.Tasks.{task-filled}
-use Rattle.deeds.specs.Carriable.{Carriable}
-use Rattle.deeds.proofs.Fronts.{placed, main-low}
+use Rattle.rules.specs.Shows.{indexOf}
+use Rattle.rules.proofs.Tasks.{task-filled}
+use Rattle.effects.specs.Carriable.{Carriable}
+use Rattle.effects.proofs.Fronts.{placed, main-low}
 use Rattle.starts.specs.Checks.{roomRefusal}
 use Rattle.starts.proofs.Picks.{Picked, picked-carriable, picked-changeable}
 use Rattle.starts.proofs.Planning.{closing-requires, plan-is}
@@ -28,17 +28,17 @@ index c = let a = c .args in indexOf (choose (a .table .now) (view (a .t2)) (a .
 room : (c : tie.Start) → let a = c .args in roomRefusal (a .table .now) (a .t2) (a .b) (flagsOf (a .word)) ≡ 0
 room c = sym (c .pre .1 .chosen .number) ∙ c .pre .1 .room
 
-picks : (c : tie.Start) → let a = c .args in Picked (a .table .now) (a .t2) (a .b) (flagsOf (a .word)) (index c) (a .chosen .deed) (a .chosen .place)
-picks c = record { index = refl; deed = c .pre .1 .chosen .deed; place = c .pre .1 .chosen .place }
+picks : (c : tie.Start) → let a = c .args in Picked (a .table .now) (a .t2) (a .b) (flagsOf (a .word)) (index c) (a .chosen .effect) (a .chosen .place)
+picks c = record { index = refl; effect = c .pre .1 .chosen .effect; place = c .pre .1 .chosen .place }
 
-carriable : (c : tie.Start) → Carriable (c .args .t2) (c .args .chosen .deed) (c .args .chosen .place)
+carriable : (c : tie.Start) → Carriable (c .args .t2) (c .args .chosen .effect) (c .args .chosen .place)
 carriable c = picked-carriable (sizes c) (c .pre .0) (room c) (picks c)
 
 element-copy-out-front : tie.Need-element-copy-out-front
 element-copy-out-front c = search needs
 
 shift-of-requires : tie.Need-shift-of-requires
-shift-of-requires c κs = let start = c .before .before in placed (start .args .t2) (sizes start) (start .args .chosen .place) (start .args .chosen .deed) (carriable start)
+shift-of-requires c κs = let start = c .before .before in placed (start .args .t2) (sizes start) (start .args .chosen .place) (start .args .chosen .effect) (carriable start)
 
 count-after-requires : tie.Need-count-after-requires
 count-after-requires c κs =
@@ -48,7 +48,7 @@ count-after-requires c κs =
 main-after-requires : tie.Need-main-after-requires
 main-after-requires c κs =
     let start = c .before .before .before .before in
-    main-low (start .args .t2) (sizes start) (start .args .chosen .place) (start .args .chosen .deed) (carriable start)
+    main-low (start .args .t2) (sizes start) (start .args .chosen .place) (start .args .chosen .effect) (carriable start)
 
 top-requires : tie.Need-top-requires
 top-requires c κs =
@@ -56,8 +56,8 @@ top-requires c κs =
     let a = start .args in
     task-filled (a .table .now) (a .t2) (a .b) (sizes start) (start .pre .0) 0 (start .pre .0 .some)
 
-mark-of-requires : tie.Need-mark-of-requires
-mark-of-requires c κs = search needs
+mark-if-requires : tie.Need-mark-if-requires
+mark-if-requires c κs = search needs
 
 front-after-requires : tie.Need-front-after-requires
 front-after-requires c κs =
@@ -68,7 +68,7 @@ closing-plan-requires : tie.Need-closing-plan-requires
 closing-plan-requires c κs =
     let start = c .before .before .before .before .before .before .before .before in
     closing-requires (sizes start) (start .pre .0) (start .pre .1) (start .args .finishing) (c .before .before .top .ensures)
-    (c .before .mark-of .ensures) (c .front-after .ensures) (c .before .before .before .before .count-after .ensures)
+    (c .before .mark-if .ensures) (c .front-after .ensures) (c .before .before .before .before .count-after .ensures)
 
 returns : tie.Need-returns
 returns c =
@@ -76,7 +76,7 @@ returns c =
     let start = made .before .before .before .before .before .before .before .before in
     c .closing-plan .ensures
     ∙ plan-is (sizes start) (start .pre .0) (start .pre .1) (start .args .finishing) (made .before .before .top .ensures)
-    (made .before .mark-of .ensures) (made .front-after .ensures) (made .before .before .before .before .count-after .ensures)
+    (made .before .mark-if .ensures) (made .front-after .ensures) (made .before .before .before .before .count-after .ensures)
     (made .before .before .before .before .before .shift-of .ensures) (made .before .before .before .main-after .ensures)
 
 pub start-plan-spec : {M : Type 1} → statement M
@@ -88,7 +88,7 @@ start-plan-spec =
     count-after-requires
     main-after-requires
     top-requires
-    mark-of-requires
+    mark-if-requires
     front-after-requires
     closing-plan-requires
     returns)

@@ -1,0 +1,93 @@
+-- `effects::changed` meets its contract, change by change.
+use Prim.Native.Nat.{ℕ, _<_}
+use mathlib.Core.Path.{_≡_, refl, sym, _∙_, ap, subst}
+use borrow.Author.Needs.{needs}
+use lib.ListN.{length}
+use Rattle.model.specs.declared.Change.{Change}
+use Rattle.model.specs.Effects.{changed}
+use Rattle.session.specs.declared.Task.{Task}
+use Rattle.session.specs.Stored.{viewTask, pushed}
+use Rattle.effects.specs.Carriable.{Alterable}
+use Rattle.effects.specs.Fronted.{changedTask}
+use Rattle.effects.proofs.Changes.{kept}
+use Rattle.effects.proofs.Bases.{base-low, base-pushed}
+use Rattle.effects.proofs.changed.Statement.{statement}
+use Rattle.effects.proofs.changed.Tie as tie
+
+-- what is required, and what the contract says, of the change that the match found
+module _ (t : Task) {change d : Change} (e : change ≡ d) where
+  found : Alterable change t → Alterable d t
+  found h = subst (λ (x : Change). Alterable x t) e h
+
+  told : (b : ℕ) → changedTask b d t ≡ changedTask b change t
+  told b = ap (λ (x : Change). changedTask b x t) (sym e)
+
+base-of-requires : tie.Need-base-of-requires
+base-of-requires c κs = search needs
+
+enum-told : tie.Need-enum-told
+enum-told c = search needs
+
+enum-told-2 : tie.Need-enum-told-2
+enum-told-2 c = search needs
+
+cleared-requires : tie.Need-cleared-requires
+cleared-requires c κs = let start = c .before .before .before in found (start .args .t) (c .enum-told2 .given .1) (start .pre)
+
+enum-told-3 : tie.Need-enum-told-3
+enum-told-3 c = search needs
+
+lifted-requires : tie.Need-lifted-requires
+lifted-requires c κs = let start = c .before .before .before in found (start .args .t) (c .enum-told3 .given .1) (start .pre)
+
+push-requires : tie.Need-push-requires
+push-requires c κs =
+    let start = c .before .before in
+    let t = start .args .t in
+    let l : length (t .screens) ≡ 32 = search needs in
+    subst (λ (u : Task). u .height < 32) (sym (c .before .base-of .ensures)) (base-low t l (start .args .change) (c .match .keys4) (start .pre))
+
+returns : tie.Need-returns
+unfolding changed
+returns c =
+    let start = c .before .before .before in
+    let t = start .args .t in
+    let l : length (t .screens) ≡ 32 = search needs in
+    let e = c .enum-told .given .1 in
+    sym (kept t l (found t e (start .pre)) (viewTask t .screens) refl) ∙ told t e (start .args .b)
+
+returns-2 : tie.Need-returns-2
+returns-2 c =
+    let a = c .before .before .before .before .args in
+    c .cleared .ensures ∙ told (a .t) (c .before .enum-told2 .given .1) (a .b)
+
+returns-3 : tie.Need-returns-3
+returns-3 c =
+    let a = c .before .before .before .before .args in
+    c .lifted .ensures ∙ told (a .t) (c .before .enum-told3 .given .1) (a .b)
+
+returns-4 : tie.Need-returns-4
+returns-4 c =
+    let start = c .before .before .before in
+    let t = start .args .t in
+    let b = start .args .b in
+    let l : length (t .screens) ≡ 32 = search needs in
+    c .push .ensures
+    ∙ ap (λ (u : Task). pushed u b) (c .before .before .base-of .ensures)
+    ∙ base-pushed t l (start .args .change) (c .before .match .keys4) b (start .pre)
+
+pub changed-spec : {M : Type 1} → statement M
+changed-spec =
+    tie.close
+    (tie.spec
+    base-of-requires
+    enum-told
+    enum-told-2
+    cleared-requires
+    enum-told-3
+    lifted-requires
+    push-requires
+    returns
+    returns-2
+    returns-3
+    returns-4)

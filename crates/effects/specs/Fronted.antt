@@ -1,0 +1,67 @@
+-- An effect told by the task that stands in front after it, by how many tasks it sends one place back, and by the numbers.
+use Prim.Native.Nat.{ℕ, suc, pred}
+use mathlib.Core.List.{[], _∷_}
+use lib.Dec.{eqb}
+use lib.ListN.{getD}
+use Rattle.model.specs.declared.Change.{Change}
+use Rattle.model.specs.declared.Effect.{Effect}
+use Rattle.model.specs.Lists.{further}
+use Rattle.model.specs.Session.{stack}
+use Rattle.model.specs.Effects.{mainMoved, changed}
+use Rattle.session.specs.declared.Task.{Task}
+use Rattle.session.specs.declared.Session.{Session}
+use Rattle.session.specs.Stored.{viewTask, holdTask, noTask, withTasks, withCount, withMain}
+use Rattle.effects.specs.Rows.{shifted}
+
+-- a task after a change of its screens
+abbrev pub changedTask : ℕ → Change → Task → Task
+changedTask b c t = holdTask (stack (t .root) (changed (eqb b) b c (viewTask t .screens)))
+
+-- the task that a renewal or a push puts b onto
+abbrev pub baseOf : Change → Task → Task
+baseOf Change.Keep t = t
+baseOf Change.Renew t = holdTask (stack (t .root) [])
+baseOf Change.Clear t = t
+baseOf Change.Lift t = t
+baseOf Change.Push t = t
+
+-- how many of n tasks go one place back; the effect changes the task behind them. p is the place of the task found
+abbrev pub shiftOf : Effect → ℕ → ℕ → ℕ
+shiftOf Effect.New p n = n
+shiftOf (Effect.InFront c) p n = 0
+shiftOf (Effect.MoveAnd c) p n = pred p
+
+-- what the effect does to the screens of the task in front after it, a new task being one renewed; and the root of that task
+abbrev pub changeOf : Effect → Change
+changeOf Effect.New = Change.Renew
+changeOf (Effect.InFront c) = c
+changeOf (Effect.MoveAnd c) = c
+
+abbrev pub rootAfter : ℕ → ℕ → Effect → ℕ
+rootAfter r b Effect.New = b
+rootAfter r b (Effect.InFront c) = r
+rootAfter r b (Effect.MoveAnd c) = r
+
+-- the task in front; t is the one that the effect changes
+abbrev pub frontAfter : ℕ → Effect → Task → Task
+frontAfter b Effect.New t = holdTask (stack b (b ∷ []))
+frontAfter b (Effect.InFront c) t = changedTask b c t
+frontAfter b (Effect.MoveAnd c) t = changedTask b c t
+
+abbrev pub countAfter : Effect → ℕ → ℕ
+countAfter Effect.New n = suc n
+countAfter (Effect.InFront c) n = n
+countAfter (Effect.MoveAnd c) n = n
+
+abbrev pub mainAfter : Effect → ℕ → ℕ → ℕ
+mainAfter Effect.New p m = further m
+mainAfter (Effect.InFront c) p m = m
+mainAfter (Effect.MoveAnd c) p m = mainMoved p m
+
+-- the session
+abbrev pub fronted : Session → ℕ → Effect → ℕ → Session
+fronted s b d p =
+    let k = shiftOf d p (s .n) in
+    withMain
+    (withCount (withTasks s (shifted (frontAfter b d (getD (s .tasks) k noTask)) k (s .tasks))) (countAfter d (s .n)))
+    (mainAfter d p (s .main))

@@ -1,0 +1,210 @@
+// What a rule does to the task in front and to the numbers. Nothing is checked again: what is needed is required.
+
+ghost use Prim.Native.Nat.{_+_, _≤_, _<_};
+ghost use mathlib.Core.Path.{_≡_};
+ghost use mathlib.Core.Bool.{true};
+ghost use mathlib.Core.List.{[]};
+ghost use Rattle.model.specs.Lists.{further};
+ghost use Rattle.model.specs.Session.{stack};
+ghost use Rattle.model.specs.declared.Change.{Change};
+ghost use Rattle.model.specs.declared.Effect.{Effect};
+ghost use Rattle.model.specs.Effects.{mainMoved};
+ghost use Rattle.session.specs.Stored.{holdTask, withScreens, blankAbove};
+ghost use Rattle.effects.specs.Carriable.{Placed, Alterable, Changeable};
+ghost use Rattle.effects.specs.Fronted.{baseOf, changedTask, shiftOf, changeOf, rootAfter, frontAfter, countAfter, mainAfter};
+ghost use Rattle.effects.specs.Rows.{closedUp, lowest};
+use model::Change;
+use model::Effect;
+use session::Session;
+use session::Task;
+
+// ---- the main place
+
+// The main place after the task at a place came to the front.
+fn main_moved(place: u8, main: u8) -> u8
+    ensures { λ r. ⌜ r ≡ mainMoved place main ⌝ }
+{
+    if main == 0 {
+        return 0;
+    }
+    if main == place {
+        return 1;
+    }
+    if main < place {
+        return main + 1;
+    }
+    main
+}
+
+// The main place after one more task was put in front.
+fn main_further(main: u8) -> u8
+    requires { ⌜ main ≤ 16 ⌝ }
+    ensures { λ r. ⌜ r ≡ further main ⌝ }
+{
+    if main == 0 {
+        return 0;
+    }
+    main + 1
+}
+
+// ---- the screens of a task
+
+// A task in which no screen stands.
+fn emptied(root: u8) -> Task
+    ensures { λ r. ⌜ r ≡ holdTask (stack root []) ⌝ }
+{
+    Task {
+        root: root,
+        height: 0,
+        screens: [0; Session::SCREENS],
+    }
+}
+
+// The h lowest screens stay.
+fn lowered(t: Task, h: u8) -> Task
+    requires { ⌜ (blankAbove t ≡ true) × (h ≤ t .height) ⌝ }
+    ensures { λ r. ⌜ r ≡ lowest h t ⌝ }
+{
+    let low = h as usize;
+    let mut i = t.height as usize;
+    let mut out = t;
+    out.height = h;
+    while i > low {
+        i -= 1;
+        out.screens[i] = 0;
+    }
+    out
+}
+
+// The screen behind m others is gone, the next k come down by one, and b stands where the last of them stood.
+pub fn closed_up(t: Task, m: usize, k: usize, b: u8) -> Task
+    requires { ⌜ m + k < 32 ⌝ }
+    ensures { λ r. ⌜ r ≡ withScreens t (closedUp m k b (t .screens)) ⌝ }
+{
+    let mut out = t;
+    let mut j: usize = 0;
+    while j < k {
+        out.screens[m + j] = out.screens[m + j + 1];
+        j += 1;
+    }
+    out.screens[m + k] = b;
+    out
+}
+
+// Clear to b: all above the topmost b goes.
+fn cleared(t: Task, b: u8) -> Task
+    requires { ⌜ blankAbove t ≡ true ⌝ }
+    ensures { λ r. ⌜ r ≡ changedTask b Change.Clear t ⌝ }
+{
+    let place = search::topmost(t, b);
+    if place == 0 {
+        return t;
+    }
+    lowered(t, t.height + 1 - place)
+}
+
+// Lift: the topmost b goes to the top.
+fn lifted(t: Task, b: u8) -> Task
+    requires { ⌜ blankAbove t ≡ true ⌝ }
+    ensures { λ r. ⌜ r ≡ changedTask b Change.Lift t ⌝ }
+{
+    let place = search::topmost(t, b);
+    if place == 0 {
+        return t;
+    }
+    closed_up(t, (t.height - place) as usize, (place - 1) as usize, b)
+}
+
+// What b is pushed onto: the task, emptied where it is renewed.
+fn base_of(t: Task, change: Change) -> Task
+    ensures { λ r. ⌜ r ≡ baseOf change t ⌝ }
+{
+    match change {
+        Change::Renew => emptied(t.root),
+        Change::Keep | Change::Clear | Change::Lift | Change::Push => t,
+    }
+}
+
+// The task after a change of its screens.
+fn changed(t: Task, b: u8, change: Change) -> Task
+    requires { ⌜ Alterable change t ⌝ }
+    ensures { λ r. ⌜ r ≡ changedTask b change t ⌝ }
+{
+    let base = base_of(t, change);
+    match change {
+        Change::Keep => t,
+        Change::Clear => cleared(t, b),
+        Change::Lift => lifted(t, b),
+        Change::Renew | Change::Push => base.push(b),
+    }
+}
+
+// ---- effects
+
+// How many tasks an effect sends one place back; it changes the task behind them. The place is that of the task found.
+pub fn shift_of(effect: Effect, place: u8, n: u8) -> u8
+    requires { ⌜ Placed effect place ⌝ }
+    ensures { λ r. ⌜ r ≡ shiftOf effect place n ⌝ }
+{
+    match effect {
+        Effect::New => n,
+        Effect::InFront(_) => 0,
+        Effect::MoveAnd(_) => place - 1,
+    }
+}
+
+// What an effect does to the screens of the task in front after it: a new task is one renewed.
+fn change_of(effect: Effect) -> Change
+    ensures { λ r. ⌜ r ≡ changeOf effect ⌝ }
+{
+    match effect {
+        Effect::New => Change::Renew,
+        Effect::InFront(change) => change,
+        Effect::MoveAnd(change) => change,
+    }
+}
+
+// The root of that task: b where it is new.
+fn root_after(root: u8, b: u8, effect: Effect) -> u8
+    ensures { λ r. ⌜ r ≡ rootAfter root b effect ⌝ }
+{
+    match effect {
+        Effect::New => b,
+        Effect::InFront(_) => root,
+        Effect::MoveAnd(_) => root,
+    }
+}
+
+// The task in front after an effect; t is the one that it changes.
+pub fn front_after(t: Task, b: u8, effect: Effect) -> Task
+    requires { ⌜ Changeable effect t ⌝ }
+    ensures { λ r. ⌜ r ≡ frontAfter b effect t ⌝ }
+{
+    let mut out = changed(t, b, change_of(effect));
+    out.root = root_after(t.root, b, effect);
+    out
+}
+
+// The number of tasks after an effect.
+pub fn count_after(effect: Effect, n: u8) -> u8
+    requires { ⌜ n ≤ 16 ⌝ }
+    ensures { λ r. ⌜ r ≡ countAfter effect n ⌝ }
+{
+    match effect {
+        Effect::New => n + 1,
+        Effect::InFront(_) => n,
+        Effect::MoveAnd(_) => n,
+    }
+}
+
+// The main place after an effect.
+pub fn main_after(effect: Effect, place: u8, main: u8) -> u8
+    requires { ⌜ (effect ≡ Effect.New → main ≤ 16) ⌝ }
+    ensures { λ r. ⌜ r ≡ mainAfter effect place main ⌝ }
+{
+    match effect {
+        Effect::New => main_further(main),
+        Effect::InFront(_) => main,
+        Effect::MoveAnd(_) => main_moved(place, main),
+    }
+}

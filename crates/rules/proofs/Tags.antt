@@ -1,0 +1,50 @@
+-- A rule is told by its number among the eighteen: so the effect of each number of a `match` arm is the effect of the rule.
+use Prim.Native.Nat.{ℕ}
+use mathlib.Core.Path.{_≡_, refl, sym, _∙_, ap}
+use mathlib.Core.Logic.{inl, inr}
+use mathlib.Core.List.{List, [], _∷_}
+use lib.ListN.{getD}
+use denote.Enum.Declared.{tagOf}
+use types.Run.{OneOf}
+use Rattle.model.proofs.Rule as R
+use Rattle.model.specs.declared.Effect.{Effect}
+use Rattle.model.specs.declared.Rule.{Rule}
+use Rattle.model.specs.Lists.{All}
+use Rattle.model.specs.Effects.{effectOf}
+use Rattle.model.proofs.RoomLaws.{allRules}
+
+abbrev pub ruleAt : ℕ → Rule
+ruleAt k = getD allRules k Rule.R18
+
+rule-at-tag : (r : Rule) → ruleAt (tagOf R.the-type r) ≡ r
+rule-at-tag Rule.R1 = refl
+rule-at-tag Rule.R2 = refl
+rule-at-tag Rule.R3 = refl
+rule-at-tag Rule.R4 = refl
+rule-at-tag Rule.R5 = refl
+rule-at-tag Rule.R6 = refl
+rule-at-tag Rule.R7 = refl
+rule-at-tag Rule.R8 = refl
+rule-at-tag Rule.R9 = refl
+rule-at-tag Rule.R10 = refl
+rule-at-tag Rule.R11 = refl
+rule-at-tag Rule.R12 = refl
+rule-at-tag Rule.R13 = refl
+rule-at-tag Rule.R14 = refl
+rule-at-tag Rule.R15 = refl
+rule-at-tag Rule.R16 = refl
+rule-at-tag Rule.R17 = refl
+rule-at-tag Rule.R18 = refl
+
+module _ (d : Effect) (r : Rule) where
+  abbrev HasEffect : ℕ → Type 0
+  HasEffect k = d ≡ effectOf (ruleAt k)
+
+  at-tag : (k : ℕ) → HasEffect k → tagOf R.the-type r ≡ k → d ≡ effectOf r
+  at-tag k h e = h ∙ ap (λ (j : ℕ). effectOf (ruleAt j)) (sym e) ∙ ap effectOf (rule-at-tag r)
+
+  pub same-effect : (ks : List ℕ) → All HasEffect ks → OneOf ks (tagOf R.the-type r) → d ≡ effectOf r
+  same-effect [] h e = absurd e
+  same-effect (k ∷ []) h e = at-tag k (h .0) e
+  same-effect (k ∷ j ∷ ks) h (inl e) = at-tag k (h .0) e
+  same-effect (k ∷ j ∷ ks) h (inr e) = same-effect (j ∷ ks) (h .1) e

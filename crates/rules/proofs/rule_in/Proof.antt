@@ -1,0 +1,61 @@
+-- `rules::rule_in` meets its contract: the rule of each group.
+use borrow.Author.Needs.{needs}
+use Rattle.model.specs.Rules.{soughtBy}
+use Rattle.rules.proofs.rule_in.Statement.{statement}
+use Rattle.rules.proofs.rule_in.Tie as tie
+
+enum-told : tie.Need-enum-told
+enum-told c = search needs
+
+instance-rule-requires : tie.Need-instance-rule-requires
+instance-rule-requires c κs = search needs
+
+enum-told-2 : tie.Need-enum-told-2
+enum-told-2 c = search needs
+
+task-rule-requires : tie.Need-task-rule-requires
+task-rule-requires c κs = search needs
+
+enum-told-3 : tie.Need-enum-told-3
+enum-told-3 c = search needs
+
+not-apart-rule-requires : tie.Need-not-apart-rule-requires
+not-apart-rule-requires c κs = search needs
+
+enum-told-4 : tie.Need-enum-told-4
+enum-told-4 c = search needs
+
+apart-rule-requires : tie.Need-apart-rule-requires
+apart-rule-requires c κs = search needs
+
+returns : tie.Need-returns
+returns c v h m e = rw (c .before .enum-told .given .1) (c .instance-rule .ensures _ v _ _)
+
+returns-2 : tie.Need-returns-2
+returns-2 c v h m e = rw (c .before .enum-told2 .given .1) (c .task-rule .ensures _ v h)
+
+returns-3 : tie.Need-returns-3
+unfolding soughtBy
+returns-3 c v h m e =
+    let n = rw (c .before .enum-told3 .given .1) at e in
+    rw (c .before .enum-told3 .given .1, n) (c .not-apart-rule .ensures v (rw n at h))
+
+returns-4 : tie.Need-returns-4
+returns-4 c v h m e = rw (c .before .enum-told4 .given .1) (c .apart-rule .ensures v h m)
+
+pub rule-in-spec : {M : Type 1} → statement M
+rule-in-spec =
+    tie.close
+    (tie.spec
+    enum-told
+    instance-rule-requires
+    enum-told-2
+    task-rule-requires
+    enum-told-3
+    not-apart-rule-requires
+    enum-told-4
+    apart-rule-requires
+    returns
+    returns-2
+    returns-3
+    returns-4)

@@ -1,0 +1,291 @@
+// Which rule a start uses, the task found for it, what the rule does, and whether there is room for it.
+
+ghost use Prim.Native.Nat.{ℕ, _+_, _*_, _≤_, _<_};
+ghost use mathlib.Core.Path.{_≡_};
+ghost use mathlib.Core.Bool.{_&&_, _||_};
+ghost use mathlib.Core.List.{List};
+ghost use lib.Dec.{eqb};
+ghost use lib.ListN.{length};
+ghost use Rattle.model.specs.Lists.{if_then_else_};
+ghost use Rattle.model.specs.Refusals.{refusal};
+ghost use Rattle.model.specs.Table.{isSingleTop, isSingleInstance};
+ghost use Rattle.model.specs.Session.{State, frontScreen, count, mostHeight};
+ghost use Rattle.model.specs.Search.{placeOf, isFound, isFoundByRoot, holds};
+ghost use Rattle.model.specs.Rules.{groupOf, soughtBy, choose as chooseRule};
+ghost use Rattle.model.specs.Effects.{effectOf};
+ghost use Rattle.model.specs.Calls.{isPush, roomChecks};
+ghost use Rattle.session.specs.Stored.{view, viewTask};
+ghost use Rattle.rules.specs.Startable.{Startable};
+ghost use Rattle.rules.specs.Shows.{indexOf, Shows, Filled};
+ghost use Rattle.rules.specs.Groups.{ruleOf};
+use model::Change;
+use model::Effect;
+use model::Flags;
+use model::Found;
+use model::Group;
+use model::Rule;
+use session::Session;
+use session::Task;
+
+// The place of the task found, or 0.
+pub fn place_of(found: Found) -> u8
+    ensures { λ r. ⌜ r ≡ placeOf found ⌝ }
+{
+    match found {
+        Found::Nowhere => 0,
+        Found::ByRoot(place) => place,
+        Found::ByAffinity(place) => place,
+    }
+}
+
+// The index of the task found: how many tasks stand before it; 0 where none was found: then the front task is meant.
+pub fn index_of(found: Found) -> usize
+    ensures { λ r. ⌜ r ≡ indexOf found ⌝ }
+{
+    let place = place_of(found);
+    if place == 0 {
+        return 0;
+    }
+    (place - 1) as usize
+}
+
+// A task was found.
+fn is_found(found: Found) -> bool
+    ensures { λ r. ⌜ r ≡ isFound found ⌝ }
+{
+    match found {
+        Found::Nowhere => false,
+        Found::ByRoot(_) => true,
+        Found::ByAffinity(_) => true,
+    }
+}
+
+// A task was found, and by its root.
+fn is_by_root(found: Found) -> bool
+    ensures { λ r. ⌜ r ≡ isFoundByRoot found ⌝ }
+{
+    match found {
+        Found::Nowhere => false,
+        Found::ByRoot(_) => true,
+        Found::ByAffinity(_) => false,
+    }
+}
+
+// What a rule does.
+pub fn effect_of(rule: Rule) -> Effect
+    ensures { λ r. ⌜ r ≡ effectOf rule ⌝ }
+{
+    match rule {
+        Rule::R2 | Rule::R6 | Rule::R11 | Rule::R18 => Effect::New,
+        Rule::R7 => Effect::InFront(Change::Keep),
+        Rule::R8 => Effect::InFront(Change::Clear),
+        Rule::R9 => Effect::InFront(Change::Lift),
+        Rule::R10 => Effect::InFront(Change::Push),
+        Rule::R3 | Rule::R12 => Effect::MoveAnd(Change::Renew),
+        Rule::R4 | Rule::R13 => Effect::MoveAnd(Change::Clear),
+        Rule::R5 | Rule::R14 | Rule::R17 => Effect::MoveAnd(Change::Push),
+        Rule::R1 | Rule::R15 | Rule::R16 => Effect::MoveAnd(Change::Keep),
+    }
+}
+
+// b stands in the task.
+fn holds_screen(t: Task, b: u8) -> bool
+    requires { ⌜ t .height ≤ 32 ⌝ }
+    ensures { λ r. ⌜ r ≡ holds b (viewTask t .screens) ⌝ }
+{
+    search::topmost(t, b) != 0
+}
+
+// The same, and it is looked for only where that is wanted.
+fn holds_where(wanted: bool, t: Task, b: u8) -> bool
+    requires { ⌜ t .height ≤ 32 ⌝ }
+    ensures { λ r. ⌜ r ≡ (wanted && holds b (viewTask t .screens)) ⌝ }
+{
+    if wanted {
+        return holds_screen(t, b);
+    }
+    false
+}
+
+// The mode of b is single-top, or STP is set.
+fn is_single(table: &[u8], b: u8, f: Flags) -> bool
+    requires { ⌜ 2 + 2 * b < length (now table) ⌝ }
+    ensures { λ r. ⌜ r ≡ (isSingleTop (now (table .entry)) b || f .stp) ⌝ }
+{
+    (table::mode(table, b) == 1) | f.stp
+}
+
+// NTK is set, or the front screen a is single-instance.
+fn is_apart(table: &[u8], a: u8, f: Flags) -> bool
+    requires { ⌜ 2 + 2 * a < length (now table) ⌝ }
+    ensures { λ r. ⌜ r ≡ (f .ntk || isSingleInstance (now (table .entry)) a) ⌝ }
+{
+    f.ntk | (table::mode(table, a) == 3)
+}
+
+// The group of rules for a start of b where a is the front screen.
+pub fn group_of(table: &[u8], a: u8, b: u8, f: Flags) -> Group
+    requires { ⌜ (2 + 2 * a < length (now table)) × (2 + 2 * b < length (now table)) ⌝ }
+    ensures { λ r. ⌜ ((v : State ℕ) → frontScreen v ≡ a → r ≡ groupOf (now (table .entry)) v b f) ⌝ }
+{
+    let mode = table::mode(table, b);
+    match mode {
+        3 => Group::Instance,
+        2 => Group::Task,
+        _ => {
+            if is_apart(table, a, f) {
+                return Group::Apart;
+            }
+            Group::NotApart
+        }
+    }
+}
+
+// The task that a group of rules seeks: where the start is apart, none if MTK asks for a new one.
+pub fn sought_by(table: &[u8], s: Session, b: u8, f: Flags, group: Group) -> Found
+    requires { ⌜ Startable (now table) s b ⌝ }
+    ensures { λ r. ⌜ r ≡ soughtBy (now (table .entry)) (view s) b f group ⌝ }
+{
+    match group {
+        Group::Instance => search::seek_root(s, b),
+        Group::Task => search::seek(table, s, b),
+        Group::NotApart => Found::Nowhere,
+        Group::Apart => {
+            if f.mtk {
+                return Found::Nowhere;
+            }
+            search::seek(table, s, b)
+        }
+    }
+}
+
+// R1 and R2: b is single-instance.
+fn instance_rule(found: Found) -> Rule
+    ensures { λ r. ⌜ ((tb : List ℕ) (v : State ℕ) (b : ℕ) (f : Flags) → r ≡ ruleOf Group.Instance tb v b f found) ⌝ }
+{
+    if is_found(found) {
+        return Rule::R1;
+    }
+    Rule::R2
+}
+
+// R3 to R6: b is single-task.
+fn task_rule(t: Task, b: u8, f: Flags, found: Found) -> Rule
+    requires { ⌜ Filled t ⌝ }
+    ensures { λ r. ⌜ ((tb : List ℕ) (v : State ℕ) → Shows v found t → r ≡ ruleOf Group.Task tb v b f found) ⌝ }
+{
+    if !is_found(found) {
+        return Rule::R6;
+    }
+    if f.ctk {
+        return Rule::R3;
+    }
+    if holds_screen(t, b) {
+        return Rule::R4;
+    }
+    Rule::R5
+}
+
+// R7 to R10: not apart; t is the front task. b is looked for only where CTP or RTF is set.
+fn not_apart_rule(table: &[u8], t: Task, b: u8, f: Flags) -> Rule
+    requires { ⌜ Filled t × (2 + 2 * b < length (now table)) ⌝ }
+    ensures { λ r. ⌜ ((v : State ℕ) → Shows v Found.Nowhere t → r ≡ ruleOf Group.NotApart (now (table .entry)) v b f Found.Nowhere) ⌝ }
+{
+    if (b == t.top()) & (is_single(table, b, f) | f.rtf | f.ctp) {
+        return Rule::R7;
+    }
+    let held = holds_where(f.ctp | f.rtf, t, b);
+    if f.ctp & held {
+        return Rule::R8;
+    }
+    if f.rtf & held {
+        return Rule::R9;
+    }
+    Rule::R10
+}
+
+// R11 to R18: apart. b is looked for only where CTP is set.
+fn apart_rule(table: &[u8], t: Task, main: u8, b: u8, f: Flags, found: Found) -> Rule
+    requires { ⌜ Filled t × (2 + 2 * b < length (now table)) ⌝ }
+    ensures { λ r. ⌜ ((v : State ℕ) → Shows v found t → v .main ≡ main → r ≡ ruleOf Group.Apart (now (table .entry)) v b f found) ⌝ }
+{
+    if f.mtk {
+        return Rule::R11;
+    }
+    if !is_found(found) {
+        return Rule::R18;
+    }
+    if f.ctk {
+        return Rule::R12;
+    }
+    if holds_where(f.ctp, t, b) {
+        return Rule::R13;
+    }
+    if f.ctp {
+        return Rule::R14;
+    }
+    if is_by_root(found) & (place_of(found) != main) {
+        return Rule::R15;
+    }
+    if is_single(table, b, f) & (t.top() == b) {
+        return Rule::R16;
+    }
+    Rule::R17
+}
+
+// The first rule of the group that fits, where t is the task found, or the front task where none was found.
+pub fn rule_in(table: &[u8], group: Group, t: Task, main: u8, b: u8, f: Flags, found: Found) -> Rule
+    requires { ⌜ Filled t × (2 + 2 * b < length (now table)) ⌝ }
+    ensures { λ r. ⌜ ((v : State ℕ) → Shows v found t → v .main ≡ main → found ≡ soughtBy (now (table .entry)) v b f group
+        → r ≡ ruleOf group (now (table .entry)) v b f found) ⌝ }
+{
+    match group {
+        Group::Instance => instance_rule(found),
+        Group::Task => task_rule(t, b, f, found),
+        Group::NotApart => not_apart_rule(table, t, b, f),
+        Group::Apart => apart_rule(table, t, main, b, f, found),
+    }
+}
+
+// The change is a push, and not one after the task was emptied.
+fn is_push(change: Change) -> bool
+    ensures { λ r. ⌜ r ≡ isPush change ⌝ }
+{
+    match change {
+        Change::Keep => false,
+        Change::Renew => false,
+        Change::Clear => false,
+        Change::Lift => false,
+        Change::Push => true,
+    }
+}
+
+// 24 where the change pushes onto a task of 32, else 0.
+fn push_refusal(t: Task, change: Change) -> u8
+    ensures { λ r. ⌜ r ≡ (if isPush change && eqb (t .height) mostHeight then 24 else 0) ⌝ }
+{
+    if is_push(change) & ((t.height as usize) == Session::SCREENS) {
+        return 24;
+    }
+    0
+}
+
+// 23 where a new task is needed and n is 16, 24 for a push onto a task of 32, else 0; t is the task found, or the front
+// task where none was found.
+pub fn room_refusal(n: u8, t: Task, effect: Effect) -> u8
+    requires { ⌜ Filled t ⌝ }
+    ensures { λ r. ⌜ ((tb : List ℕ) (v : State ℕ) (b : ℕ) (f : Flags)
+        → Shows v (chooseRule tb v b f .found) t → count v ≡ n → effect ≡ effectOf (chooseRule tb v b f .rule)
+        → r ≡ refusal (roomChecks (chooseRule tb v b f) v)) ⌝ }
+{
+    match effect {
+        Effect::New => {
+            if (n as usize) == Session::TASKS {
+                return 23;
+            }
+            0
+        }
+        Effect::InFront(change) => push_refusal(t, change),
+        Effect::MoveAnd(change) => push_refusal(t, change),
+    }
+}
