@@ -6,9 +6,6 @@ use Rattle.answer.proofs.LookLaws.{look-fronted}
 use Rattle.answer.proofs.look_at.Statement.{statement}
 use Rattle.answer.proofs.look_at.Tie as tie
 
-element-copy-out-t : tie.Need-element-copy-out-t
-element-copy-out-t c = search needs
-
 of-front-requires : tie.Need-of-front-requires
 of-front-requires c κs = λ some. (c .before .pre .filled some, c .before .pre .low some)
 
@@ -18,4 +15,4 @@ returns c =
     c .of-front .ensures ∙ sym (look-fronted (start .args .t1) (sized (start .args .t1) _ (start .good .0)) (start .pre))
 
 pub look-at-spec : {M : Type 1} → statement M
-look-at-spec = tie.close (tie.spec element-copy-out-t of-front-requires returns)
+look-at-spec = tie.close (tie.spec (λ c. search needs) of-front-requires returns)

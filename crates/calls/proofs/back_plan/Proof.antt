@@ -7,17 +7,8 @@ use Rattle.calls.proofs.PlanSettling.{back-some}
 use Rattle.calls.proofs.back_plan.Statement.{statement}
 use Rattle.calls.proofs.back_plan.Tie as tie
 
-first-refusal-requires : tie.Need-first-refusal-requires
-first-refusal-requires c κs = search needs
-
-still-requires : tie.Need-still-requires
-still-requires c κs = search needs
-
 returns : tie.Need-returns
 returns c = c .still .ensures ∙ unless-found _ _ (c .before .before .first-refusal .ensures) (c .before .if1 .taken)
-
-element-copy-out-front : tie.Need-element-copy-out-front
-element-copy-out-front c = search needs
 
 -- neither check refuses
 passed : (c : tie.Else1) → let a = c .before .before .args in (a .shared ≡ 0) × (backRefusal (a .t1) ≡ 0)
@@ -35,4 +26,4 @@ returns-2 c =
     c .closing-plan .ensures ∙ unless-passed _ _ _ (sym (c .before .before .before .first-refusal .ensures) ∙ c .before .before .if1 .left)
 
 pub back-plan-spec : {M : Type 1} → statement M
-back-plan-spec = tie.close (tie.spec first-refusal-requires still-requires returns element-copy-out-front closing-plan-requires returns-2)
+back-plan-spec = tie.close (tie.spec (λ c κs. search needs) (λ c κs. search needs) returns (λ c. search needs) closing-plan-requires returns-2)

@@ -41,9 +41,6 @@ gives c =
     rw (c .plan .ensures)
     (start-gives (a .table .now) (a .s) (sizes start) (a .b) (a .word) true (a .shared) (start .pre) (c .before .before .seek .ensures .number))
 
-element-copy-out-second : tie.Need-element-copy-out-second
-element-copy-out-second c = search needs
-
 answer-of-requires : tie.Need-answer-of-requires
 answer-of-requires c κs = gives (c .before) .showable
 
@@ -54,4 +51,4 @@ returns : tie.Need-returns
 returns c = rw (c .put .ensures, c .before .answer-of .ensures) (gives (c .before .before .before) .gives)
 
 pub finish-start-spec : {M : Type 1} → statement M
-finish-start-spec = tie.close (tie.spec seek-requires mul-t element-copy-out-t plan-requires element-copy-out-second answer-of-requires put-requires returns)
+finish-start-spec = tie.close (tie.spec seek-requires mul-t element-copy-out-t plan-requires (λ c. search needs) answer-of-requires put-requires returns)

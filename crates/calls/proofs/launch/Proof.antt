@@ -24,9 +24,6 @@ gives c =
     let a = start .args in
     rw (c .launch-plan .ensures) (launch-gives (a .table .now) (a .s) (sizes start) (a .shared) (start .pre))
 
-element-copy-out-second : tie.Need-element-copy-out-second
-element-copy-out-second c = search needs
-
 answer-of-requires : tie.Need-answer-of-requires
 answer-of-requires c κs = gives (c .before) .showable
 
@@ -37,4 +34,4 @@ returns : tie.Need-returns
 returns c = rw (c .put .ensures, c .before .answer-of .ensures) (gives (c .before .before .before) .gives)
 
 pub launch-spec : {M : Type 1} → statement M
-launch-spec = tie.close (tie.spec launch-plan-requires element-copy-out-second answer-of-requires put-requires returns)
+launch-spec = tie.close (tie.spec launch-plan-requires (λ c. search needs) answer-of-requires put-requires returns)

@@ -9,12 +9,6 @@ use Rattle.starts.proofs.Seeking.{or-none, unless-found, unless-passed}
 use Rattle.calls.proofs.launch_plan.Statement.{statement}
 use Rattle.calls.proofs.launch_plan.Tie as tie
 
-first-refusal-requires : tie.Need-first-refusal-requires
-first-refusal-requires c κs = search needs
-
-still-requires : tie.Need-still-requires
-still-requires c κs = search needs
-
 returns : tie.Need-returns
 returns c = c .still .ensures ∙ unless-found _ _ (c .before .before .first-refusal .ensures) (c .before .if1 .taken)
 
@@ -24,12 +18,6 @@ main-screen-requires c κs =
     let shared = or-none _ _ (sym (c .before .first-refusal .ensures) ∙ c .if1 .left) .0 in
     let g = good-shaped (start .args .table .now) (start .pre shared) in
     omega arith
-
-element-copy-out-blank : tie.Need-element-copy-out-blank
-element-copy-out-blank c = search needs
-
-front-after-requires : tie.Need-front-after-requires
-front-after-requires c κs = search needs
 
 -- no screen is marked
 gone-stands : {A : Type 0} (i : ℕ) → Mark.Gone ≡ Mark.Stands 0 i → A
@@ -52,11 +40,11 @@ pub launch-plan-spec : {M : Type 1} → statement M
 launch-plan-spec =
     tie.close
     (tie.spec
-    first-refusal-requires
-    still-requires
+    (λ c κs. search needs)
+    (λ c κs. search needs)
     returns
     main-screen-requires
-    element-copy-out-blank
-    front-after-requires
+    (λ c. search needs)
+    (λ c κs. search needs)
     closing-plan-requires
     returns-2)

@@ -7,9 +7,6 @@ use Rattle.calls.proofs.Settling.{shared-ready, call-refused, look-sett
 use Rattle.calls.proofs.look.Statement.{statement}
 use Rattle.calls.proofs.look.Tie as tie
 
-refuse-requires : tie.Need-refuse-requires
-refuse-requires c κs = search needs
-
 returns : tie.Need-returns
 returns c =
     let start = c .before .before .before in
@@ -30,4 +27,4 @@ returns-2 c =
     (sym (look-settled (a .table .now) (a .s) (sized (a .s) _ (start .good .1 .0)) (shared-ready (a .table .now) (a .s) (sym (start .pre) ∙ c .before .if1 .left))))
 
 pub look-spec : {M : Type 1} → statement M
-look-spec = tie.close (tie.spec refuse-requires returns look-at-requires returns-2)
+look-spec = tie.close (tie.spec (λ c κs. search needs) returns look-at-requires returns-2)

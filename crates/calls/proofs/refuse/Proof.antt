@@ -3,11 +3,8 @@ use borrow.Author.Needs.{needs}
 use Rattle.calls.proofs.refuse.Statement.{statement}
 use Rattle.calls.proofs.refuse.Tie as tie
 
-refused-requires : tie.Need-refused-requires
-refused-requires c κs = search needs
-
 returns : tie.Need-returns
 returns c = rw (c .refused .ensures)
 
 pub refuse-spec : {M : Type 1} → statement M
-refuse-spec = tie.close (tie.spec refused-requires returns)
+refuse-spec = tie.close (tie.spec (λ c κs. search needs) returns)

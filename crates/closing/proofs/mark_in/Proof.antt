@@ -9,18 +9,6 @@ use Rattle.closing.proofs.mark_in.Tie as tie
 enum-told : tie.Need-enum-told
 enum-told c = search needs
 
-enum-told-2 : tie.Need-enum-told-2
-enum-told-2 c = search needs
-
-enum-told-3 : tie.Need-enum-told-3
-enum-told-3 c = search needs
-
-enum-told-4 : tie.Need-enum-told-4
-enum-told-4 c = search needs
-
-enum-told-5 : tie.Need-enum-told-5
-enum-told-5 c = search needs
-
 -- keep, renew
 returns-3 : tie.Need-returns-3
 returns-3 c = sym (ap (λ (d : Change). markIn d (c .before .before .args .same)) (c .enum-told .given .1))
@@ -51,12 +39,12 @@ mark-in-spec =
     tie.close
     (tie.spec
     enum-told
-    enum-told-2
-    enum-told-3
+    (λ c. search needs)
+    (λ c. search needs)
     returns
-    enum-told-4
+    (λ c. search needs)
     returns-2
-    enum-told-5
+    (λ c. search needs)
     returns-3
     returns-4
     returns-5

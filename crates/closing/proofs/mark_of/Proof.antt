@@ -10,18 +10,6 @@ use Rattle.closing.proofs.mark_of.Tie as tie
 enum-told : tie.Need-enum-told
 enum-told c = search needs
 
-enum-known-effect : tie.Need-enum-known-effect
-enum-known-effect c = search needs
-
-mark-in-requires : tie.Need-mark-in-requires
-mark-in-requires c κs = search needs
-
-enum-known-effect-2 : tie.Need-enum-known-effect-2
-enum-known-effect-2 c = search needs
-
-mark-in-requires-2 : tie.Need-mark-in-requires-2
-mark-in-requires-2 c κs = search needs
-
 -- a new task
 returns-2 : tie.Need-returns-2
 returns-2 c = let a = c .before .before .args in sym (ap (λ (d : Effect). markAfter d (a .place) (a .same)) (c .enum-told .given .1))
@@ -48,10 +36,10 @@ mark-of-spec =
     tie.close
     (tie.spec
     enum-told
-    enum-known-effect
-    mark-in-requires
-    enum-known-effect-2
-    mark-in-requires-2
+    (λ c. search needs)
+    (λ c κs. search needs)
+    (λ c. search needs)
+    (λ c κs. search needs)
     returns
     returns-2
     returns-3

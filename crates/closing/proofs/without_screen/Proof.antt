@@ -10,20 +10,8 @@ use Rattle.closing.proofs.Gaps.{screen-gone}
 use Rattle.closing.proofs.without_screen.Statement.{statement}
 use Rattle.closing.proofs.without_screen.Tie as tie
 
-sub-m : tie.Need-sub-m
-sub-m c = search needs
-
-sub-m-2 : tie.Need-sub-m-2
-sub-m-2 c = search needs
-
-cast-m : tie.Need-cast-m
-cast-m c = search needs
-
 closed-up-requires : tie.Need-closed-up-requires
 closed-up-requires c κs = let f = blank-low (c .before .args .t) (c .before .pre .0) in omega arith
-
-sub-out : tie.Need-sub-out
-sub-out c = search needs
 
 returns : tie.Need-returns
 returns c =
@@ -34,4 +22,4 @@ returns c =
     ∙ sym (screen-gone t l (start .pre .0) (start .args .below) (start .pre .1))
 
 pub without-screen-spec : {M : Type 1} → statement M
-without-screen-spec = tie.close (tie.spec sub-m sub-m-2 cast-m closed-up-requires sub-out returns)
+without-screen-spec = tie.close (tie.spec (λ c. search needs) (λ c. search needs) (λ c. search needs) closed-up-requires (λ c. search needs) returns)

@@ -10,9 +10,6 @@ use Rattle.effects.proofs.base_of.Tie as tie
 enum-told : tie.Need-enum-told
 enum-told c = search needs
 
-emptied-requires : tie.Need-emptied-requires
-emptied-requires c κs = search needs
-
 returns : tie.Need-returns
 returns c =
     let a = c .before .before .before .args in
@@ -22,4 +19,4 @@ returns-2 : tie.Need-returns-2
 returns-2 c = let a = c .before .args in base-kept (a .t) (a .change) (c .match .keys2)
 
 pub base-of-spec : {M : Type 1} → statement M
-base-of-spec = tie.close (tie.spec enum-told emptied-requires returns returns-2)
+base-of-spec = tie.close (tie.spec enum-told (λ c κs. search needs) returns returns-2)

@@ -22,20 +22,11 @@ module _ (t : Task) {change d : Change} (e : change ≡ d) where
   told : (b : ℕ) → changedTask b d t ≡ changedTask b change t
   told b = ap (λ (x : Change). changedTask b x t) (sym e)
 
-base-of-requires : tie.Need-base-of-requires
-base-of-requires c κs = search needs
-
 enum-told : tie.Need-enum-told
 enum-told c = search needs
 
-enum-told-2 : tie.Need-enum-told-2
-enum-told-2 c = search needs
-
 cleared-requires : tie.Need-cleared-requires
 cleared-requires c κs = let start = c .before .before .before in found (start .args .t) (c .enum-told2 .given .1) (start .pre)
-
-enum-told-3 : tie.Need-enum-told-3
-enum-told-3 c = search needs
 
 lifted-requires : tie.Need-lifted-requires
 lifted-requires c κs = let start = c .before .before .before in found (start .args .t) (c .enum-told3 .given .1) (start .pre)
@@ -80,11 +71,11 @@ pub changed-spec : {M : Type 1} → statement M
 changed-spec =
     tie.close
     (tie.spec
-    base-of-requires
+    (λ c κs. search needs)
     enum-told
-    enum-told-2
+    (λ c. search needs)
     cleared-requires
-    enum-told-3
+    (λ c. search needs)
     lifted-requires
     push-requires
     returns

@@ -28,9 +28,6 @@ sub-lowered c =
     let f = place-low t l (start .pre) (start .args .b) (c .before .before .topmost .result) (c .before .before .topmost .ensures) (c .before .if1 .left) in
     omega arith
 
-lowered-requires : tie.Need-lowered-requires
-lowered-requires c κs = search needs
-
 returns-2 : tie.Need-returns-2
 returns-2 c =
     let start = c .before .before .before .before in
@@ -40,4 +37,4 @@ returns-2 c =
     c .lowered .ensures ∙ sym (clear-found t l (start .pre) (start .args .b) (top .result) (top .ensures) (c .before .before .if1 .left))
 
 pub cleared-spec : {M : Type 1} → statement M
-cleared-spec = tie.close (tie.spec topmost-requires returns add-lowered sub-lowered lowered-requires returns-2)
+cleared-spec = tie.close (tie.spec topmost-requires returns add-lowered sub-lowered (λ c κs. search needs) returns-2)

@@ -10,25 +10,10 @@ use Rattle.effects.proofs.count_after.Tie as tie
 enum-told : tie.Need-enum-told
 enum-told c = search needs
 
-add-result : tie.Need-add-result
-add-result c = search needs
-
-enum-told-2 : tie.Need-enum-told-2
-enum-told-2 c = search needs
-
-enum-told-3 : tie.Need-enum-told-3
-enum-told-3 c = search needs
-
 returns : tie.Need-returns
 returns c =
     let n = c .before .before .args .n in
     add-one n ∙ ap (λ (d : Effect). countAfter d n) (sym (c .enum-told .given .1))
 
-returns-2 : tie.Need-returns-2
-returns-2 c = search needs
-
-returns-3 : tie.Need-returns-3
-returns-3 c = search needs
-
 pub count-after-spec : {M : Type 1} → statement M
-count-after-spec = tie.close (tie.spec enum-told add-result enum-told-2 enum-told-3 returns returns-2 returns-3)
+count-after-spec = tie.close (tie.spec enum-told (λ c. search needs) (λ c. search needs) (λ c. search needs) returns (λ c. search needs) (λ c. search needs))

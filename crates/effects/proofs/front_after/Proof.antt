@@ -9,17 +9,11 @@ use Rattle.effects.proofs.Bases.{alterable, front-is}
 use Rattle.effects.proofs.front_after.Statement.{statement}
 use Rattle.effects.proofs.front_after.Tie as tie
 
-change-of-requires : tie.Need-change-of-requires
-change-of-requires c κs = search needs
-
 changed-requires : tie.Need-changed-requires
 changed-requires c κs =
     let start = c .before in
     let t = start .args .t in
     subst (λ (x : Change). Alterable x t) (sym (c .change-of .ensures)) (alterable t (start .args .effect) (start .pre))
-
-root-after-requires : tie.Need-root-after-requires
-root-after-requires c κs = search needs
 
 returns : tie.Need-returns
 returns c =
@@ -29,4 +23,4 @@ returns c =
     ∙ front-is (a .t) (a .b) (a .effect)
 
 pub front-after-spec : {M : Type 1} → statement M
-front-after-spec = tie.close (tie.spec change-of-requires changed-requires root-after-requires returns)
+front-after-spec = tie.close (tie.spec (λ c κs. search needs) changed-requires (λ c κs. search needs) returns)

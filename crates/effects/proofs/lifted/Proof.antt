@@ -30,15 +30,6 @@ low c =
 sub-closed-up : tie.Need-sub-closed-up
 sub-closed-up c = omega (arith, low c)
 
-cast-closed-up : tie.Need-cast-closed-up
-cast-closed-up c = search needs
-
-sub-closed-up-2 : tie.Need-sub-closed-up-2
-sub-closed-up-2 c = search needs
-
-cast-closed-up-2 : tie.Need-cast-closed-up-2
-cast-closed-up-2 c = search needs
-
 closed-up-requires : tie.Need-closed-up-requires
 closed-up-requires c κs = let f = blank-low (c .before .before .before .args .t) (c .before .before .before .pre) in omega (arith, low c)
 
@@ -51,4 +42,4 @@ returns-2 c =
     (c .before .before .before .topmost .ensures) (c .before .before .if1 .left))
 
 pub lifted-spec : {M : Type 1} → statement M
-lifted-spec = tie.close (tie.spec topmost-requires returns sub-closed-up cast-closed-up sub-closed-up-2 cast-closed-up-2 closed-up-requires returns-2)
+lifted-spec = tie.close (tie.spec topmost-requires returns sub-closed-up (λ c. search needs) (λ c. search needs) (λ c. search needs) closed-up-requires returns-2)

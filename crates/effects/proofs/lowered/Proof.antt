@@ -22,9 +22,6 @@ Inv-loop h low i₀ out₀ i out =
 abbrev μ-loop : tie.MeasureT-loop
 μ-loop h low i₀ out₀ i out = i
 
-cast-i : tie.Need-cast-i Inv-loop μ-loop
-cast-i c = search needs
-
 loop-holds : tie.Need-loop-holds Inv-loop μ-loop
 loop-holds c =
     let t = c .before .args .t in
@@ -32,15 +29,6 @@ loop-holds c =
     let b = c .before .pre .0 in
     let e = sym (ap (λ (ys : List ℕ). take (t .height) (t .screens) ++ ys) (sym (blank-drop t l b)) ∙ take-append-drop (t .height) (t .screens)) in
     (c .before .pre .1, (blank-low t b, ap (withScreens (withHeight t (c .before .args .h))) e))
-
-sub-i : tie.Need-sub-i Inv-loop μ-loop
-sub-i c = search needs
-
-element-write-out : tie.Need-element-write-out Inv-loop μ-loop
-element-write-out c = search needs
-
-loop-less : tie.Need-loop-less Inv-loop μ-loop
-loop-less c = search needs
 
 loop-again : tie.Need-loop-again Inv-loop μ-loop
 loop-again c =
@@ -64,4 +52,4 @@ returns c =
     here .inv .1 .1 ∙ ap (λ (i : ℕ). withScreens (withHeight (a .t) (a .h)) (take i (a .t .screens) ++ replicate (32 - i) 0)) k
 
 pub lowered-spec : {M : Type 1} → statement M
-lowered-spec = tie.close (tie.spec Inv-loop μ-loop cast-i loop-holds sub-i element-write-out loop-less loop-again returns)
+lowered-spec = tie.close (tie.spec Inv-loop μ-loop (λ c. search needs) loop-holds (λ c. search needs) (λ c. search needs) (λ c. search needs) loop-again returns)

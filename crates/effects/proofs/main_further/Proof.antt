@@ -4,14 +4,8 @@ use Rattle.effects.proofs.Places.{further-some}
 use Rattle.effects.proofs.main_further.Statement.{statement}
 use Rattle.effects.proofs.main_further.Tie as tie
 
-returns : tie.Need-returns
-returns c = search needs
-
-add-result : tie.Need-add-result
-add-result c = search needs
-
 returns-2 : tie.Need-returns-2
 returns-2 c = further-some _ (c .if1 .left)
 
 pub main-further-spec : {M : Type 1} → statement M
-main-further-spec = tie.close (tie.spec returns add-result returns-2)
+main-further-spec = tie.close (tie.spec (λ c. search needs) (λ c. search needs) returns-2)

@@ -11,9 +11,6 @@ returns c = sym (moved-none _ _ (c .if1 .taken))
 returns-2 : tie.Need-returns-2
 returns-2 c = sym (moved-itself _ _ (c .before .if1 .left) (c .if2 .taken))
 
-add-result : tie.Need-add-result
-add-result c = search needs
-
 returns-3 : tie.Need-returns-3
 returns-3 c = sym (moved-before _ _ (c .before .before .if1 .left) (c .before .if2 .left) (c .if3 .taken))
 
@@ -21,4 +18,4 @@ returns-4 : tie.Need-returns-4
 returns-4 c = sym (moved-behind _ _ (c .before .before .if1 .left) (c .before .if2 .left) (c .if3 .left))
 
 pub main-moved-spec : {M : Type 1} → statement M
-main-moved-spec = tie.close (tie.spec returns returns-2 add-result returns-3 returns-4)
+main-moved-spec = tie.close (tie.spec returns returns-2 (λ c. search needs) returns-3 returns-4)

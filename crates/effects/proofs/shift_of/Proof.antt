@@ -9,26 +9,11 @@ use Rattle.effects.specs.Fronted.{shiftOf}
 use Rattle.effects.proofs.shift_of.Statement.{statement}
 use Rattle.effects.proofs.shift_of.Tie as tie
 
-enum-told : tie.Need-enum-told
-enum-told c = search needs
-
-enum-told-2 : tie.Need-enum-told-2
-enum-told-2 c = search needs
-
-enum-told-3 : tie.Need-enum-told-3
-enum-told-3 c = search needs
-
 sub-result : tie.Need-sub-result
 sub-result c =
     let start = c .before .before in
     let h : 1 ≤ start .args .place = subst (λ (d : Effect). Placed d (start .args .place)) (c .enum-told3 .given .1) (start .pre) in
     omega arith
-
-returns : tie.Need-returns
-returns c = search needs
-
-returns-2 : tie.Need-returns-2
-returns-2 c = search needs
 
 returns-3 : tie.Need-returns-3
 returns-3 c =
@@ -37,4 +22,4 @@ returns-3 c =
     e ∙ ap (λ (d : Effect). shiftOf d (a .place) (a .n)) (sym (c .enum-told3 .given .1))
 
 pub shift-of-spec : {M : Type 1} → statement M
-shift-of-spec = tie.close (tie.spec enum-told enum-told-2 enum-told-3 sub-result returns returns-2 returns-3)
+shift-of-spec = tie.close (tie.spec (λ c. search needs) (λ c. search needs) (λ c. search needs) sub-result (λ c. search needs) (λ c. search needs) returns-3)

@@ -12,23 +12,11 @@ use Rattle.image.proofs.read.Tie as tie
 sub-end : tie.Need-sub-end
 sub-end c = shaped-six (c .before .args .image .now) (c .before .pre)
 
-add-n : tie.Need-add-n
-add-n c = search needs
-
 shared-slice-read-n : tie.Need-shared-slice-read-n
 shared-slice-read-n c = let l = shaped-six (c .before .before .args .image .now) (c .before .before .pre) in omega arith
 
-add-main : tie.Need-add-main
-add-main c = search needs
-
 shared-slice-read-main : tie.Need-shared-slice-read-main
 shared-slice-read-main c = let l = shaped-six (c .before .before .before .args .image .now) (c .before .before .before .pre) in omega arith
-
-wide-requires : tie.Need-wide-requires
-wide-requires c κs = search needs
-
-unreadable-requires : tie.Need-unreadable-requires
-unreadable-requires c κs = search needs
 
 returns : tie.Need-returns
 returns c =
@@ -41,9 +29,6 @@ slice-aggregate-read-tasks c =
     let l : length image - 6 ≤ length image = omega arith in
     sym (length-take-le _ _ l)
 
-read-tasks-requires : tie.Need-read-tasks-requires
-read-tasks-requires c κs = search needs
-
 returns-2 : tie.Need-returns-2
 returns-2 c =
     let a = c .before .before .before .before .before .before .before .args in
@@ -54,13 +39,13 @@ read-spec =
     tie.close
     (tie.spec
     sub-end
-    add-n
+    (λ c. search needs)
     shared-slice-read-n
-    add-main
+    (λ c. search needs)
     shared-slice-read-main
-    wide-requires
-    unreadable-requires
+    (λ c κs. search needs)
+    (λ c κs. search needs)
     returns
     slice-aggregate-read-tasks
-    read-tasks-requires
+    (λ c κs. search needs)
     returns-2)

@@ -13,34 +13,10 @@ Inv-loop body at height h bottom out₀ i₀ out i = (i ≤ height) × (out ≡ 
 abbrev μ-loop : tie.MeasureT-loop
 μ-loop body at height h bottom out₀ i₀ out i = height - i
 
-add-bottom : tie.Need-add-bottom Inv-loop μ-loop
-add-bottom c = search needs
-
-add-bottom-2 : tie.Need-add-bottom-2 Inv-loop μ-loop
-add-bottom-2 c = search needs
-
-shared-slice-read-t10 : tie.Need-shared-slice-read-t10 Inv-loop μ-loop
-shared-slice-read-t10 c = search needs
-
 loop-holds : tie.Need-loop-holds Inv-loop μ-loop
 loop-holds c =
     let a = c .before .args in
     (omega arith, part-none (a .body .now) (a .at) (a .height) (c .before .pre .1))
-
-sub-out : tie.Need-sub-out Inv-loop μ-loop
-sub-out c = search needs
-
-shared-slice-read-out : tie.Need-shared-slice-read-out Inv-loop μ-loop
-shared-slice-read-out c = search needs
-
-element-write-out : tie.Need-element-write-out Inv-loop μ-loop
-element-write-out c = search needs
-
-add-i : tie.Need-add-i Inv-loop μ-loop
-add-i c = search needs
-
-loop-less : tie.Need-loop-less Inv-loop μ-loop
-loop-less c = search needs
 
 loop-again : tie.Need-loop-again Inv-loop μ-loop
 loop-again c =
@@ -62,14 +38,14 @@ read-task-spec =
     (tie.spec
     Inv-loop
     μ-loop
-    add-bottom
-    add-bottom-2
-    shared-slice-read-t10
+    (λ c. search needs)
+    (λ c. search needs)
+    (λ c. search needs)
     loop-holds
-    sub-out
-    shared-slice-read-out
-    element-write-out
-    add-i
-    loop-less
+    (λ c. search needs)
+    (λ c. search needs)
+    (λ c. search needs)
+    (λ c. search needs)
+    (λ c. search needs)
     loop-again
     returns)

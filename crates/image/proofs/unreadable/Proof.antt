@@ -3,11 +3,8 @@ use borrow.Author.Needs.{needs}
 use Rattle.image.proofs.unreadable.Statement.{statement}
 use Rattle.image.proofs.unreadable.Tie as tie
 
-fresh-requires : tie.Need-fresh-requires
-fresh-requires c κs = search needs
-
 returns : tie.Need-returns
 returns c = rw (c .fresh .ensures)
 
 pub unreadable-spec : {M : Type 1} → statement M
-unreadable-spec = tie.close (tie.spec fresh-requires returns)
+unreadable-spec = tie.close (tie.spec (λ c κs. search needs) returns)

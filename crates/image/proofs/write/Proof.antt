@@ -22,19 +22,10 @@ Inv-loop out₀ s n at₀ i₀ out at i =
 abbrev μ-loop : tie.MeasureT-loop
 μ-loop out₀ s n at₀ i₀ out at i = n - i
 
-cast-tasks : tie.Need-cast-tasks Inv-loop μ-loop
-cast-tasks c = search needs
-
 loop-holds : tie.Need-loop-holds Inv-loop μ-loop
 loop-holds c =
     let a = c .before .args in
     (omega arith, (blank-few (a .t1) (c .before .pre .0), (omega arith, wrote-nil (a .out .now) 0)))
-
-mul-t : tie.Need-mul-t Inv-loop μ-loop
-mul-t c = search needs
-
-element-copy-out-t : tie.Need-element-copy-out-t Inv-loop μ-loop
-element-copy-out-t c = search needs
 
 -- the task behind i others
 next : (c : tie.At-loop Inv-loop μ-loop) → c .loop .i < c .before .before .args .t1 .n
@@ -62,12 +53,6 @@ write-task-requires c κs =
     let k = kept here in
     let at = here .loop .inv .1 .1 .1 .place in
     (n .low, omega (arith, image-length v, body-part (here .loop .i + 1) (v .tasks)))
-
-add-i : tie.Need-add-i Inv-loop μ-loop
-add-i c = search needs
-
-loop-less : tie.Need-loop-less Inv-loop μ-loop
-loop-less c = search needs
 
 loop-again : tie.Need-loop-again Inv-loop μ-loop
 loop-again c =
@@ -105,13 +90,13 @@ write-spec =
     (tie.spec
     Inv-loop
     μ-loop
-    cast-tasks
+    (λ c. search needs)
     loop-holds
-    mul-t
-    element-copy-out-t
+    (λ c. search needs)
+    (λ c. search needs)
     write-task-requires
-    add-i
-    loop-less
+    (λ c. search needs)
+    (λ c. search needs)
     loop-again
     write-trailer-requires
     same-length

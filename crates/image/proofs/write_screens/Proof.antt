@@ -18,27 +18,12 @@ Inv-loop out₀ at t h i₀ out i = (i ≤ h) × Wrote out₀ at (take (h - i) (
 abbrev μ-loop : tie.MeasureT-loop
 μ-loop out₀ at t h i₀ out i = i
 
-cast-h : tie.Need-cast-h Inv-loop μ-loop
-cast-h c = search needs
-
 loop-holds : tie.Need-loop-holds Inv-loop μ-loop
 loop-holds c =
     let a = c .args in
     let none : a .t3 .height - a .t3 .height ≡ 0 = omega arith in
     let place : a .at + a .t3 .height - a .t3 .height ≡ a .at = omega arith in
     (omega arith, rw (none, place) (wrote-nil (a .out .now) (a .at)))
-
-add-place : tie.Need-add-place Inv-loop μ-loop
-add-place c = search needs
-
-sub-place : tie.Need-sub-place Inv-loop μ-loop
-sub-place c = search needs
-
-sub-i : tie.Need-sub-i Inv-loop μ-loop
-sub-i c = search needs
-
-element-copy-out-out : tie.Need-element-copy-out-out Inv-loop μ-loop
-element-copy-out-out c = search needs
 
 -- what is written fits, and the buffer keeps its length
 fits : (c : tie.At-loop Inv-loop μ-loop) → c .before .args .at + c .before .args .t3 .height - c .loop .i ≤ length (c .before .args .out .now)
@@ -49,9 +34,6 @@ kept c = wrote-length (c .loop .inv .1) (fits c)
 
 slice-write-out : tie.Need-slice-write-out Inv-loop μ-loop
 slice-write-out c = omega (arith, kept (c .before .before))
-
-loop-less : tie.Need-loop-less Inv-loop μ-loop
-loop-less c = search needs
 
 loop-again : tie.Need-loop-again Inv-loop μ-loop
 loop-again c =
@@ -68,9 +50,6 @@ loop-again c =
     rw (n, take-suc (viewTask (a .t3) .screens) j 0 (omega arith), view-screen (a .t3) (omega arith) (i - 1) j (omega arith)) in
     let w = wrote-one (here .loop .out) (a .at + a .t3 .height - i) x (omega (arith, kept here)) in
     (omega arith, rw (e, place) (wrote-append (here .loop .inv .1) (fits here) w))
-
-add-result : tie.Need-add-result Inv-loop μ-loop
-add-result c = search needs
 
 same-length : tie.Need-same-length Inv-loop μ-loop
 same-length c = kept (c .before)
@@ -89,15 +68,15 @@ write-screens-spec =
     (tie.spec
     Inv-loop
     μ-loop
-    cast-h
+    (λ c. search needs)
     loop-holds
-    add-place
-    sub-place
-    sub-i
-    element-copy-out-out
+    (λ c. search needs)
+    (λ c. search needs)
+    (λ c. search needs)
+    (λ c. search needs)
     slice-write-out
-    loop-less
+    (λ c. search needs)
     loop-again
-    add-result
+    (λ c. search needs)
     same-length
     returns)

@@ -11,20 +11,8 @@ use Rattle.session.proofs.TaskLaws.{view-height}
 use Rattle.image.proofs.write_task.Statement.{statement}
 use Rattle.image.proofs.write_task.Tie as tie
 
-slice-write-out : tie.Need-slice-write-out
-slice-write-out c = search needs
-
-add-out : tie.Need-add-out
-add-out c = search needs
-
 slice-write-out-2 : tie.Need-slice-write-out-2
 slice-write-out-2 c = simp length-set (omega arith)
-
-add-write-screens : tie.Need-add-write-screens
-add-write-screens c = search needs
-
-write-screens-requires : tie.Need-write-screens-requires
-write-screens-requires c κs = search needs
 
 same-length : tie.Need-same-length
 same-length c = c .before .before .write-screens .kept .0 ∙ simp length-set
@@ -47,10 +35,10 @@ pub write-task-spec : {M : Type 1} → statement M
 write-task-spec =
     tie.close
     (tie.spec
-    slice-write-out
-    add-out
+    (λ c. search needs)
+    (λ c. search needs)
     slice-write-out-2
-    add-write-screens
-    write-screens-requires
+    (λ c. search needs)
+    (λ c κs. search needs)
     same-length
     returns)

@@ -1,4 +1,4 @@
--- `calls::image_refusal` meets its contract: 6, then 7, then 0.
+-- `image_calls::image_refusal` meets its contract: 6, then 7, then 0.
 use mathlib.Core.Bool.{true}
 use mathlib.Core.Path.{_≡_}
 use borrow.Author.Needs.{needs}
@@ -10,9 +10,6 @@ use Rattle.image_calls.proofs.image_refusal.Tie as tie
 returns : tie.Need-returns
 returns c = rw (not-true (c .before .before .args .readable) (c .if1 .taken))
 
-sound-requires : tie.Need-sound-requires
-sound-requires c κs = search needs
-
 readable : (c : tie.Else1) → c .before .before .args .readable ≡ true
 readable c = not-false _ (c .if1 .left)
 
@@ -23,4 +20,4 @@ returns-3 : tie.Need-returns-3
 returns-3 c = rw (readable (c .before .before), said-yes (c .before .sound .ensures) (c .if2 .left))
 
 pub image-refusal-spec : {M : Type 1} → statement M
-image-refusal-spec = tie.close (tie.spec returns sound-requires returns-2 returns-3)
+image-refusal-spec = tie.close (tie.spec returns (λ c κs. search needs) returns-2 returns-3)

@@ -12,9 +12,6 @@ use Rattle.image_calls.proofs.RestoreSettling.{unshaped-left, read-left
 use Rattle.image_calls.proofs.restore.Statement.{statement}
 use Rattle.image_calls.proofs.restore.Tie as tie
 
-shaped-requires : tie.Need-shaped-requires
-shaped-requires c κs = search needs
-
 -- the shared checks passed
 ready : (c : tie.Then1) → let a = c .before .before .before .args in Ready (a .table .now) (a .s)
 ready c =
@@ -59,4 +56,4 @@ returns c =
     ap (reply (c .before .if1 .out)) (c .told .ensures) ∙ left (c .before) .settles
 
 pub restore-spec : {M : Type 1} → statement M
-restore-spec = tie.close (tie.spec shaped-requires read-requires image-refusal-requires told-requires returns)
+restore-spec = tie.close (tie.spec (λ c κs. search needs) read-requires image-refusal-requires told-requires returns)

@@ -1,4 +1,4 @@
--- `calls::save` meets its contract: refused by 8 before a byte is written, or the image at the start of the buffer.
+-- `image_calls::save` meets its contract: refused by 8 before a byte is written, or the image at the start of the buffer.
 use mathlib.Core.Path.{sym}
 use native.Mathlib.Omega.{arith}
 use borrow.Author.Needs.{needs}
@@ -9,9 +9,6 @@ use Rattle.image_calls.proofs.save.Tie as tie
 
 length-requires : tie.Need-length-requires
 length-requires c κs = let start = c .before .before in sound-blank (start .args .table .now) (start .args .s) (start .pre .sound)
-
-refuse-save-requires : tie.Need-refuse-save-requires
-refuse-save-requires c κs = search needs
 
 returns : tie.Need-returns
 returns c =
@@ -25,9 +22,6 @@ write-requires c κs =
     let start = c .before .before .before .before .before in
     (sound-blank (start .args .table .now) (start .args .s) (start .pre .sound), omega arith)
 
-same-length : tie.Need-same-length
-same-length c = search needs
-
 returns-2 : tie.Need-returns-2
 returns-2 c =
     let start = c .before .before .before .before .before .before .before .before in
@@ -38,4 +32,4 @@ returns-2 c =
 pub save-spec : {M : Type 1} → statement M
 save-spec =
     tie.close
-    (tie.spec length-requires refuse-save-requires returns write-requires same-length returns-2)
+    (tie.spec length-requires (λ c κs. search needs) returns write-requires (λ c. search needs) returns-2)

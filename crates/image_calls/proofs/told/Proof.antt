@@ -5,9 +5,6 @@ use Rattle.answer.proofs.LookLaws.{answer-refused, answer-accepted}
 use Rattle.image_calls.proofs.told.Statement.{statement}
 use Rattle.image_calls.proofs.told.Tie as tie
 
-refused-requires : tie.Need-refused-requires
-refused-requires c κs = search needs
-
 returns : tie.Need-returns
 returns c =
     let a = c .before .before .args in
@@ -22,4 +19,4 @@ returns-2 c =
     c .look-at .ensures ∙ answer-accepted _ (a .number) (c .before .if1 .left)
 
 pub told-spec : {M : Type 1} → statement M
-told-spec = tie.close (tie.spec refused-requires returns look-at-requires returns-2)
+told-spec = tie.close (tie.spec (λ c κs. search needs) returns look-at-requires returns-2)

@@ -20,12 +20,6 @@ use Rattle.input.proofs.TextLaws.{text-stop, text-none, text-table, tex
 use Rattle.input.proofs.player_text.Statement.{statement}
 use Rattle.input.proofs.player_text.Tie as tie
 
-beginning-of-requires : tie.Need-beginning-of-requires
-beginning-of-requires c κs = search needs
-
-enum-known-long : tie.Need-enum-known-long
-enum-known-long c = search needs
-
 -- no table stands in the input
 otherwise : (c : tie.At-match-keys2) → startsWithTable (c .before .before .before .before .args .input .now) ≡ false
 otherwise c =
@@ -37,12 +31,6 @@ returns c =
     let a = c .before .before .before .before .before .args in
     let t = text-none (a .input .now) (a .out .now) (otherwise (c .before)) (omega arith) in
     (ap length (sym t), (sym (written-nil (a .out .now) 0) ∙ ap (written (a .out .now) 0) (sym t), text-whole (a .input .now) (a .out .now)))
-
-write-stop-requires : tie.Need-write-stop-requires
-write-stop-requires c κs = search needs
-
-same-length : tie.Need-same-length
-same-length c = search needs
 
 returns-2 : tie.Need-returns-2
 returns-2 c =
@@ -68,23 +56,14 @@ within c =
 slice-aggregate-play : tie.Need-slice-aggregate-play
 slice-aggregate-play c = sym (length-take-le _ _ (within (c .before .before)))
 
-fresh-requires : tie.Need-fresh-requires
-fresh-requires c κs = search needs
-
 sub-play : tie.Need-sub-play
 sub-play c = within (c .before .before .before)
 
 part-play-start : tie.Need-part-play-start
 part-play-start c = within (c .before .before .before)
 
-part-play-end : tie.Need-part-play-end
-part-play-end c = search needs
-
 play-requires : tie.Need-play-requires
 play-requires c κs = rw (c .before .before .fresh .ensures) (fresh-playable _)
-
-same-length-2 : tie.Need-same-length-2
-same-length-2 c = search needs
 
 returns-3 : tie.Need-returns-3
 returns-3 c =
@@ -102,17 +81,17 @@ pub player-text-spec : {M : Type 1} → statement M
 player-text-spec =
     tie.close
     (tie.spec
-    beginning-of-requires
-    enum-known-long
+    (λ c κs. search needs)
+    (λ c. search needs)
     returns
-    write-stop-requires
-    same-length
+    (λ c κs. search needs)
+    (λ c. search needs)
     returns-2
     slice-aggregate-play
-    fresh-requires
+    (λ c κs. search needs)
     sub-play
     part-play-start
-    part-play-end
+    (λ c. search needs)
     play-requires
-    same-length-2
+    (λ c. search needs)
     returns-3)

@@ -4,19 +4,10 @@ use borrow.Author.Needs.{needs}
 use Rattle.input.proofs.write_stop.Statement.{statement}
 use Rattle.input.proofs.write_stop.Tie as tie
 
-refused-requires : tie.Need-refused-requires
-refused-requires c κs = search needs
-
-write-line-requires : tie.Need-write-line-requires
-write-line-requires c κs = search needs
-
-same-length : tie.Need-same-length
-same-length c = search needs
-
 returns : tie.Need-returns
 returns c =
     let w = rw (c .before .before .before .refused .ensures) at (c .before .before .write-line .ensures) in
     (omega arith, (w .1 .0, omega arith))
 
 pub write-stop-spec : {M : Type 1} → statement M
-write-stop-spec = tie.close (tie.spec refused-requires write-line-requires same-length returns)
+write-stop-spec = tie.close (tie.spec (λ c κs. search needs) (λ c κs. search needs) (λ c. search needs) returns)

@@ -5,9 +5,6 @@ use Rattle.navigator.proofs.Promised.{call-promised}
 use Rattle.navigator.proofs.back.Statement.{statement}
 use Rattle.navigator.proofs.back.Tie as tie
 
-shared-refusal-requires : tie.Need-shared-refusal-requires
-shared-refusal-requires c κs = search needs
-
 back-requires : tie.Need-back-requires
 back-requires c κs = c .shared-refusal .ensures
 
@@ -17,4 +14,4 @@ returns c =
     call-promised (a .table .now) (a .s) (c .back .result) back (c .back .ensures)
 
 pub back-spec : {M : Type 1} → statement M
-back-spec = tie.close (tie.spec shared-refusal-requires back-requires returns)
+back-spec = tie.close (tie.spec (λ c κs. search needs) back-requires returns)

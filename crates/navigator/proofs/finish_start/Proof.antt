@@ -5,9 +5,6 @@ use Rattle.navigator.proofs.Promised.{call-promised}
 use Rattle.navigator.proofs.finish_start.Statement.{statement}
 use Rattle.navigator.proofs.finish_start.Tie as tie
 
-shared-refusal-requires : tie.Need-shared-refusal-requires
-shared-refusal-requires c κs = search needs
-
 finish-start-requires : tie.Need-finish-start-requires
 finish-start-requires c κs = c .shared-refusal .ensures
 
@@ -17,4 +14,4 @@ returns c =
     call-promised (a .table .now) (a .s) (c .finish-start .result) (finishingStart (a .b) (a .word)) (c .finish-start .ensures)
 
 pub finish-start-spec : {M : Type 1} → statement M
-finish-start-spec = tie.close (tie.spec shared-refusal-requires finish-start-requires returns)
+finish-start-spec = tie.close (tie.spec (λ c κs. search needs) finish-start-requires returns)

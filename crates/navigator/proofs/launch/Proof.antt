@@ -5,9 +5,6 @@ use Rattle.navigator.proofs.Promised.{call-promised}
 use Rattle.navigator.proofs.launch.Statement.{statement}
 use Rattle.navigator.proofs.launch.Tie as tie
 
-shared-refusal-requires : tie.Need-shared-refusal-requires
-shared-refusal-requires c κs = search needs
-
 launch-requires : tie.Need-launch-requires
 launch-requires c κs = c .shared-refusal .ensures
 
@@ -17,4 +14,4 @@ returns c =
     call-promised (a .table .now) (a .s) (c .launch .result) launch (c .launch .ensures)
 
 pub launch-spec : {M : Type 1} → statement M
-launch-spec = tie.close (tie.spec shared-refusal-requires launch-requires returns)
+launch-spec = tie.close (tie.spec (λ c κs. search needs) launch-requires returns)

@@ -5,9 +5,6 @@ use Rattle.navigator.proofs.Promised.{look-promised}
 use Rattle.navigator.proofs.look.Statement.{statement}
 use Rattle.navigator.proofs.look.Tie as tie
 
-shared-refusal-requires : tie.Need-shared-refusal-requires
-shared-refusal-requires c κs = search needs
-
 look-requires : tie.Need-look-requires
 look-requires c κs = c .shared-refusal .ensures
 
@@ -18,4 +15,4 @@ returns c =
     look-promised (a .table .now) (a .s) (c .look .result) (sized (a .s) _ (start .good .1 .0)) (c .look .ensures)
 
 pub look-spec : {M : Type 1} → statement M
-look-spec = tie.close (tie.spec shared-refusal-requires look-requires returns)
+look-spec = tie.close (tie.spec (λ c κs. search needs) look-requires returns)

@@ -5,9 +5,6 @@ use Rattle.navigator.proofs.Promise3Laws.{promise3}
 use Rattle.navigator.proofs.restore.Statement.{statement}
 use Rattle.navigator.proofs.restore.Tie as tie
 
-shared-refusal-requires : tie.Need-shared-refusal-requires
-shared-refusal-requires c κs = search needs
-
 restore-requires : tie.Need-restore-requires
 restore-requires c κs = c .shared-refusal .ensures
 
@@ -20,4 +17,4 @@ returns c =
     (g .0, (g .1 .0, (g .1 .1 .0, (g .1 .1 .1 .0, (g .1 .1 .1 .1, promise3 (a .table .now))))))
 
 pub restore-spec : {M : Type 1} → statement M
-restore-spec = tie.close (tie.spec shared-refusal-requires restore-requires returns)
+restore-spec = tie.close (tie.spec (λ c κs. search needs) restore-requires returns)

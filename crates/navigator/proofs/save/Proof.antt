@@ -8,12 +8,6 @@ use Rattle.navigator.proofs.Promise3Laws.{promise3}
 use Rattle.navigator.proofs.save.Statement.{statement}
 use Rattle.navigator.proofs.save.Tie as tie
 
-shared-refusal-requires : tie.Need-shared-refusal-requires
-shared-refusal-requires c κs = search needs
-
-refuse-save-requires : tie.Need-refuse-save-requires
-refuse-save-requires c κs = search needs
-
 returns : tie.Need-returns
 returns c =
     let start = c .before .before .before .before .before in
@@ -30,9 +24,6 @@ save-requires c κs =
     let a = c .before .before .before .before .before .args in
     shared-ready (a .table .now) (a .s) (sym (c .before .before .shared-refusal .ensures) ∙ c .before .if1 .left)
 
-same-length : tie.Need-same-length
-same-length c = search needs
-
 returns-2 : tie.Need-returns-2
 returns-2 c =
     let start = c .before .before .before .before .before .before .before .before in
@@ -46,9 +37,9 @@ pub save-spec : {M : Type 1} → statement M
 save-spec =
     tie.close
     (tie.spec
-    shared-refusal-requires
-    refuse-save-requires
+    (λ c κs. search needs)
+    (λ c κs. search needs)
     returns
     save-requires
-    same-length
+    (λ c. search needs)
     returns-2)

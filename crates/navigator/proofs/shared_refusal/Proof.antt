@@ -5,16 +5,10 @@ use Rattle.calls.proofs.Settling.{shared-bad-table, shared-unsound, shared-pass
 use Rattle.navigator.proofs.shared_refusal.Statement.{statement}
 use Rattle.navigator.proofs.shared_refusal.Tie as tie
 
-refusal-requires : tie.Need-refusal-requires
-refusal-requires c κs = search needs
-
 returns : tie.Need-returns
 returns c =
     let a = c .before .before .before .args in
     sym (shared-bad-table (a .table .now) (a .s) (c .before .refusal .result) (sym (c .before .refusal .ensures)) (c .if1 .taken))
-
-sound-requires : tie.Need-sound-requires
-sound-requires c κs = search needs
 
 returns-2 : tie.Need-returns-2
 returns-2 c =
@@ -31,4 +25,4 @@ returns-3 c =
     (sym (c .before .sound .ensures) ∙ c .if2 .left))
 
 pub shared-refusal-spec : {M : Type 1} → statement M
-shared-refusal-spec = tie.close (tie.spec refusal-requires returns sound-requires returns-2 returns-3)
+shared-refusal-spec = tie.close (tie.spec (λ c κs. search needs) returns (λ c κs. search needs) returns-2 returns-3)

@@ -5,9 +5,6 @@ use Rattle.navigator.proofs.Promised.{call-promised}
 use Rattle.navigator.proofs.start.Statement.{statement}
 use Rattle.navigator.proofs.start.Tie as tie
 
-shared-refusal-requires : tie.Need-shared-refusal-requires
-shared-refusal-requires c κs = search needs
-
 start-requires : tie.Need-start-requires
 start-requires c κs = c .shared-refusal .ensures
 
@@ -17,4 +14,4 @@ returns c =
     call-promised (a .table .now) (a .s) (c .start .result) (start (a .b) (a .word)) (c .start .ensures)
 
 pub start-spec : {M : Type 1} → statement M
-start-spec = tie.close (tie.spec shared-refusal-requires start-requires returns)
+start-spec = tie.close (tie.spec (λ c κs. search needs) start-requires returns)

@@ -17,9 +17,6 @@ stays : (g : ℕ) (t u : Task) → (g ≡ 0 → ⊥) → t ≡ shownBy g t u
 stays zero t u e = absurd (e refl)
 stays (suc g) t u e = refl
 
-refused-requires : tie.Need-refused-requires
-refused-requires c κs = search needs
-
 returns : tie.Need-returns
 returns c = c .refused .ensures ∙ answer-refused _ _ (c .before .if1 .taken)
 
@@ -50,4 +47,4 @@ returns-3 c =
     ∙ answer-accepted _ (a .plan .refusal) (c .before .before .before .before .if1 .left)
 
 pub answer-of-spec : {M : Type 1} → statement M
-answer-of-spec = tie.close (tie.spec refused-requires returns of-front-requires returns-2 of-front-requires-2 returns-3)
+answer-of-spec = tie.close (tie.spec (λ c κs. search needs) returns of-front-requires returns-2 of-front-requires-2 returns-3)

@@ -5,21 +5,6 @@ use Rattle.plans.proofs.Fields.{plan-by}
 use Rattle.plans.proofs.closing_plan.Statement.{statement}
 use Rattle.plans.proofs.closing_plan.Tie as tie
 
-gone-by-requires : tie.Need-gone-by-requires
-gone-by-requires c κs = search needs
-
-front-by-requires : tie.Need-front-by-requires
-front-by-requires c κs = search needs
-
-main-by-requires : tie.Need-main-by-requires
-main-by-requires c κs = search needs
-
-count-by-requires : tie.Need-count-by-requires
-count-by-requires c κs = search needs
-
-pops-by-requires : tie.Need-pops-by-requires
-pops-by-requires c κs = search needs
-
 returns : tie.Need-returns
 returns c =
     let a = c .before .before .before .before .before .args in
@@ -27,4 +12,4 @@ returns c =
     (c .before .before .before .front-by .ensures) (c .pops-by .ensures) (c .before .count-by .ensures) (c .before .before .main-by .ensures)
 
 pub closing-plan-spec : {M : Type 1} → statement M
-closing-plan-spec = tie.close (tie.spec gone-by-requires front-by-requires main-by-requires count-by-requires pops-by-requires returns)
+closing-plan-spec = tie.close (tie.spec (λ c κs. search needs) (λ c κs. search needs) (λ c κs. search needs) (λ c κs. search needs) (λ c κs. search needs) returns)

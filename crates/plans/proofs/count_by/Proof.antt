@@ -4,9 +4,6 @@ use borrow.Author.Tests.{lt-ltb, le-ltb}
 use Rattle.plans.proofs.count_by.Statement.{statement}
 use Rattle.plans.proofs.count_by.Tie as tie
 
-sub-result : tie.Need-sub-result
-sub-result c = search needs
-
 returns : tie.Need-returns
 returns c = rw (lt-ltb _ 16 (c .if1 .taken))
 
@@ -14,4 +11,4 @@ returns-2 : tie.Need-returns-2
 returns-2 c = rw (le-ltb _ 16 (c .if1 .left))
 
 pub count-by-spec : {M : Type 1} → statement M
-count-by-spec = tie.close (tie.spec sub-result returns returns-2)
+count-by-spec = tie.close (tie.spec (λ c. search needs) returns returns-2)

@@ -7,12 +7,6 @@ use Rattle.model.specs.declared.Mark.{Mark}
 use Rattle.plans.proofs.front_by.Statement.{statement}
 use Rattle.plans.proofs.front_by.Tie as tie
 
-enum-told : tie.Need-enum-told
-enum-told c = search needs
-
-enum-known-mark : tie.Need-enum-known-mark
-enum-known-mark c = search needs
-
 without-screen-requires : tie.Need-without-screen-requires
 without-screen-requires c κs =
     let mark = c .before .before in
@@ -25,11 +19,8 @@ returns c =
     let m = c .before .before .before .mark .given in
     c .without-screen .ensures ∙ sym (rw (m .1, c .before .if1 .taken))
 
-returns-2 : tie.Need-returns-2
-returns-2 c = search needs
-
 returns-3 : tie.Need-returns-3
 returns-3 c = rw (c .before .before .mark .given .1, c .if1 .left)
 
 pub front-by-spec : {M : Type 1} → statement M
-front-by-spec = tie.close (tie.spec enum-told enum-known-mark without-screen-requires returns returns-2 returns-3)
+front-by-spec = tie.close (tie.spec (λ c. search needs) (λ c. search needs) without-screen-requires returns (λ c. search needs) returns-3)

@@ -4,12 +4,6 @@ use borrow.Author.Tests.{eq-eqb, ne-eqb, le-leb, lt-leb}
 use Rattle.plans.proofs.gone_by.Statement.{statement}
 use Rattle.plans.proofs.gone_by.Tie as tie
 
-enum-told : tie.Need-enum-told
-enum-told c = search needs
-
-enum-known-mark : tie.Need-enum-known-mark
-enum-known-mark c = search needs
-
 returns : tie.Need-returns
 returns c = rw (c .before .before .before .mark .given .1, eq-eqb _ _ (c .before .if1 .taken), le-leb _ _ (c .if2 .taken))
 
@@ -19,11 +13,8 @@ returns-2 c = rw (c .before .before .before .mark .given .1, eq-eqb _ _ (c .befo
 returns-3 : tie.Need-returns-3
 returns-3 c = rw (c .before .before .before .mark .given .1, ne-eqb _ _ (c .before .if1 .left), le-leb _ _ (c .if3 .taken))
 
-returns-4 : tie.Need-returns-4
-returns-4 c = search needs
-
 returns-5 : tie.Need-returns-5
 returns-5 c = rw (c .before .before .before .mark .given .1, ne-eqb _ _ (c .before .if1 .left), lt-leb _ _ (c .if3 .left))
 
 pub gone-by-spec : {M : Type 1} → statement M
-gone-by-spec = tie.close (tie.spec enum-told enum-known-mark returns returns-2 returns-3 returns-4 returns-5)
+gone-by-spec = tie.close (tie.spec (λ c. search needs) (λ c. search needs) returns returns-2 returns-3 (λ c. search needs) returns-5)

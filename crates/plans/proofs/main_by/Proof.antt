@@ -8,12 +8,6 @@ use Rattle.model.specs.Effects.{mainWithout}
 use Rattle.plans.proofs.main_by.Statement.{statement}
 use Rattle.plans.proofs.main_by.Tie as tie
 
-add-main-without : tie.Need-add-main-without
-add-main-without c = search needs
-
-main-without-requires : tie.Need-main-without-requires
-main-without-requires c κs = search needs
-
 returns : tie.Need-returns
 returns c = let a = c .before .before .args in rw (lt-ltb _ 16 (c .before .if1 .taken)) (c .main-without .ensures ∙ ap (λ (p : ℕ). mainWithout p (a .main)) (add-one (a .gone)))
 
@@ -21,4 +15,4 @@ returns-2 : tie.Need-returns-2
 returns-2 c = rw (le-ltb _ 16 (c .if1 .left))
 
 pub main-by-spec : {M : Type 1} → statement M
-main-by-spec = tie.close (tie.spec add-main-without main-without-requires returns returns-2)
+main-by-spec = tie.close (tie.spec (λ c. search needs) (λ c κs. search needs) returns returns-2)

@@ -23,12 +23,6 @@ back-plan-requires c κs =
     let h = rw (c .match .keys4) at (c .before .before .pre) in
     λ e some. back-opens (a .table .now) (a .s) (sized (a .s) _ (c .before .before .good .1 .0)) (h .0 e) some false
 
-still-requires : tie.Need-still-requires
-still-requires c κs = search needs
-
-still-requires-2 : tie.Need-still-requires-2
-still-requires-2 c κs = search needs
-
 returns : tie.Need-returns
 unfolding planFor
 returns c = let r = c .before .before .before .args .r in rw (request-1 (r .kind) (r .screen) (r .word) (c .before .match .keys1)) (c .launch-plan .ensures)
@@ -64,8 +58,8 @@ plan-for-spec =
     plan-requires
     plan-requires-2
     back-plan-requires
-    still-requires
-    still-requires-2
+    (λ c κs. search needs)
+    (λ c κs. search needs)
     returns
     returns-2
     returns-3

@@ -12,12 +12,6 @@ use Rattle.play.proofs.Playing.{plays-cut, plays-clauses}
 use Rattle.play.proofs.play.Statement.{statement}
 use Rattle.play.proofs.play.Tie as tie
 
-play-whole-requires : tie.Need-play-whole-requires
-play-whole-requires c κs = search needs
-
-same-length : tie.Need-same-length
-same-length c = search needs
-
 returns : tie.Need-returns
 returns c =
     let a = c .before .before .before .before .before .before .before .before .args in
@@ -27,15 +21,6 @@ returns c =
     let l : length (take n (recordsIn (a .input .now))) ≡ n = firsts-length n (a .input .now) (omega arith) in
     let u = c .before .before .play-whole .ensures .1 in
     plays-clauses (c .before .before .play-whole .ensures .0) (a .input .now) refl (omega arith) (omega arith)
-
-play-whole-requires-2 : tie.Need-play-whole-requires-2
-play-whole-requires-2 c κs = search needs
-
-mul-rest : tie.Need-mul-rest
-mul-rest c = search needs
-
-same-length-2 : tie.Need-same-length-2
-same-length-2 c = search needs
 
 returns-2 : tie.Need-returns-2
 returns-2 c =
@@ -48,12 +33,6 @@ returns-2 c =
     let u = c .before .before .before .play-whole2 .ensures .1 in
     plays-clauses (c .before .before .before .play-whole2 .ensures .0) (a .input .now) (records-end w (a .input .now) n end (omega arith)) (omega arith) (omega arith)
 
-shared-slice-read-kind : tie.Need-shared-slice-read-kind
-shared-slice-read-kind c = search needs
-
-refused-requires : tie.Need-refused-requires
-refused-requires c κs = search needs
-
 write-line-requires : tie.Need-write-line-requires
 write-line-requires c κs =
     let a = c .before .before .before .before .before .before .before .before .before .before .before .before .args in
@@ -63,9 +42,6 @@ write-line-requires c κs =
     let b = c .before .before .before .before .before .before .play-whole2 .ensures .0 .bound in
     let k = c .before .before .before .before .before .before .play-whole2 .kept .0 in
     omega arith
-
-same-length-3 : tie.Need-same-length-3
-same-length-3 c = search needs
 
 returns-3 : tie.Need-returns-3
 returns-3 c =
@@ -87,15 +63,15 @@ pub play-spec : {M : Type 1} → statement M
 play-spec =
     tie.close
     (tie.spec
-    play-whole-requires
-    same-length
+    (λ c κs. search needs)
+    (λ c. search needs)
     returns
-    play-whole-requires-2
-    mul-rest
-    same-length-2
+    (λ c κs. search needs)
+    (λ c. search needs)
+    (λ c. search needs)
     returns-2
-    shared-slice-read-kind
-    refused-requires
+    (λ c. search needs)
+    (λ c κs. search needs)
     write-line-requires
-    same-length-3
+    (λ c. search needs)
     returns-3)

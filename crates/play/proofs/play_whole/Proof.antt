@@ -32,9 +32,6 @@ Inv-loop table input count out₀ number s₀ at₀ i₀ out s at i =
 abbrev μ-loop : tie.MeasureT-loop
 μ-loop table input count out₀ number s₀ at₀ i₀ out s at i = count - i
 
-refusal-requires : tie.Need-refusal-requires Inv-loop μ-loop
-refusal-requires c κs = search needs
-
 loop-holds : tie.Need-loop-holds Inv-loop μ-loop
 loop-holds c =
     let start = c .before .before .before .before in
@@ -85,12 +82,6 @@ ready c e = playable-ready (table c) (session c) (playable c) (sym (c .before .b
 
 -- ---- its plan
 
-fields-at-requires : tie.Need-fields-at-requires Inv-loop μ-loop
-fields-at-requires c κs = search needs
-
-add-i : tie.Need-add-i Inv-loop μ-loop
-add-i c = search needs
-
 seek-for-requires : tie.Need-seek-for-requires Inv-loop μ-loop
 seek-for-requires c κs = ready c
 
@@ -118,19 +109,10 @@ gives c =
     (plan-gives (table k) (session k) (sizes k) (playable k) (fields k .kind) (fields k .screen) (fields k .word) (c .before .before .seek-for .result)
     (rw (k .before .before .before .refusal .ensures) at (c .before .before .seek-for .ensures)))
 
-element-copy-out-second : tie.Need-element-copy-out-second Inv-loop μ-loop
-element-copy-out-second c = search needs
-
 answer-of-requires : tie.Need-answer-of-requires Inv-loop μ-loop
 answer-of-requires c κs = gives (c .before) .showable
 
 -- ---- and it is put
-
-front-alone-requires : tie.Need-front-alone-requires Inv-loop μ-loop
-front-alone-requires c κs = search needs
-
-element-set-from-front : tie.Need-element-set-from-front Inv-loop μ-loop
-element-set-from-front c = search needs
 
 put-requires : tie.Need-put-requires Inv-loop μ-loop
 put-requires c κs = let h = gives (c .before .before .before .before) .puttable in record { few = h .few; second = h .second }
@@ -173,12 +155,6 @@ loop-again c =
 
 -- ---- all records are played
 
-mul-t34 : tie.Need-mul-t34 Inv-loop μ-loop
-mul-t34 c = search needs
-
-same-length : tie.Need-same-length Inv-loop μ-loop
-same-length c = search needs
-
 returns : tie.Need-returns Inv-loop μ-loop
 returns c =
     let start = c .before .before .before .before .before .before in
@@ -195,22 +171,22 @@ play-whole-spec =
     (tie.spec
     Inv-loop
     μ-loop
-    refusal-requires
+    (λ c κs. search needs)
     loop-holds
-    fields-at-requires
-    add-i
+    (λ c κs. search needs)
+    (λ c. search needs)
     seek-for-requires
     mul-t
     element-copy-out-t
     plan-for-requires
-    element-copy-out-second
+    (λ c. search needs)
     answer-of-requires
-    front-alone-requires
-    element-set-from-front
+    (λ c κs. search needs)
+    (λ c. search needs)
     put-requires
     write-line-requires
     loop-less
     loop-again
-    mul-t34
-    same-length
+    (λ c. search needs)
+    (λ c. search needs)
     returns)

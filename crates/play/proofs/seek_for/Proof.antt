@@ -9,11 +9,8 @@ seek-requires c κs = c .before .before .before .before .pre
 returns : tie.Need-returns
 returns c = rw (c .before .if1 .taken) (c .seek .ensures)
 
-none-sought-requires : tie.Need-none-sought-requires
-none-sought-requires c κs = search needs
-
 returns-2 : tie.Need-returns-2
 returns-2 c = rw (c .before .if1 .left) (c .none-sought .ensures)
 
 pub seek-for-spec : {M : Type 1} → statement M
-seek-for-spec = tie.close (tie.spec seek-requires returns none-sought-requires returns-2)
+seek-for-spec = tie.close (tie.spec seek-requires returns (λ c κs. search needs) returns-2)

@@ -9,29 +9,11 @@ use borrow.Author.Needs.{needs}
 use Rattle.playing.proofs.play_from.Statement.{statement}
 use Rattle.playing.proofs.play_from.Tie as tie
 
-slice-aggregate-read-table : tie.Need-slice-aggregate-read-table
-slice-aggregate-read-table c = search needs
-
-read-table-requires : tie.Need-read-table-requires
-read-table-requires c κs = search needs
-
 array-share-prefix-buffer : tie.Need-array-share-prefix-buffer
 array-share-prefix-buffer c = search needs
 
 slice-aggregate-beginning-of : tie.Need-slice-aggregate-beginning-of
 slice-aggregate-beginning-of c = sym (length-take-le _ _ (array-share-prefix-buffer (c .before)))
-
-beginning-of-requires : tie.Need-beginning-of-requires
-beginning-of-requires c κs = search needs
-
-enum-known-long : tie.Need-enum-known-long
-enum-known-long c = search needs
-
-stop-requires : tie.Need-stop-requires
-stop-requires c κs = search needs
-
-returns : tie.Need-returns
-returns c = search needs
 
 array-share-prefix-buffer-2 : tie.Need-array-share-prefix-buffer-2
 array-share-prefix-buffer-2 c =
@@ -42,25 +24,19 @@ array-share-prefix-buffer-2 c =
 slice-aggregate-run : tie.Need-slice-aggregate-run
 slice-aggregate-run c = sym (length-take-le _ _ (array-share-prefix-buffer-2 (c .before)))
 
-run-requires : tie.Need-run-requires
-run-requires c κs = search needs
-
-returns-2 : tie.Need-returns-2
-returns-2 c = search needs
-
 pub play-from-spec : {M : Type 1} → statement M
 play-from-spec =
     tie.close
     (tie.spec
-    slice-aggregate-read-table
-    read-table-requires
+    (λ c. search needs)
+    (λ c κs. search needs)
     array-share-prefix-buffer
     slice-aggregate-beginning-of
-    beginning-of-requires
-    enum-known-long
-    stop-requires
-    returns
+    (λ c κs. search needs)
+    (λ c. search needs)
+    (λ c κs. search needs)
+    (λ c. search needs)
     array-share-prefix-buffer-2
     slice-aggregate-run
-    run-requires
-    returns-2)
+    (λ c κs. search needs)
+    (λ c. search needs))

@@ -12,14 +12,8 @@ use Rattle.table.proofs.BeginningLaws.{told}
 use Rattle.playing.proofs.read_table.Statement.{statement}
 use Rattle.playing.proofs.read_table.Tie as tie
 
-slice-relend-prefix-read-full : tie.Need-slice-relend-prefix-read-full
-slice-relend-prefix-read-full c = search needs
-
 slice-aggregate-read-full : tie.Need-slice-aggregate-read-full
 slice-aggregate-read-full c = sym (length-take-le 2 (c .before .before .args .buffer .now) (omega arith))
-
-read-full-requires : tie.Need-read-full-requires
-read-full-requires c κs = search needs
 
 -- what was read, and what stands in the buffer then
 few : (c : tie.After-read-full)
@@ -38,15 +32,6 @@ slice-reshare-prefix-beginning-of c = few (c .before .before) .1 .0
 
 slice-aggregate-beginning-of : tie.Need-slice-aggregate-beginning-of
 slice-aggregate-beginning-of c = sym (length-take-le _ _ (few (c .before .before .before) .1 .0))
-
-beginning-of-requires : tie.Need-beginning-of-requires
-beginning-of-requires c κs = search needs
-
-enum-known-long : tie.Need-enum-known-long
-enum-known-long c = search needs
-
-same-length : tie.Need-same-length
-same-length c = search needs
 
 returns : tie.Need-returns
 returns c = omega (arith, few (c .before .before .before .before .before) .0)
@@ -72,15 +57,6 @@ part-read-full-end c =
     let l = few (c .before .before .before .before .before .before .before) .1 .1 in
     omega arith
 
-read-full-requires-2 : tie.Need-read-full-requires-2
-read-full-requires-2 c κs = search needs
-
-add-result : tie.Need-add-result
-add-result c = search needs
-
-same-length-2 : tie.Need-same-length-2
-same-length-2 c = search needs
-
 returns-2 : tie.Need-returns-2
 returns-2 c =
     let long = c .before .before .before .before .before in
@@ -95,19 +71,19 @@ pub read-table-spec : {M : Type 1} → statement M
 read-table-spec =
     tie.close
     (tie.spec
-    slice-relend-prefix-read-full
+    (λ c. search needs)
     slice-aggregate-read-full
-    read-full-requires
+    (λ c κs. search needs)
     slice-reshare-prefix-beginning-of
     slice-aggregate-beginning-of
-    beginning-of-requires
-    enum-known-long
-    same-length
+    (λ c κs. search needs)
+    (λ c. search needs)
+    (λ c. search needs)
     returns
     sub-read-full
     part-read-full-start
     part-read-full-end
-    read-full-requires-2
-    add-result
-    same-length-2
+    (λ c κs. search needs)
+    (λ c. search needs)
+    (λ c. search needs)
     returns-2)

@@ -12,9 +12,6 @@ returns c v h m =
     (apart-chain (a .table .now) v (a .b) (a .f) (a .found) (a .t) h m refl refl refl refl refl refl
     ∙ rw (c .if1 .taken))
 
-is-found-requires : tie.Need-is-found-requires
-is-found-requires c κs = search needs
-
 returns-2 : tie.Need-returns-2
 returns-2 c v h m =
     let found = c .before in
@@ -30,9 +27,6 @@ returns-3 c v h m =
     sym
     (apart-chain (a .table .now) v (a .b) (a .f) (a .found) (a .t) h m (found .is-found .ensures) refl refl refl refl refl
     ∙ rw (found .before .if1 .left, c .before .if2 .left, c .if3 .taken))
-
-holds-where-requires : tie.Need-holds-where-requires
-holds-where-requires c κs = search needs
 
 returns-4 : tie.Need-returns-4
 returns-4 c v h m =
@@ -52,12 +46,6 @@ returns-5 c v h m =
     (apart-chain (a .table .now) v (a .b) (a .f) (a .found) (a .t) h m (found .is-found .ensures) (held .holds-where .ensures) refl refl refl refl
     ∙ rw (found .before .if1 .left, held .before .before .if2 .left, held .before .if3 .left, c .before .if4 .left, c .if5 .taken))
 
-is-by-root-requires : tie.Need-is-by-root-requires
-is-by-root-requires c κs = search needs
-
-place-of-requires : tie.Need-place-of-requires
-place-of-requires c κs = search needs
-
 returns-6 : tie.Need-returns-6
 returns-6 c v h m =
     let root = c .before .before in
@@ -67,12 +55,6 @@ returns-6 c v h m =
     sym
     (apart-chain (a .table .now) v (a .b) (a .f) (a .found) (a .t) h m (found .is-found .ensures) (held .holds-where .ensures) (root .is-by-root .ensures) (c .before .place-of .ensures) refl refl
     ∙ rw (found .before .if1 .left, held .before .before .if2 .left, held .before .if3 .left, root .before .before .if4 .left, root .before .if5 .left, c .if6 .taken))
-
-is-single-requires : tie.Need-is-single-requires
-is-single-requires c κs = search needs
-
-top-requires : tie.Need-top-requires
-top-requires c κs = search needs
 
 returns-7 : tie.Need-returns-7
 returns-7 c v h m =
@@ -101,16 +83,16 @@ apart-rule-spec =
     tie.close
     (tie.spec
     returns
-    is-found-requires
+    (λ c κs. search needs)
     returns-2
     returns-3
-    holds-where-requires
+    (λ c κs. search needs)
     returns-4
     returns-5
-    is-by-root-requires
-    place-of-requires
+    (λ c κs. search needs)
+    (λ c κs. search needs)
     returns-6
-    is-single-requires
-    top-requires
+    (λ c κs. search needs)
+    (λ c κs. search needs)
     returns-7
     returns-8)

@@ -9,18 +9,6 @@ use Rattle.rules.proofs.Tags.{same-effect}
 use Rattle.rules.proofs.effect_of.Statement.{statement}
 use Rattle.rules.proofs.effect_of.Tie as tie
 
-enum-told : tie.Need-enum-told
-enum-told c = search needs
-
-enum-told-2 : tie.Need-enum-told-2
-enum-told-2 c = search needs
-
-enum-told-3 : tie.Need-enum-told-3
-enum-told-3 c = search needs
-
-enum-told-4 : tie.Need-enum-told-4
-enum-told-4 c = search needs
-
 returns : tie.Need-returns
 unfolding effectOf
 returns c = same-effect Effect.New (c .before .args .rule) (1 ∷ 5 ∷ 10 ∷ 17 ∷ []) (refl, (refl, (refl, (refl, tt)))) (c .match .keys1)
@@ -61,10 +49,10 @@ pub effect-of-spec : {M : Type 1} → statement M
 effect-of-spec =
     tie.close
     (tie.spec
-    enum-told
-    enum-told-2
-    enum-told-3
-    enum-told-4
+    (λ c. search needs)
+    (λ c. search needs)
+    (λ c. search needs)
+    (λ c. search needs)
     returns
     returns-2
     returns-3

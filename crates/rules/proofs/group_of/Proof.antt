@@ -5,12 +5,6 @@ use Rattle.rules.proofs.Groups.{group-instance, group-task, group-apart
 use Rattle.rules.proofs.group_of.Statement.{statement}
 use Rattle.rules.proofs.group_of.Tie as tie
 
-mode-requires : tie.Need-mode-requires
-mode-requires c κs = search needs
-
-is-apart-requires : tie.Need-is-apart-requires
-is-apart-requires c κs = search needs
-
 returns : tie.Need-returns
 returns c v h =
     let other = c .before .before in
@@ -39,4 +33,4 @@ returns-4 c v h =
 
 pub group-of-spec : {M : Type 1} → statement M
 group-of-spec =
-    tie.close (tie.spec mode-requires is-apart-requires returns returns-2 returns-3 returns-4)
+    tie.close (tie.spec (λ c κs. search needs) (λ c κs. search needs) returns returns-2 returns-3 returns-4)

@@ -11,9 +11,6 @@ use Rattle.model.specs.Search.{holds}
 use Rattle.rules.proofs.holds_screen.Statement.{statement}
 use Rattle.rules.proofs.holds_screen.Tie as tie
 
-topmost-requires : tie.Need-topmost-requires
-topmost-requires c κs = search needs
-
 not-zero : (p : ℕ) → not (eqb p 0) ≡ isPlace p
 not-zero zero = refl
 not-zero (suc p) = rw (ne-eqb (suc p) 0 (λ e. omega arith))
@@ -23,4 +20,4 @@ unfolding holds
 returns c = not-zero (c .topmost .result) ∙ ap isPlace (c .topmost .ensures)
 
 pub holds-screen-spec : {M : Type 1} → statement M
-holds-screen-spec = tie.close (tie.spec topmost-requires returns)
+holds-screen-spec = tie.close (tie.spec (λ c κs. search needs) returns)

@@ -3,9 +3,6 @@ use borrow.Author.Needs.{needs}
 use Rattle.rules.proofs.holds_where.Statement.{statement}
 use Rattle.rules.proofs.holds_where.Tie as tie
 
-holds-screen-requires : tie.Need-holds-screen-requires
-holds-screen-requires c κs = search needs
-
 returns : tie.Need-returns
 returns c = rw (c .before .if1 .taken) (c .holds-screen .ensures)
 
@@ -13,4 +10,4 @@ returns-2 : tie.Need-returns-2
 returns-2 c = rw (c .if1 .left)
 
 pub holds-where-spec : {M : Type 1} → statement M
-holds-where-spec = tie.close (tie.spec holds-screen-requires returns returns-2)
+holds-where-spec = tie.close (tie.spec (λ c κs. search needs) returns returns-2)

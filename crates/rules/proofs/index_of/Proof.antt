@@ -6,20 +6,8 @@ use borrow.Author.Needs.{needs}
 use Rattle.rules.proofs.index_of.Statement.{statement}
 use Rattle.rules.proofs.index_of.Tie as tie
 
-place-of-requires : tie.Need-place-of-requires
-place-of-requires c κs = search needs
-
-returns : tie.Need-returns
-returns c = search needs
-
-sub-result : tie.Need-sub-result
-sub-result c = search needs
-
-cast-result : tie.Need-cast-result
-cast-result c = search needs
-
 returns-2 : tie.Need-returns-2
 returns-2 c = sub-one _ ∙ ap pred (c .before .place-of .ensures)
 
 pub index-of-spec : {M : Type 1} → statement M
-index-of-spec = tie.close (tie.spec place-of-requires returns sub-result cast-result returns-2)
+index-of-spec = tie.close (tie.spec (λ c κs. search needs) (λ c. search needs) (λ c. search needs) (λ c. search needs) returns-2)

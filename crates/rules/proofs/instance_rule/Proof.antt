@@ -5,9 +5,6 @@ use Rattle.rules.proofs.Groups.{instance-chain}
 use Rattle.rules.proofs.instance_rule.Statement.{statement}
 use Rattle.rules.proofs.instance_rule.Tie as tie
 
-is-found-requires : tie.Need-is-found-requires
-is-found-requires c κs = search needs
-
 returns : tie.Need-returns
 returns c tb v b f = sym (instance-chain tb v b f _ (c .before .is-found .ensures) ∙ rw (c .if1 .taken))
 
@@ -15,4 +12,4 @@ returns-2 : tie.Need-returns-2
 returns-2 c tb v b f = sym (instance-chain tb v b f _ (c .before .is-found .ensures) ∙ rw (c .if1 .left))
 
 pub instance-rule-spec : {M : Type 1} → statement M
-instance-rule-spec = tie.close (tie.spec is-found-requires returns returns-2)
+instance-rule-spec = tie.close (tie.spec (λ c κs. search needs) returns returns-2)

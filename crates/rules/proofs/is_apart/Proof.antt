@@ -4,12 +4,9 @@ use Rattle.model.specs.Table.{isSingleInstance}
 use Rattle.rules.proofs.is_apart.Statement.{statement}
 use Rattle.rules.proofs.is_apart.Tie as tie
 
-mode-requires : tie.Need-mode-requires
-mode-requires c κs = search needs
-
 returns : tie.Need-returns
 unfolding isSingleInstance
 returns c = rw (c .before .mode .ensures)
 
 pub is-apart-spec : {M : Type 1} → statement M
-is-apart-spec = tie.close (tie.spec mode-requires returns)
+is-apart-spec = tie.close (tie.spec (λ c κs. search needs) returns)

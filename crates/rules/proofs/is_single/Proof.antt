@@ -4,12 +4,9 @@ use Rattle.model.specs.Table.{isSingleTop}
 use Rattle.rules.proofs.is_single.Statement.{statement}
 use Rattle.rules.proofs.is_single.Tie as tie
 
-mode-requires : tie.Need-mode-requires
-mode-requires c κs = search needs
-
 returns : tie.Need-returns
 unfolding isSingleTop
 returns c = rw (c .before .mode .ensures)
 
 pub is-single-spec : {M : Type 1} → statement M
-is-single-spec = tie.close (tie.spec mode-requires returns)
+is-single-spec = tie.close (tie.spec (λ c κs. search needs) returns)

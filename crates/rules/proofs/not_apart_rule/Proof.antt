@@ -5,12 +5,6 @@ use Rattle.rules.proofs.Groups.{near-chain}
 use Rattle.rules.proofs.not_apart_rule.Statement.{statement}
 use Rattle.rules.proofs.not_apart_rule.Tie as tie
 
-top-requires : tie.Need-top-requires
-top-requires c κs = search needs
-
-is-single-requires : tie.Need-is-single-requires
-is-single-requires c κs = search needs
-
 returns : tie.Need-returns
 returns c v h =
     let single = c .before .before .before in
@@ -18,9 +12,6 @@ returns c v h =
     sym
     (near-chain (a .table .now) v (a .b) (a .f) (a .t) h (single .before .top .ensures) (single .is-single .ensures) refl
     ∙ rw (c .if1 .taken))
-
-holds-where-requires : tie.Need-holds-where-requires
-holds-where-requires c κs = search needs
 
 returns-2 : tie.Need-returns-2
 returns-2 c v h =
@@ -53,10 +44,10 @@ pub not-apart-rule-spec : {M : Type 1} → statement M
 not-apart-rule-spec =
     tie.close
     (tie.spec
-    top-requires
-    is-single-requires
+    (λ c κs. search needs)
+    (λ c κs. search needs)
     returns
-    holds-where-requires
+    (λ c κs. search needs)
     returns-2
     returns-3
     returns-4)

@@ -3,12 +3,6 @@ use borrow.Author.Needs.{needs}
 use Rattle.rules.proofs.push_refusal.Statement.{statement}
 use Rattle.rules.proofs.push_refusal.Tie as tie
 
-is-push-requires : tie.Need-is-push-requires
-is-push-requires c κs = search needs
-
-cast-if1 : tie.Need-cast-if1
-cast-if1 c = search needs
-
 returns : tie.Need-returns
 returns c = rw (← c .before .before .is-push .ensures, c .if1 .taken)
 
@@ -16,4 +10,4 @@ returns-2 : tie.Need-returns-2
 returns-2 c = rw (← c .before .before .is-push .ensures, c .if1 .left)
 
 pub push-refusal-spec : {M : Type 1} → statement M
-push-refusal-spec = tie.close (tie.spec is-push-requires cast-if1 returns returns-2)
+push-refusal-spec = tie.close (tie.spec (λ c κs. search needs) (λ c. search needs) returns returns-2)

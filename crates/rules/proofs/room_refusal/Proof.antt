@@ -24,18 +24,6 @@ returns c tb v b f h k e =
     let start = c .before .before .before in
     sym (room-read v (start .args .t) (low start) tb b f h k e ∙ rw (c .before .enum-told .given .1, eq-eqb _ _ (c .if1 .taken)))
 
-enum-known-effect : tie.Need-enum-known-effect
-enum-known-effect c = search needs
-
-push-refusal-requires : tie.Need-push-refusal-requires
-push-refusal-requires c κs = search needs
-
-enum-known-effect-2 : tie.Need-enum-known-effect-2
-enum-known-effect-2 c = search needs
-
-push-refusal-requires-2 : tie.Need-push-refusal-requires-2
-push-refusal-requires-2 c κs = search needs
-
 returns-2 : tie.Need-returns-2
 returns-2 c tb v b f h k e =
     let start = c .before .before .before in
@@ -57,10 +45,10 @@ room-refusal-spec =
     (tie.spec
     enum-told
     returns
-    enum-known-effect
-    push-refusal-requires
-    enum-known-effect-2
-    push-refusal-requires-2
+    (λ c. search needs)
+    (λ c κs. search needs)
+    (λ c. search needs)
+    (λ c κs. search needs)
     returns-2
     returns-3
     returns-4)

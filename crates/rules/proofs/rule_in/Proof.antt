@@ -7,27 +7,6 @@ use Rattle.rules.proofs.rule_in.Tie as tie
 enum-told : tie.Need-enum-told
 enum-told c = search needs
 
-instance-rule-requires : tie.Need-instance-rule-requires
-instance-rule-requires c κs = search needs
-
-enum-told-2 : tie.Need-enum-told-2
-enum-told-2 c = search needs
-
-task-rule-requires : tie.Need-task-rule-requires
-task-rule-requires c κs = search needs
-
-enum-told-3 : tie.Need-enum-told-3
-enum-told-3 c = search needs
-
-not-apart-rule-requires : tie.Need-not-apart-rule-requires
-not-apart-rule-requires c κs = search needs
-
-enum-told-4 : tie.Need-enum-told-4
-enum-told-4 c = search needs
-
-apart-rule-requires : tie.Need-apart-rule-requires
-apart-rule-requires c κs = search needs
-
 returns : tie.Need-returns
 returns c v h m e = rw (c .before .enum-told .given .1) (c .instance-rule .ensures _ v _ _)
 
@@ -48,13 +27,13 @@ rule-in-spec =
     tie.close
     (tie.spec
     enum-told
-    instance-rule-requires
-    enum-told-2
-    task-rule-requires
-    enum-told-3
-    not-apart-rule-requires
-    enum-told-4
-    apart-rule-requires
+    (λ c κs. search needs)
+    (λ c. search needs)
+    (λ c κs. search needs)
+    (λ c. search needs)
+    (λ c κs. search needs)
+    (λ c. search needs)
+    (λ c κs. search needs)
     returns
     returns-2
     returns-3

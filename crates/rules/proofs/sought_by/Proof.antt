@@ -13,24 +13,9 @@ seek-root-requires c κs =
     let start = c .before .before .before in
     blank-few (start .args .s) (sound-blank _ _ (start .pre .ready .sound))
 
-enum-told-2 : tie.Need-enum-told-2
-enum-told-2 c = search needs
-
-seek-requires : tie.Need-seek-requires
-seek-requires c κs = search needs
-
-enum-told-3 : tie.Need-enum-told-3
-enum-told-3 c = search needs
-
-enum-told-4 : tie.Need-enum-told-4
-enum-told-4 c = search needs
-
 returns : tie.Need-returns
 unfolding soughtBy
 returns c = rw (c .before .enum-told4 .given .1, c .if1 .taken)
-
-seek-requires-2 : tie.Need-seek-requires-2
-seek-requires-2 c κs = search needs
 
 returns-2 : tie.Need-returns-2
 unfolding soughtBy
@@ -54,12 +39,12 @@ sought-by-spec =
     (tie.spec
     enum-told
     seek-root-requires
-    enum-told-2
-    seek-requires
-    enum-told-3
-    enum-told-4
+    (λ c. search needs)
+    (λ c κs. search needs)
+    (λ c. search needs)
+    (λ c. search needs)
     returns
-    seek-requires-2
+    (λ c κs. search needs)
     returns-2
     returns-3
     returns-4

@@ -5,9 +5,6 @@ use Rattle.rules.proofs.Groups.{task-chain}
 use Rattle.rules.proofs.task_rule.Statement.{statement}
 use Rattle.rules.proofs.task_rule.Tie as tie
 
-is-found-requires : tie.Need-is-found-requires
-is-found-requires c κs = search needs
-
 returns : tie.Need-returns
 returns c tb v h =
     let found = c .before in
@@ -19,9 +16,6 @@ returns-2 c tb v h =
     let found = c .before .before in
     let a = found .before .args in
     sym (task-chain tb v (a .b) (a .f) (a .found) (a .t) h (found .is-found .ensures) refl ∙ rw (c .before .if1 .left, c .if2 .taken))
-
-holds-screen-requires : tie.Need-holds-screen-requires
-holds-screen-requires c κs = search needs
 
 returns-3 : tie.Need-returns-3
 returns-3 c tb v h =
@@ -42,4 +36,4 @@ returns-4 c tb v h =
 pub task-rule-spec : {M : Type 1} → statement M
 task-rule-spec =
     tie.close
-    (tie.spec is-found-requires returns returns-2 holds-screen-requires returns-3 returns-4)
+    (tie.spec (λ c κs. search needs) returns returns-2 (λ c κs. search needs) returns-3 returns-4)

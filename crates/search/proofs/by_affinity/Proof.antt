@@ -33,12 +33,6 @@ loop-holds c =
     let a = c .before .before .args in
     (search needs, find-begin (akin (a .table .now) (a .b)) (take (a .n) (a .t2)))
 
-cast-k : tie.Need-cast-k Inv-loop μ-loop
-cast-k c = search needs
-
-array-read-root : tie.Need-array-read-root Inv-loop μ-loop
-array-read-root c = search needs
-
 -- the table has the row of the root at i
 row : (c : tie.Else1 Inv-loop μ-loop)
     → 3 + 2 * (getD (c .before .before .before .before .args .t2) (c .before .loop .i) 0) < length (c .before .before .before .before .args .table .now)
@@ -56,15 +50,6 @@ mode-requires c κs = omega (arith, row c)
 
 affinity-requires-2 : tie.Need-affinity-requires-2 Inv-loop μ-loop
 affinity-requires-2 c κs = omega (arith, row (c .before))
-
-add-result : tie.Need-add-result Inv-loop μ-loop
-add-result c = search needs
-
-add-i : tie.Need-add-i Inv-loop μ-loop
-add-i c = search needs
-
-loop-less : tie.Need-loop-less Inv-loop μ-loop
-loop-less c = search needs
 
 -- the test of the root at i is the code's
 tested : (c : tie.After-affinity2 Inv-loop μ-loop)
@@ -114,13 +99,13 @@ by-affinity-spec =
     μ-loop
     affinity-requires
     loop-holds
-    cast-k
-    array-read-root
+    (λ c. search needs)
+    (λ c. search needs)
     mode-requires
     affinity-requires-2
-    add-result
-    add-i
-    loop-less
+    (λ c. search needs)
+    (λ c. search needs)
+    (λ c. search needs)
     loop-again
     returns
     returns-2)

@@ -20,20 +20,8 @@ abbrev μ-loop : tie.MeasureT-loop
 loop-holds : tie.Need-loop-holds Inv-loop μ-loop
 loop-holds c = (search needs, (length-replicate {A = ℕ} 16 0, refl))
 
-mul-t : tie.Need-mul-t Inv-loop μ-loop
-mul-t c = search needs
-
 element-copy-out-t : tie.Need-element-copy-out-t Inv-loop μ-loop
 element-copy-out-t c = search (needs, long)
-
-array-write-roots : tie.Need-array-write-roots Inv-loop μ-loop
-array-write-roots c = search needs
-
-add-i : tie.Need-add-i Inv-loop μ-loop
-add-i c = search needs
-
-loop-less : tie.Need-loop-less Inv-loop μ-loop
-loop-less c = search needs
 
 loop-again : tie.Need-loop-again Inv-loop μ-loop
 loop-again c =
@@ -51,4 +39,4 @@ returns c =
 
 pub roots-of-spec : {M : Type 1} → statement M
 roots-of-spec =
-    tie.close (tie.spec Inv-loop μ-loop loop-holds mul-t element-copy-out-t array-write-roots add-i loop-less loop-again returns)
+    tie.close (tie.spec Inv-loop μ-loop loop-holds (λ c. search needs) element-copy-out-t (λ c. search needs) (λ c. search needs) (λ c. search needs) loop-again returns)

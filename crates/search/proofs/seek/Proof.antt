@@ -10,9 +10,6 @@ use Rattle.search.proofs.Seeking.{seek-by-root, seek-none, seek-by-affi
 use Rattle.search.proofs.seek.Statement.{statement}
 use Rattle.search.proofs.seek.Tie as tie
 
-roots-of-requires : tie.Need-roots-of-requires
-roots-of-requires c κs = search needs
-
 by-root-requires : tie.Need-by-root-requires
 by-root-requires c κs =
     let start = c .before .before in
@@ -65,4 +62,4 @@ returns-3 c =
     (c .before .by-affinity .result) (kin-is (c .before)) (c .if2 .left))
 
 pub seek-spec : {M : Type 1} → statement M
-seek-spec = tie.close (tie.spec roots-of-requires by-root-requires returns by-affinity-requires returns-2 returns-3)
+seek-spec = tie.close (tie.spec (λ c κs. search needs) by-root-requires returns by-affinity-requires returns-2 returns-3)

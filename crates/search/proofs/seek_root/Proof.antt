@@ -7,12 +7,6 @@ use Rattle.search.proofs.Seeking.{root-none, root-found}
 use Rattle.search.proofs.seek_root.Statement.{statement}
 use Rattle.search.proofs.seek_root.Tie as tie
 
-roots-of-requires : tie.Need-roots-of-requires
-roots-of-requires c κs = search needs
-
-by-root-requires : tie.Need-by-root-requires
-by-root-requires c κs = search needs
-
 returns : tie.Need-returns
 returns c =
     let a = c .before .before .before .args in
@@ -26,4 +20,4 @@ returns-2 c =
     sym (root-found (a .b) (view (a .s) .tasks) (c .before .by-root .result) f (c .if1 .left))
 
 pub seek-root-spec : {M : Type 1} → statement M
-seek-root-spec = tie.close (tie.spec roots-of-requires by-root-requires returns returns-2)
+seek-root-spec = tie.close (tie.spec (λ c κs. search needs) (λ c κs. search needs) returns returns-2)

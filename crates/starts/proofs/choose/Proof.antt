@@ -39,14 +39,8 @@ rule-in-requires c κs =
     let a = start .args in
     (filled start, own-row (a .table .now) (a .s) (a .b) (sizes start) (start .pre .0))
 
-effect-of-requires : tie.Need-effect-of-requires
-effect-of-requires c κs = search needs
-
 room-refusal-requires : tie.Need-room-refusal-requires
 room-refusal-requires c κs = filled (c .before .before .before)
-
-place-of-requires : tie.Need-place-of-requires
-place-of-requires c κs = search needs
 
 -- the rule and the task found are the definition's
 chosen : (c : tie.After-rule-in)
@@ -76,4 +70,4 @@ returns c =
     }
 
 pub choose-spec : {M : Type 1} → statement M
-choose-spec = tie.close (tie.spec rule-in-requires effect-of-requires room-refusal-requires place-of-requires returns)
+choose-spec = tie.close (tie.spec rule-in-requires (λ c κs. search needs) room-refusal-requires (λ c κs. search needs) returns)

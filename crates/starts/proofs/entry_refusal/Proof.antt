@@ -19,9 +19,6 @@ returns c =
     let a = c .before .before .before .args in
     sym (start-3 (a .table .now) (a .n) (a .b) (a .word) (omega (arith, c .before .size .ensures, c .if1 .taken)))
 
-has-other-bit-requires : tie.Need-has-other-bit-requires
-has-other-bit-requires c κs = search needs
-
 -- the screen is the table's
 known : (c : tie.Else1) → c .before .before .before .args .b < sizeOf (c .before .before .before .args .table .now)
 known c = omega (arith, c .before .size .ensures, c .if1 .left)
@@ -47,4 +44,4 @@ returns-4 c =
 
 pub entry-refusal-spec : {M : Type 1} → statement M
 entry-refusal-spec =
-    tie.close (tie.spec size-requires returns has-other-bit-requires returns-2 returns-3 returns-4)
+    tie.close (tie.spec size-requires returns (λ c κs. search needs) returns-2 returns-3 returns-4)

@@ -6,9 +6,6 @@ use Rattle.starts.specs.Steps.{markIf}
 use Rattle.starts.proofs.mark_if.Statement.{statement}
 use Rattle.starts.proofs.mark_if.Tie as tie
 
-mark-of-requires : tie.Need-mark-of-requires
-mark-of-requires c κs = search needs
-
 returns : tie.Need-returns
 returns c =
     let a = c .before .before .args in
@@ -18,4 +15,4 @@ returns-2 : tie.Need-returns-2
 returns-2 c = let a = c .before .args in sym (ap (λ (x : Bool). markIf x (a .effect) (a .place) (a .same)) (c .if1 .left))
 
 pub mark-if-spec : {M : Type 1} → statement M
-mark-if-spec = tie.close (tie.spec mark-of-requires returns returns-2)
+mark-if-spec = tie.close (tie.spec (λ c κs. search needs) returns returns-2)

@@ -7,24 +7,15 @@ use Rattle.starts.proofs.Seeking.{unless-refused, planned-full, chosen-
 use Rattle.starts.proofs.plan.Statement.{statement}
 use Rattle.starts.proofs.plan.Tie as tie
 
-still-requires : tie.Need-still-requires
-still-requires c κs = search needs
-
 returns : tie.Need-returns
 returns c =
     let a = c .before .before .before .before .args in
     c .still .ensures ∙ unless-refused (a .sought .number) (a .s) _ (c .before .if1 .taken)
 
-read-requires : tie.Need-read-requires
-read-requires c κs = search needs
-
 choose-requires : tie.Need-choose-requires
 choose-requires c κs =
     let p = c .before .before .before .before .pre (c .before .if1 .left) in
     (p .0, rw (c .read .ensures) (p .1 .0), p .1 .1)
-
-still-requires-2 : tie.Need-still-requires-2
-still-requires-2 c κs = search needs
 
 -- what was chosen
 chooses : (c : tie.After-choose)
@@ -64,11 +55,11 @@ pub plan-spec : {M : Type 1} → statement M
 plan-spec =
     tie.close
     (tie.spec
-    still-requires
+    (λ c κs. search needs)
     returns
-    read-requires
+    (λ c κs. search needs)
     choose-requires
-    still-requires-2
+    (λ c κs. search needs)
     returns-2
     start-plan-requires
     returns-3)

@@ -8,9 +8,6 @@ use Rattle.starts.proofs.Seeking.{or-first, or-second, sought-refused, 
 use Rattle.starts.proofs.seek.Statement.{statement}
 use Rattle.starts.proofs.seek.Tie as tie
 
-none-sought-requires : tie.Need-none-sought-requires
-none-sought-requires c κs = search needs
-
 returns : tie.Need-returns
 returns c =
     let a = c .before .before .before .args in
@@ -20,18 +17,12 @@ returns c =
 entry-refusal-requires : tie.Need-entry-refusal-requires
 entry-refusal-requires c κs = c .before .before .pre (c .if1 .left) .good
 
-none-sought-requires-2 : tie.Need-none-sought-requires-2
-none-sought-requires-2 c κs = search needs
-
 returns-2 : tie.Need-returns-2
 returns-2 c =
     let a = c .before .before .before .before .before .args in
     let own = c .before .before .entry-refusal in
     sought-refused (a .table .now) (a .s) (a .b) (a .word) (a .number) (own .result) (c .before .if2 .taken)
     (own .ensures ∙ or-second (a .number) _ (c .before .before .before .if1 .left)) (c .none-sought2 .ensures)
-
-read-requires : tie.Need-read-requires
-read-requires c κs = search needs
 
 -- it passed its own checks
 entered : (c : tie.Else2) → let a = c .before .before .before .before .args in refusal (startEntry (a .table .now) (a .s .n) (a .b) (a .word)) ≡ 0
@@ -57,11 +48,11 @@ pub seek-spec : {M : Type 1} → statement M
 seek-spec =
     tie.close
     (tie.spec
-    none-sought-requires
+    (λ c κs. search needs)
     returns
     entry-refusal-requires
-    none-sought-requires-2
+    (λ c κs. search needs)
     returns-2
-    read-requires
+    (λ c κs. search needs)
     seek-task-requires
     returns-3)

@@ -9,9 +9,6 @@ use Rattle.starts.proofs.seek_task.Tie as tie
 sizes : (c : tie.Start) → Sized (c .args .t2)
 sizes c = sized (c .args .t2) _ (c .good .1 .0)
 
-element-copy-out-front : tie.Need-element-copy-out-front
-element-copy-out-front c = search needs
-
 top-requires : tie.Need-top-requires
 top-requires c κs =
     let start = c .before .before in
@@ -27,9 +24,6 @@ group-of-requires c κs =
 sought-by-requires : tie.Need-sought-by-requires
 sought-by-requires c κs = c .before .before .before .before .pre
 
-index-of-requires : tie.Need-index-of-requires
-index-of-requires c κs = search needs
-
 returns : tie.Need-returns
 returns c =
     let found = c .before in
@@ -43,4 +37,4 @@ returns c =
     }
 
 pub seek-task-spec : {M : Type 1} → statement M
-seek-task-spec = tie.close (tie.spec element-copy-out-front top-requires group-of-requires sought-by-requires index-of-requires returns)
+seek-task-spec = tie.close (tie.spec (λ c. search needs) top-requires group-of-requires sought-by-requires (λ c κs. search needs) returns)

@@ -34,9 +34,6 @@ picks c = record { index = refl; effect = c .pre .1 .chosen .effect; place = c .
 carriable : (c : tie.Start) → Carriable (c .args .t2) (c .args .chosen .effect) (c .args .chosen .place)
 carriable c = picked-carriable (sizes c) (c .pre .0) (room c) (picks c)
 
-element-copy-out-front : tie.Need-element-copy-out-front
-element-copy-out-front c = search needs
-
 shift-of-requires : tie.Need-shift-of-requires
 shift-of-requires c κs = let start = c .before .before in placed (start .args .t2) (sizes start) (start .args .chosen .place) (start .args .chosen .effect) (carriable start)
 
@@ -55,9 +52,6 @@ top-requires c κs =
     let start = c .before .before .before .before .before in
     let a = start .args in
     task-filled (a .table .now) (a .t2) (a .b) (sizes start) (start .pre .0) 0 (start .pre .0 .some)
-
-mark-if-requires : tie.Need-mark-if-requires
-mark-if-requires c κs = search needs
 
 front-after-requires : tie.Need-front-after-requires
 front-after-requires c κs =
@@ -83,12 +77,12 @@ pub start-plan-spec : {M : Type 1} → statement M
 start-plan-spec =
     tie.close
     (tie.spec
-    element-copy-out-front
+    (λ c. search needs)
     shift-of-requires
     count-after-requires
     main-after-requires
     top-requires
-    mark-if-requires
+    (λ c κs. search needs)
     front-after-requires
     closing-plan-requires
     returns)

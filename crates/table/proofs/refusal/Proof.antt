@@ -11,18 +11,6 @@ use Rattle.table.proofs.refusal.Tie as tie
 returns : tie.Need-returns
 returns c = sym (refusal-1 (c .before .before .args .table .now) (λ s. omega arith))
 
-size-requires : tie.Need-size-requires
-size-requires c κs = search needs
-
-cast-if2 : tie.Need-cast-if2
-cast-if2 c = search needs
-
-mul-if2 : tie.Need-mul-if2
-mul-if2 c = search needs
-
-add-if2 : tie.Need-add-if2
-add-if2 c = search needs
-
 returns-2 : tie.Need-returns-2
 returns-2 c = sym (refusal-1 (c .before .before .before .before .args .table .now) (λ s. omega arith))
 
@@ -32,15 +20,9 @@ returns-3 c = sym (refusal-1 (c .before .before .before .before .before .args .t
 returns-4 : tie.Need-returns-4
 returns-4 c = sym (refusal-1 (c .before .before .before .before .before .before .args .table .now) (λ s. omega arith))
 
-main-screen-requires : tie.Need-main-screen-requires
-main-screen-requires c κs = search needs
-
 returns-5 : tie.Need-returns-5
 returns-5 c =
     sym (refusal-2 (c .before .before .before .before .before .before .before .before .args .table .now) (record { long = omega arith; some = omega arith; most = omega arith }) (λ f. omega arith))
-
-modes-fit-requires : tie.Need-modes-fit-requires
-modes-fit-requires c κs = search needs
 
 returns-6 : tie.Need-returns-6
 returns-6 c =
@@ -64,15 +46,15 @@ refusal-spec =
     tie.close
     (tie.spec
     returns
-    size-requires
-    cast-if2
-    mul-if2
-    add-if2
+    (λ c κs. search needs)
+    (λ c. search needs)
+    (λ c. search needs)
+    (λ c. search needs)
     returns-2
     returns-3
     returns-4
-    main-screen-requires
+    (λ c κs. search needs)
     returns-5
-    modes-fit-requires
+    (λ c κs. search needs)
     returns-6
     returns-7)

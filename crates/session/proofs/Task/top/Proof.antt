@@ -8,15 +8,6 @@ use Rattle.session.proofs.TaskLaws.{view-screen}
 use Rattle.session.proofs.Task.top.Statement.{statement}
 use Rattle.session.proofs.Task.top.Tie as tie
 
-sub-h : tie.Need-sub-h
-sub-h c = search needs
-
-cast-h : tie.Need-cast-h
-cast-h c = search needs
-
-element-copy-out-result : tie.Need-element-copy-out-result
-element-copy-out-result c = search needs
-
 returns : tie.Need-returns
 returns c =
     let t = c .before .args .t1 in
@@ -24,4 +15,4 @@ returns c =
     sym (view-screen t (omega arith) (t .height - 1) 0 (omega arith))
 
 pub top-spec : {M : Type 1} → statement M
-top-spec = tie.close (tie.spec sub-h cast-h element-copy-out-result returns)
+top-spec = tie.close (tie.spec (λ c. search needs) (λ c. search needs) (λ c. search needs) returns)
