@@ -1,6 +1,7 @@
 -- What is said of two recordings' endings, byte for byte, in ASCII.
-use Prim.Native.Nat.{ℕ, zero, suc}
+use Prim.Native.Nat.{ℕ, zero, suc, _+_, _*_}
 use mathlib.Core.List.{List, [], _∷_, _++_}
+use lib.ListN.{length}
 use Rattle.model.specs.Lists.{if_then_else_}
 use Rattle.model.specs.Player.{newline, decimal, lineOf}
 use Rattle.difference.specs.declared.Difference.{Difference}
@@ -30,3 +31,11 @@ apartLines d =
 
 unfoldable pub verdictText : Difference → List ℕ
 verdictText d = if d .found then apartLines d else alikeText
+
+-- no line is longer: seven numbers of up to three digits, each with a blank or the newline behind it
+abbrev pub longestLine : ℕ
+longestLine = 7 * (3 + 1)
+
+-- and no verdict: a number of Backs has up to three digits
+abbrev pub longestVerdict : ℕ
+longestVerdict = length apartText + 3 + length backsText + 2 * longestLine
