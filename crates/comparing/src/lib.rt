@@ -108,7 +108,7 @@ fn tell(first: &[u8], second: &[u8])
         return;
     }
     let d = endings::compare(first, second);
-    let mut out = [0u8; 78];
+    let mut out = [0u8; endings::LONGEST_VERDICT];
     let long = endings::write_verdict(&mut out, d);
     if !io::write_all(STDOUT_FILENO, &out[..long]) {
         os::fail(b"standard output");

@@ -18,7 +18,7 @@ use Rattle.model.proofs.Backs.{screens-most, empty-both}
 use Rattle.session.specs.declared.Session.{Session}
 use Rattle.session.specs.Stored.{view}
 use Rattle.difference.specs.declared.Difference.{Difference}
-use Rattle.difference.specs.Apart.{lookThenBacks, FirstApart}
+use Rattle.difference.specs.Apart.{lookThenBacks, mostBacks, FirstApart}
 use Rattle.difference.proofs.Reached.{Both, reached-count}
 
 backs-later : (k : ℕ) → All IsLater (replicate k back)
@@ -32,10 +32,10 @@ last-same (x ∷ xs) a b e = last-same xs a b (tail-eq-of-cons-eq e)
 -- the four clauses of the contract
 abbrev pub Told : List ℕ → State ℕ → State ℕ → Difference → Type 0
 Told tb s t d =
-    FirstApart tb s t d × (((d .found ≡ false) ↔ (s ≡ t)) × (((d .found ≡ false) ↔ AnswerAlike (byRules tb) s t) × (d .backs ≤ 512)))
+    FirstApart tb s t d × (((d .found ≡ false) ↔ (s ≡ t)) × (((d .found ≡ false) ↔ AnswerAlike (byRules tb) s t) × (d .backs ≤ mostBacks)))
 
 module _ {tb : List ℕ} {s t : State ℕ} {k : ℕ} {c d : Session} (r : Both tb s t k c d) where
-  pub backs-most : Sound tb s → k ≤ 512
+  pub backs-most : Sound tb s → k ≤ mostBacks
   backs-most h = let e = r .screens in let l = screens-most tb s h in omega arith
 
   module _ (h : Sound tb s) (a b : Answer) (p : a ≡ lookAt (view c)) (q : b ≡ lookAt (view d)) where

@@ -1,11 +1,11 @@
 -- Two sessions held against each other by a look and then Backs.
-use Prim.Native.Nat.{ℕ}
+use Prim.Native.Nat.{ℕ, _*_}
 use mathlib.Core.Path.{_≡_}
 use mathlib.Core.Bool.{true, false}
 use mathlib.Core.List.{List, [], _∷_, _++_}
 use lib.ListN.{replicate}
 use Rattle.model.specs.declared.Answer.{Answer}
-use Rattle.model.specs.Session.{State, screensIn, fresh}
+use Rattle.model.specs.Session.{State, mostTasks, mostHeight, screensIn, fresh}
 use Rattle.model.specs.Answers.{lookAt}
 use Rattle.model.specs.Calls.{Call, back, look}
 use Rattle.model.specs.Histories.{answers, byRules}
@@ -14,6 +14,10 @@ use Rattle.difference.specs.declared.Difference.{Difference}
 -- a look and then k Backs. "Back: removes the front screen": each answer shows what stands there then.
 abbrev pub lookThenBacks : ℕ → List Call
 lookThenBacks k = look ∷ replicate k back
+
+-- each Back removes a screen, and no sound session has more
+abbrev pub mostBacks : ℕ
+mostBacks = mostTasks * mostHeight
 
 -- The answers of the sessions s and t to a look and then Backs agree before the answers in d. "Answers are equal when at
 -- each place of that list the two answers agree in every number."

@@ -6,7 +6,7 @@ ghost use mathlib.Core.Logic.{_↔_};
 ghost use mathlib.Core.Bool.{true, false};
 ghost use Rattle.model.specs.Histories.{AnswerAlike, byRules};
 ghost use Rattle.session.specs.Stored.{view, Ready};
-ghost use Rattle.difference.specs.Apart.{FirstApart};
+ghost use Rattle.difference.specs.Apart.{mostBacks, FirstApart};
 use model::Answer;
 use session::Session;
 
@@ -36,7 +36,7 @@ pub fn first_difference(table: &[u8], first: Session, second: Session) -> Differ
     ensures apart { λ r. ⌜ FirstApart (now (table .entry)) (view first) (view second) r ⌝ }
     ensures same { λ r. ⌜ (r .found ≡ false) ↔ (view first ≡ view second) ⌝ }
     ensures alike { λ r. ⌜ (r .found ≡ false) ↔ AnswerAlike (byRules (now (table .entry))) (view first) (view second) ⌝ }
-    ensures bound { λ r. ⌜ r .backs ≤ 512 ⌝ }
+    ensures bound { λ r. ⌜ r .backs ≤ mostBacks ⌝ }
 {
     let mut s = first;
     let mut t = second;

@@ -1,8 +1,9 @@
 -- What is said of two recordings' endings, byte for byte, in ASCII.
-use Prim.Native.Nat.{ℕ, zero, suc}
+use Prim.Native.Nat.{ℕ, zero, suc, _+_, _*_}
 use mathlib.Core.List.{List, [], _∷_, _++_}
+use lib.ListN.{length}
 use Rattle.model.specs.Lists.{if_then_else_}
-use Rattle.model.specs.Player.{newline, decimal, lineOf}
+use Rattle.model.specs.Player.{newline, decimal, lineOf, longestLine}
 use Rattle.difference.specs.declared.Difference.{Difference}
 
 -- "alike" and a newline
@@ -30,3 +31,7 @@ apartLines d =
 
 unfoldable pub verdictText : Difference → List ℕ
 verdictText d = if d .found then apartLines d else alikeText
+
+-- no verdict is longer: a number of Backs has up to three digits
+abbrev pub longestVerdict : ℕ
+longestVerdict = length apartText + 3 + length backsText + 2 * longestLine

@@ -10,11 +10,14 @@ ghost use Rattle.model.specs.Player.{decimal, tableIn};
 ghost use Rattle.model.specs.Histories.{AnswerAlike, byRules};
 ghost use Rattle.model.specs.Written.{written};
 ghost use Rattle.session.specs.Stored.{hold, Ready};
-ghost use Rattle.difference.specs.Apart.{FirstApart};
+ghost use Rattle.difference.specs.Apart.{mostBacks, FirstApart};
 ghost use Rattle.endings.specs.Endings.{endingOf};
-ghost use Rattle.endings.specs.Verdict.{lastKind, verdictText};
+ghost use Rattle.endings.specs.Verdict.{lastKind, verdictText, longestVerdict};
 use difference::Difference;
 use session::Session;
+
+// The length of the longest verdict: "apart after ", a number of three digits, " Backs" and a newline, and two lines.
+pub const LONGEST_VERDICT: usize = 12 + 3 + 7 + 2 * line::LONGEST;
 
 // The length of the table that a recording begins with, or of what is there of it.
 fn table_end(input: &[u8]) -> usize
@@ -63,7 +66,7 @@ pub fn compare(first: &[u8], second: &[u8]) -> Difference
     ensures apart { λ r. ⌜ FirstApart (tableIn (now (first .entry))) (endingOf (now (first .entry))) (endingOf (now (second .entry))) r ⌝ }
     ensures same { λ r. ⌜ (r .found ≡ false) ↔ (endingOf (now (first .entry)) ≡ endingOf (now (second .entry))) ⌝ }
     ensures alike { λ r. ⌜ (r .found ≡ false) ↔ AnswerAlike (byRules (tableIn (now (first .entry)))) (endingOf (now (first .entry))) (endingOf (now (second .entry))) ⌝ }
-    ensures bound { λ r. ⌜ r .backs ≤ 512 ⌝ }
+    ensures bound { λ r. ⌜ r .backs ≤ mostBacks ⌝ }
 {
     let end = table_end(first);
     let s = ending_of(first);
@@ -110,10 +113,10 @@ fn last_kind(backs: u16) -> u8
 // Writes the verdict at the start of a lent buffer: that the endings are alike, or after how many Backs they are told apart,
 // and the player's lines for the two answers that differ. Yields its length.
 pub fn write_verdict(out: &mut [u8], d: Difference) -> usize
-    requires { ⌜ (d .backs ≤ 512) × (78 ≤ length (now out)) ⌝ }
+    requires { ⌜ (d .backs ≤ mostBacks) × (longestVerdict ≤ length (now out)) ⌝ }
     ensures length { λ r. ⌜ r ≡ length (verdictText d) ⌝ }
     ensures text { λ r. ⌜ now (out .exit) ≡ written (now (out .entry)) 0 (verdictText d) ⌝ }
-    ensures bound { λ r. ⌜ r ≤ 78 ⌝ }
+    ensures bound { λ r. ⌜ r ≤ longestVerdict ⌝ }
 {
     if !d.found {
         return write_text(out, 0, b"alike\n");

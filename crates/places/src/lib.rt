@@ -8,6 +8,7 @@ ghost use lib.Dec.{ltb};
 ghost use lib.ListN.{set, take};
 ghost use Rattle.model.specs.Lists.{all};
 ghost use Rattle.model.specs.Table.{tableRefusal};
+ghost use Rattle.model.specs.Session.{mostTasks, mostHeight};
 ghost use Rattle.session.specs.Stored.{isBlank};
 ghost use Rattle.places.specs.PlaceTests.{total, plainSum, usedSum, expectedSum, rootOr, placeRoot};
 use session::Session;
@@ -52,7 +53,7 @@ pub fn blank_four(a: Task, b: Task, c: Task, d: Task) -> bool
 
 // The sum of the h lowest screens; a number that no sum is where one of them is not below N or is single-instance.
 fn plain_sum(table: &[u8], t: Task, h: usize) -> u32
-    requires { ⌜ (tableRefusal (now table) ≡ 0) × (h ≤ 32) ⌝ }
+    requires { ⌜ (tableRefusal (now table) ≡ 0) × (h ≤ mostHeight) ⌝ }
     ensures { λ r. ⌜ r ≡ plainSum (now (table .entry)) (take h (t .screens)) ⌝ }
 {
     let size = table::size(table);
@@ -140,7 +141,7 @@ pub fn four_roots(
     c: Task,
     d: Task,
 ) -> [u8; Session::TASKS]
-    requires { ⌜ (tableRefusal (now table) ≡ 0) × (at + 4 ≤ 16) ⌝ }
+    requires { ⌜ (tableRefusal (now table) ≡ 0) × (at + 4 ≤ mostTasks) ⌝ }
     ensures { λ r. ⌜ r ≡ set (set (set (set roots
         at (placeRoot (now (table .entry)) (ltb at n) a))
         (at + 1) (placeRoot (now (table .entry)) (ltb (at + 1) n) b))

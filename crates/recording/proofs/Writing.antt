@@ -4,13 +4,13 @@ use mathlib.Core.Path.{_≡_, refl, sym, _∙_, ap}
 use mathlib.Core.List.{List, [], _∷_, _++_}
 use native.Mathlib.Omega.{arith}
 use lib.ListN.{length, length-append}
-use lib.Seq.{take-at, drop-at}
+use lib.Seq.{take-at, drop-at, drop-drop}
 use Rattle.model.specs.Lists.{All}
 use Rattle.model.specs.Calls.{Call, launch, start, finishingStart, back, look, restore}
 use Rattle.model.specs.Player.{requestOf, wordOf}
 use Rattle.model.specs.Histories.{IsByte, IsWord, Passable}
 use Rattle.model.proofs.ListLaws.{All-append}
-use Rattle.recording.specs.CallBytes.{imageLength, callOf, callsBehind, callsIn, header, bytesOf, writtenAs, Writable}
+use Rattle.recording.specs.CallBytes.{imageLength, callOf, firstCalls, callsIn, header, bytesOf, writtenAs, Writable}
 use Rattle.recording.proofs.Reading.{calls-whole}
 
 word-back : (w : ℕ) → wordOf (w / 0x1000000) (w / 0x10000 % 0x100) (w / 0x100 % 0x100) (w % 0x100) ≡ w
@@ -22,9 +22,14 @@ record-back : (k b w : ℕ) (image rest : List ℕ) → length image ≡ imageLe
 record-back k b w image rest e =
     let p : imageLength k (wordOf (w / 0x1000000) (w / 0x10000 % 0x100) (w / 0x100 % 0x100) (w % 0x100)) ≡ length image =
     ap (imageLength k) (word-back w) ∙ sym e in
-    calls-whole k b (w / 0x1000000) (w / 0x10000 % 0x100) (w / 0x100 % 0x100) (w % 0x100) (image ++ rest)
-    (omega (arith, p, length-append image rest))
-    ∙ rw (p, word-back w, take-at image rest (length image) refl, drop-at image rest (length image) refl)
+    calls-whole (header k b w ++ (image ++ rest)) (omega (arith, p, length-append image rest))
+    ∙ rw (
+      p,
+      word-back w,
+      take-at image rest (length image) refl,
+      ← drop-drop (length image) 6 (header k b w ++ (image ++ rest)),
+      drop-at image rest (length image) refl,
+    )
 
 -- one call, in front of a list
 call-back : (c : Call) (l : List ℕ) → callsIn (bytesOf c ++ l) ≡ c ∷ callsIn l
@@ -38,7 +43,7 @@ call-back (restore bytes) l = record-back 6 0 (length bytes) bytes l refl
 
 -- every list of calls is read back from what it is written as
 pub read-back : (cs : List Call) → callsIn (writtenAs cs) ≡ cs
-unfolding writtenAs callsBehind
+unfolding writtenAs firstCalls
 read-back [] = refl
 read-back (c ∷ cs) = call-back c (writtenAs cs) ∙ ap (λ (ds : List Call). c ∷ ds) (read-back cs)
 

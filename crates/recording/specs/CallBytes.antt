@@ -1,9 +1,10 @@
 -- A list of calls as bytes. Kinds 1 to 5 are the player's records (document 01, "Player"); kind 6 is a restore, whose word is
 -- the length of an image, and the image's bytes follow. Every byte string reads as some list of calls.
-use Prim.Native.Nat.{ℕ, zero, suc, _/_, _%_}
+use Prim.Native.Nat.{ℕ, zero, suc, _+_, _/_, _%_}
+use mathlib.Core.Bool.{Bool}
 use mathlib.Core.List.{List, [], _∷_, _++_}
 use lib.Dec.{leb, eqb}
-use lib.ListN.{length, take}
+use lib.ListN.{length, getD, take, drop}
 use Rattle.model.specs.Lists.{if_then_else_}
 use Rattle.model.specs.Calls.{Call, launch, start, finishingStart, back, look, restore}
 use Rattle.model.specs.Player.{Request, unplayable, asks, requestOf, wordOf}
@@ -27,23 +28,29 @@ callAsked (asks c) = c ∷ []
 unfoldable pub callOf : ℕ → ℕ → ℕ → List ℕ → List Call
 callOf kind b w bytes = if eqb kind restoreKind then restore bytes ∷ [] else callAsked (requestOf kind b w)
 
--- the calls behind the first n bytes, which belong to an image. A cut record is no call and ends the list: fewer than six
--- bytes, or fewer bytes of an image than its length says.
-unfoldable pub callsBehind : ℕ → List ℕ → List Call
-callsBehind n [] = []
-callsBehind (suc n) (x ∷ l) = callsBehind n l
-callsBehind zero (k ∷ []) = []
-callsBehind zero (k ∷ b ∷ []) = []
-callsBehind zero (k ∷ b ∷ w₃ ∷ []) = []
-callsBehind zero (k ∷ b ∷ w₃ ∷ w₂ ∷ []) = []
-callsBehind zero (k ∷ b ∷ w₃ ∷ w₂ ∷ w₁ ∷ []) = []
-callsBehind zero (k ∷ b ∷ w₃ ∷ w₂ ∷ w₁ ∷ w₀ ∷ rest) =
-    let w = wordOf w₃ w₂ w₁ w₀ in
-    let n = imageLength k w in
-    if leb n (length rest) then callOf k b w (take n rest) ++ callsBehind n rest else []
+-- of the first record in the bytes: its word, how many bytes of an image follow it, and the call of both
+abbrev pub firstWord : List ℕ → ℕ
+firstWord bytes = wordOf (getD bytes 2 0) (getD bytes 3 0) (getD bytes 4 0) (getD bytes 5 0)
 
+abbrev pub firstImage : List ℕ → ℕ
+firstImage bytes = imageLength (getD bytes 0 0) (firstWord bytes)
+
+abbrev pub firstCall : List ℕ → List Call
+firstCall bytes = callOf (getD bytes 0 0) (getD bytes 1 0) (firstWord bytes) (take (firstImage bytes) (drop 6 bytes))
+
+-- it is whole: not cut to fewer than six bytes, or to fewer bytes of an image than its length says
+abbrev pub firstWhole : List ℕ → Bool
+firstWhole bytes = leb (6 + firstImage bytes) (length bytes)
+
+-- the calls of the first n records. A cut record is no call and ends the list.
+unfoldable pub firstCalls : ℕ → List ℕ → List Call
+firstCalls zero bytes = []
+firstCalls (suc n) bytes =
+    if firstWhole bytes then firstCall bytes ++ firstCalls n (drop (6 + firstImage bytes) bytes) else []
+
+-- the calls of all records, which are not more than the bytes
 abbrev pub callsIn : List ℕ → List Call
-callsIn bytes = callsBehind 0 bytes
+callsIn bytes = firstCalls (length bytes) bytes
 
 -- ---- calls to bytes
 

@@ -17,6 +17,9 @@ ghost use Rattle.recording.specs.CallBytes.{imageLength, callOf, callsIn
 ghost use Rattle.recording.specs.Replay.{replayed, EveryList, EndAlike, TellsImages};
 use session::Session;
 
+// The length of the longest image: each task has a root, a height and its screens, and six bytes follow the last.
+const LONGEST_IMAGE: usize = Session::TASKS * (2 + Session::SCREENS) + 6;
+
 // How many bytes of an image follow a record.
 fn image_length(kind: u8, word: u32) -> usize
     ensures { λ r. ⌜ r ≡ imageLength kind word ⌝ }
@@ -97,14 +100,14 @@ pub fn replay(table: &[u8], calls: &[u8]) -> Replayed
     }
 }
 
-// Two sessions have equal images: the same length and the same bytes. No image of a sound session is longer than 550 bytes.
+// Two sessions have equal images: the same length and the same bytes.
 fn same_image(s: Session, t: Session) -> bool
     requires { ⌜ (storageBlank s ≡ true) × (length (image (view s)) ≤ longestImage) ⌝ }
     requires { ⌜ (storageBlank t ≡ true) × (length (image (view t)) ≤ longestImage) ⌝ }
     ensures { λ r. ⌜ (r ≡ true) ↔ (image (view s) ≡ image (view t)) ⌝ }
 {
-    let mut a = [0u8; 550];
-    let mut b = [0u8; 550];
+    let mut a = [0u8; LONGEST_IMAGE];
+    let mut b = [0u8; LONGEST_IMAGE];
     let n = image::write(s, &mut a);
     let m = image::write(t, &mut b);
     check::same(&a[..n], &b[..m])

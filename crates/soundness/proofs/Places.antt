@@ -7,7 +7,7 @@ use mathlib.Core.List.{List, [], _∷_}
 use native.Mathlib.Omega.{arith}
 use lib.Dec.{ltb}
 use lib.ListN.{length, getD, set, take, drop, replicate, length-set, length-drop, length-map, length-replicate, List·getD-map}
-use lib.Seq.{getD-set-same, getD-set-other, getD-take, getD-drop, length-take-le, ext-getD}
+use lib.Seq.{getD-set-same, getD-set-other, set-getD, getD-take, getD-drop, length-take-le, ext-getD}
 use borrow.Author.Tests.{ltb-true, ltb-false, lt-ltb, le-ltb, ne-eqb}
 use Rattle.model.specs.Lists.{all, All, if_then_else_}
 use Rattle.model.specs.Table.{tableRefusal}
@@ -126,28 +126,12 @@ module _ {tb : List ℕ} {s : Session} where
             let q : j ≡ i = omega arith in
             rw q (getD-set-same roots i (rootAt tb s i) 0 (omega (arith, b .long)))
 
-    after-blank : s .n ≤ i → i < mostTasks → isBlank (task s i) ≡ true → Before tb s roots (i + 1)
-    after-blank h l e =
-        record {
-          good = b .good;
-          few = b .few;
-          sized = b .sized;
-          sums = b .sums;
-          long = b .long;
-          read = λ j k. go j k (ltb j i) refl;
-          blank = λ j k. b .blank j (omega arith);
-        }
-      where
-        here : rootAt tb s i ≡ 0
-        here =
-            rw (le-ltb i (s .n) h) (sound-root tb (b .good) (task s i) (fits-at i l) false e ∙ blank-root-0 (task s i) e)
-
-        go : (j : ℕ) → j < i + 1 → (e : Bool) → ltb j i ≡ e → getD roots j 0 ≡ rootAt tb s j
-        go j l true e = b .read j (ltb-true j i e)
-        go j l false e =
-            let k = ltb-false j i e in
-            let q : j ≡ i = omega arith in
-            rw q (b .blank i (omega arith) ∙ sym here)
+    -- a blank place in which no task stands has the root 0, which stands there
+    blank-here : (j : ℕ) → i ≤ j → s .n ≤ i → j < mostTasks → isBlank (task s j) ≡ true → set roots j (rootAt tb s j) ≡ roots
+    blank-here j l h m e =
+        let z : rootAt tb s j ≡ 0 =
+        rw (le-ltb j (s .n) (omega arith)) (sound-root tb (b .good) (task s j) (fits-at j m) false e ∙ blank-root-0 (task s j) e) in
+        ap (set roots j) (z ∙ sym (b .blank j l)) ∙ set-getD roots j 0
 
   -- ---- four places more
 
@@ -162,15 +146,20 @@ module _ {tb : List ℕ} {s : Session} where
       let b₃ = at-place (i + 3) (omega arith) (after-one b₂ (omega arith)) in
       rw e (at-place (i + 4) (omega arith) (after-one b₃ (omega arith)))
 
-  pub after-blanks : {roots : List ℕ} {i : ℕ} → Before tb s roots i → s .n ≤ i → i + 4 ≤ mostTasks → blanks s i ≡ true → Before tb s roots (i + 4)
-  after-blanks {i = i} b h l e =
+  pub after-blanks : {roots : List ℕ} {i : ℕ} → Before tb s roots i → s .n ≤ i → i + 4 ≤ mostTasks → blanks s i ≡ true → {r : List ℕ} → r ≡ roots
+      → Before tb s r (i + 4)
+  after-blanks {i = i} b h l e f =
       let e₁ = and-right (isBlank (task s i)) _ e in
       let e₂ = and-right (isBlank (task s (i + 1))) _ e₁ in
       let e₃ = and-right (isBlank (task s (i + 2))) _ e₂ in
-      let b₁ = after-blank b h (omega arith) (and-left (isBlank (task s i)) _ e) in
-      let b₂ = at-place (i + 2) (omega arith) (after-blank b₁ (omega arith) (omega arith) (and-left (isBlank (task s (i + 1))) _ e₁)) in
-      let b₃ = at-place (i + 3) (omega arith) (after-blank b₂ (omega arith) (omega arith) (and-left (isBlank (task s (i + 2))) _ e₂)) in
-      at-place (i + 4) (omega arith) (after-blank b₃ (omega arith) (omega arith) (and-left (isBlank (task s (i + 3))) _ e₃))
+      after-four b l
+      (rw (
+        f,
+        blank-here b i (omega arith) h (omega arith) (and-left (isBlank (task s i)) _ e),
+        blank-here b (i + 1) (omega arith) h (omega arith) (and-left (isBlank (task s (i + 1))) _ e₁),
+        blank-here b (i + 2) (omega arith) h (omega arith) (and-left (isBlank (task s (i + 2))) _ e₂),
+        blank-here b (i + 3) (omega arith) h (omega arith) (and-left (isBlank (task s (i + 3))) _ e₃),
+      ))
 
   -- ---- a place beyond the tasks of a sound session
 

@@ -6,6 +6,7 @@ ghost use mathlib.Core.Bool.{true};
 ghost use lib.ListN.{take, drop};
 ghost use Rattle.model.specs.Lists.{all, pairwise};
 ghost use Rattle.model.specs.Table.{tableRefusal};
+ghost use Rattle.model.specs.Session.{mostTasks};
 ghost use Rattle.session.specs.Stored.{soundStored};
 ghost use Rattle.places.specs.PlaceTests.{isRoot};
 ghost use Rattle.soundness.specs.Tests.{otherRoot, rootsKnown, mayBeRoots, mainRootSound};
@@ -26,7 +27,7 @@ fn all_roots(roots: [u8; Session::TASKS]) -> bool
 
 // No root from a place on, of the first n, is b.
 fn no_root(roots: [u8; Session::TASKS], from: usize, n: usize, b: u8) -> bool
-    requires { ⌜ (from ≤ n) × (n ≤ 16) ⌝ }
+    requires { ⌜ (from ≤ n) × (n ≤ mostTasks) ⌝ }
     ensures { λ r. ⌜ r ≡ all (otherRoot b) (drop from (take n roots)) ⌝ }
 {
     let mut i = from;
@@ -41,7 +42,7 @@ fn no_root(roots: [u8; Session::TASKS], from: usize, n: usize, b: u8) -> bool
 
 // No single-task or single-instance screen is twice among the first n roots.
 fn roots_differ(table: &[u8], roots: [u8; Session::TASKS], n: usize) -> bool
-    requires { ⌜ (tableRefusal (now table) ≡ 0) × ((n ≤ 16) × (rootsKnown (now table) (take n roots) ≡ true)) ⌝ }
+    requires { ⌜ (tableRefusal (now table) ≡ 0) × ((n ≤ mostTasks) × (rootsKnown (now table) (take n roots) ≡ true)) ⌝ }
     ensures { λ r. ⌜ r ≡ pairwise (mayBeRoots (now (table .entry))) (take n roots) ⌝ }
 {
     let mut i: usize = 0;
@@ -60,7 +61,7 @@ fn roots_differ(table: &[u8], roots: [u8; Session::TASKS], n: usize) -> bool
 
 // The main place m is 0, or that of one of the n roots, which is the main screen.
 fn main_sound(table: &[u8], roots: [u8; Session::TASKS], n: u8, m: u8) -> bool
-    requires { ⌜ (tableRefusal (now table) ≡ 0) × (n ≤ 16) ⌝ }
+    requires { ⌜ (tableRefusal (now table) ≡ 0) × (n ≤ mostTasks) ⌝ }
     ensures { λ r. ⌜ r ≡ mainRootSound (now (table .entry)) (take n roots) m ⌝ }
 {
     if m > n {

@@ -53,9 +53,6 @@ look-at-requires c κs = reached-seen (c .loop .inv .one)
 look-at-requires-2 : tie.Need-look-at-requires-2 Inv-loop μ-loop
 look-at-requires-2 c κs = reached-seen (c .before .loop .inv .other)
 
-agree-requires : tie.Need-agree-requires Inv-loop μ-loop
-agree-requires c κs = search needs
-
 -- where the loop goes on the answers agree, and both sessions have a screen
 record Goes (c : tie.Else1 Inv-loop μ-loop) : Type 0 where
   looks : lookAt (view (c .before .before .before .before .before .loop .s)) ≡ lookAt (view (c .before .before .before .before .before .loop .t))
@@ -135,7 +132,7 @@ first-difference-spec =
     loop-holds
     look-at-requires
     look-at-requires-2
-    agree-requires
+    (λ c κs. search needs)
     back-requires
     back-requires-2
     add-backs

@@ -10,12 +10,6 @@ use Rattle.endings.proofs.Tables.{table-part}
 use Rattle.endings.proofs.compare.Statement.{statement}
 use Rattle.endings.proofs.compare.Tie as tie
 
-table-end-requires : tie.Need-table-end-requires
-table-end-requires c κs = search needs
-
-ending-of-requires : tie.Need-ending-of-requires
-ending-of-requires c κs = search needs
-
 ending-of-requires-2 : tie.Need-ending-of-requires-2
 ending-of-requires-2 c κs = let p = c .before .before .before .before .pre in ap tableRefusal (sym (p .1)) ∙ p .0
 
@@ -45,8 +39,8 @@ pub compare-spec : {M : Type 1} → statement M
 compare-spec =
     tie.close
     (tie.spec
-    table-end-requires
-    ending-of-requires
+    (λ c κs. search needs)
+    (λ c κs. search needs)
     ending-of-requires-2
     slice-aggregate-first-difference
     first-difference-requires

@@ -7,23 +7,8 @@ use Rattle.endings.proofs.Tables.{table-part, calls-part, replayed-good
 use Rattle.endings.proofs.ending_of.Statement.{statement}
 use Rattle.endings.proofs.ending_of.Tie as tie
 
-table-end-requires : tie.Need-table-end-requires
-table-end-requires c κs = search needs
-
 slice-aggregate-replay : tie.Need-slice-aggregate-replay
 slice-aggregate-replay c = sym (length-take-le _ _ (c .before .table-end .ensures .1))
-
-sub-replay : tie.Need-sub-replay
-sub-replay c = search needs
-
-part-replay-start : tie.Need-part-replay-start
-part-replay-start c = search needs
-
-part-replay-end : tie.Need-part-replay-end
-part-replay-end c = search needs
-
-replay-requires : tie.Need-replay-requires
-replay-requires c κs = search needs
 
 returns : tie.Need-returns
 returns c =
@@ -39,10 +24,10 @@ pub ending-of-spec : {M : Type 1} → statement M
 ending-of-spec =
     tie.close
     (tie.spec
-    table-end-requires
+    (λ c κs. search needs)
     slice-aggregate-replay
-    sub-replay
-    part-replay-start
-    part-replay-end
-    replay-requires
+    (λ c. search needs)
+    (λ c. search needs)
+    (λ c. search needs)
+    (λ c κs. search needs)
     returns)

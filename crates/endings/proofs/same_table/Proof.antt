@@ -6,20 +6,11 @@ use Rattle.endings.proofs.Tables.{table-part}
 use Rattle.endings.proofs.same_table.Statement.{statement}
 use Rattle.endings.proofs.same_table.Tie as tie
 
-table-end-requires : tie.Need-table-end-requires
-table-end-requires c κs = search needs
-
-table-end-requires-2 : tie.Need-table-end-requires-2
-table-end-requires-2 c κs = search needs
-
 slice-aggregate-same : tie.Need-slice-aggregate-same
 slice-aggregate-same c = sym (length-take-le _ _ (c .before .before .table-end .ensures .1))
 
 slice-aggregate-same-2 : tie.Need-slice-aggregate-same-2
 slice-aggregate-same-2 c = sym (length-take-le _ _ (c .before .before .table-end2 .ensures .1))
-
-same-requires : tie.Need-same-requires
-same-requires c κs = search needs
 
 returns : tie.Need-returns
 returns c =
@@ -32,9 +23,9 @@ pub same-table-spec : {M : Type 1} → statement M
 same-table-spec =
     tie.close
     (tie.spec
-    table-end-requires
-    table-end-requires-2
+    (λ c κs. search needs)
+    (λ c κs. search needs)
     slice-aggregate-same
     slice-aggregate-same-2
-    same-requires
+    (λ c κs. search needs)
     returns)

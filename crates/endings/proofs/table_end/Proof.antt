@@ -7,9 +7,6 @@ use Rattle.model.specs.Table.{sizeOf}
 use Rattle.endings.proofs.table_end.Statement.{statement}
 use Rattle.endings.proofs.table_end.Tie as tie
 
-length-said-requires : tie.Need-length-said-requires
-length-said-requires c κs = search needs
-
 returns : tie.Need-returns
 returns c = let l = c .before .before .before .args .input .now in (omega (arith, length-take (2 + 2 * sizeOf l) l), search needs)
 
@@ -17,4 +14,4 @@ returns-2 : tie.Need-returns-2
 returns-2 c = let l = c .before .before .before .args .input .now in (omega (arith, length-take (2 + 2 * sizeOf l) l), search needs)
 
 pub table-end-spec : {M : Type 1} → statement M
-table-end-spec = tie.close (tie.spec length-said-requires returns returns-2)
+table-end-spec = tie.close (tie.spec (λ c κs. search needs) returns returns-2)

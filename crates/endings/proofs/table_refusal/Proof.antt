@@ -7,14 +7,8 @@ use Rattle.endings.proofs.Tables.{table-part}
 use Rattle.endings.proofs.table_refusal.Statement.{statement}
 use Rattle.endings.proofs.table_refusal.Tie as tie
 
-table-end-requires : tie.Need-table-end-requires
-table-end-requires c κs = search needs
-
 slice-aggregate-refusal : tie.Need-slice-aggregate-refusal
 slice-aggregate-refusal c = sym (length-take-le _ _ (c .before .table-end .ensures .1))
-
-refusal-requires : tie.Need-refusal-requires
-refusal-requires c κs = search needs
 
 returns : tie.Need-returns
 returns c =
@@ -22,4 +16,4 @@ returns c =
     c .refusal .ensures ∙ ap tableRefusal (table-part (c .before .before .before .before .args .input .now) (end .result) (end .ensures .0))
 
 pub table-refusal-spec : {M : Type 1} → statement M
-table-refusal-spec = tie.close (tie.spec table-end-requires slice-aggregate-refusal refusal-requires returns)
+table-refusal-spec = tie.close (tie.spec (λ c κs. search needs) slice-aggregate-refusal (λ c κs. search needs) returns)

@@ -14,15 +14,6 @@ use Rattle.endings.proofs.Verdicts.{text-alike, text-apart}
 use Rattle.endings.proofs.write_verdict.Statement.{statement}
 use Rattle.endings.proofs.write_verdict.Tie as tie
 
-slice-aggregate-write-text : tie.Need-slice-aggregate-write-text
-slice-aggregate-write-text c = search needs
-
-write-text-requires : tie.Need-write-text-requires
-write-text-requires c κs = search needs
-
-same-length : tie.Need-same-length
-same-length c = search needs
-
 returns : tie.Need-returns
 returns c =
     let start = c .before .before .before .before .before .before .before .before in
@@ -31,33 +22,6 @@ returns c =
     let place : w .result ≡ 0 + length alikeText = w .ensures .0 in
     let text : w .last .0 ≡ written (start .args .out .now) 0 alikeText = w .ensures .1 in
     (rw e place, (rw e text, omega arith))
-
-slice-aggregate-write-text-2 : tie.Need-slice-aggregate-write-text-2
-slice-aggregate-write-text-2 c = search needs
-
-write-text-requires-2 : tie.Need-write-text-requires-2
-write-text-requires-2 c κs = search needs
-
-write-number-requires : tie.Need-write-number-requires
-write-number-requires c κs = search needs
-
-slice-aggregate-write-text-3 : tie.Need-slice-aggregate-write-text-3
-slice-aggregate-write-text-3 c = search needs
-
-write-text-requires-3 : tie.Need-write-text-requires-3
-write-text-requires-3 c κs = search needs
-
-last-kind-requires : tie.Need-last-kind-requires
-last-kind-requires c κs = search needs
-
-write-line-requires : tie.Need-write-line-requires
-write-line-requires c κs = search needs
-
-write-line-requires-2 : tie.Need-write-line-requires-2
-write-line-requires-2 c κs = search needs
-
-same-length-2 : tie.Need-same-length-2
-same-length-2 c = search needs
 
 returns-2 : tie.Need-returns-2
 returns-2 c =
@@ -90,17 +54,17 @@ pub write-verdict-spec : {M : Type 1} → statement M
 write-verdict-spec =
     tie.close
     (tie.spec
-    slice-aggregate-write-text
-    write-text-requires
-    same-length
+    (λ c. search needs)
+    (λ c κs. search needs)
+    (λ c. search needs)
     returns
-    slice-aggregate-write-text-2
-    write-text-requires-2
-    write-number-requires
-    slice-aggregate-write-text-3
-    write-text-requires-3
-    last-kind-requires
-    write-line-requires
-    write-line-requires-2
-    same-length-2
+    (λ c. search needs)
+    (λ c κs. search needs)
+    (λ c κs. search needs)
+    (λ c. search needs)
+    (λ c κs. search needs)
+    (λ c κs. search needs)
+    (λ c κs. search needs)
+    (λ c κs. search needs)
+    (λ c. search needs)
     returns-2)

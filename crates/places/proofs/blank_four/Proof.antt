@@ -21,24 +21,6 @@ abbrev μ-loop : tie.MeasureT-loop
 loop-holds : tie.Need-loop-holds Inv-loop μ-loop
 loop-holds c = (search needs, fours-begin _ _ _ _)
 
-element-copy-out-zero : tie.Need-element-copy-out-zero Inv-loop μ-loop
-element-copy-out-zero c = search needs
-
-element-copy-out-zero-2 : tie.Need-element-copy-out-zero-2 Inv-loop μ-loop
-element-copy-out-zero-2 c = search needs
-
-element-copy-out-zero-3 : tie.Need-element-copy-out-zero-3 Inv-loop μ-loop
-element-copy-out-zero-3 c = search needs
-
-element-copy-out-zero-4 : tie.Need-element-copy-out-zero-4 Inv-loop μ-loop
-element-copy-out-zero-4 c = search needs
-
-add-i : tie.Need-add-i Inv-loop μ-loop
-add-i c = search needs
-
-loop-less : tie.Need-loop-less Inv-loop μ-loop
-loop-less c = search needs
-
 loop-again : tie.Need-loop-again Inv-loop μ-loop
 loop-again c =
     let o = c .before .before .before .before .before .loop in
@@ -66,11 +48,11 @@ blank-four-spec =
     Inv-loop
     μ-loop
     loop-holds
-    element-copy-out-zero
-    element-copy-out-zero-2
-    element-copy-out-zero-3
-    element-copy-out-zero-4
-    add-i
-    loop-less
+    (λ c. search needs)
+    (λ c. search needs)
+    (λ c. search needs)
+    (λ c. search needs)
+    (λ c. search needs)
+    (λ c. search needs)
     loop-again
     returns)

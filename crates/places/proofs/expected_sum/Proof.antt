@@ -6,9 +6,6 @@ use Rattle.places.specs.PlaceTests.{expectedSum}
 use Rattle.places.proofs.expected_sum.Statement.{statement}
 use Rattle.places.proofs.expected_sum.Tie as tie
 
-used-sum-requires : tie.Need-used-sum-requires
-used-sum-requires c κs = search needs
-
 returns : tie.Need-returns
 unfolding expectedSum
 returns c = rw (c .before .if1 .taken) (c .used-sum .ensures)
@@ -30,4 +27,4 @@ returns-4 c =
     rw (c .before .before .before .before .if1 .left, eq-eqb (t .root) 0 (omega arith), eq-eqb (t .height) 0 (omega arith))
 
 pub expected-sum-spec : {M : Type 1} → statement M
-expected-sum-spec = tie.close (tie.spec used-sum-requires returns returns-2 returns-3 returns-4)
+expected-sum-spec = tie.close (tie.spec (λ c κs. search needs) returns returns-2 returns-3 returns-4)

@@ -5,12 +5,6 @@ use borrow.Author.Needs.{needs}
 use Rattle.places.proofs.place_root.Statement.{statement}
 use Rattle.places.proofs.place_root.Tie as tie
 
-expected-sum-requires : tie.Need-expected-sum-requires
-expected-sum-requires c κs = search needs
-
-sum-of-requires : tie.Need-sum-of-requires
-sum-of-requires c κs = search needs
-
 returns : tie.Need-returns
 returns c =
     let d = c .before in
@@ -22,4 +16,4 @@ returns-2 c =
     rw (eq-eqb _ _ (sym (d .before .expected-sum .ensures) ∙ c .if1 .left ∙ d .sum-of .ensures))
 
 pub place-root-spec : {M : Type 1} → statement M
-place-root-spec = tie.close (tie.spec expected-sum-requires sum-of-requires returns returns-2)
+place-root-spec = tie.close (tie.spec (λ c κs. search needs) (λ c κs. search needs) returns returns-2)

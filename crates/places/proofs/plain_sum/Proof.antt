@@ -32,9 +32,6 @@ size-requires c κs = let g = good-shaped (c .before .args .table .now) (c .befo
 loop-holds : tie.Need-loop-holds Inv-loop μ-loop
 loop-holds c = ((search needs, search needs), (omega arith, refl))
 
-element-copy-out-x : tie.Need-element-copy-out-x Inv-loop μ-loop
-element-copy-out-x c = search needs
-
 returns : tie.Need-returns Inv-loop μ-loop
 unfolding plainScreen plainSum
 returns c =
@@ -61,20 +58,11 @@ returns-2 c =
     let f : eqb (modeOf tb x) 3 ≡ true = eq-eqb (modeOf tb x) 3 (omega arith) in
     rw (o .inv .1 .1 ∙ all-take-fail (plainScreen tb) (a .t2 .screens) (a .h) (omega arith) (o .i) 0 (omega arith) (rw (e, f)))
 
-cast-sum : tie.Need-cast-sum Inv-loop μ-loop
-cast-sum c = search needs
-
 add-sum : tie.Need-add-sum Inv-loop μ-loop
 add-sum c =
     let a = c .before .before .before .before .before .before .before .before .args in
     let x : Fits w8 (getD (a .t2 .screens) (c .before .before .before .before .before .loop .i) 0) = search needs in
     omega arith
-
-add-i : tie.Need-add-i Inv-loop μ-loop
-add-i c = search needs
-
-loop-less : tie.Need-loop-less Inv-loop μ-loop
-loop-less c = search needs
 
 loop-again : tie.Need-loop-again Inv-loop μ-loop
 unfolding plainScreen isSingleInstance
@@ -109,13 +97,13 @@ plain-sum-spec =
     μ-loop
     size-requires
     loop-holds
-    element-copy-out-x
+    (λ c. search needs)
     returns
     mode-requires
     returns-2
-    cast-sum
+    (λ c. search needs)
     add-sum
-    add-i
-    loop-less
+    (λ c. search needs)
+    (λ c. search needs)
     loop-again
     returns-3)

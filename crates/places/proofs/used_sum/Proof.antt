@@ -28,9 +28,6 @@ returns c =
     let l : length (a .t .screens) ≡ 32 = search needs in
     rw (refuted _ (task-fits (a .table .now) (a .t) l) (λ f. omega arith))
 
-cast-h : tie.Need-cast-h
-cast-h c = search needs
-
 returns-2 : tie.Need-returns-2
 unfolding usedSum
 returns-2 c =
@@ -50,9 +47,6 @@ mode-requires c κs =
     let s = c .before .before .before .before .before .before in
     let g = good-shaped (s .args .table .now) (s .pre) in
     omega arith
-
-plain-sum-requires : tie.Need-plain-sum-requires
-plain-sum-requires c κs = search needs
 
 returns-4 : tie.Need-returns-4
 unfolding isSingleInstance plainSum usedSum
@@ -80,9 +74,6 @@ returns-5 c =
     let x : isSingleInstance (a .table .now) (a .t .root) ≡ true = eq-eqb _ 3 (sym (c .before .before .mode .ensures) ∙ c .before .if4 .left) in
     rw (refuted _ (task-fits (a .table .now) (a .t) l) (λ f. let h = f .lone x .0 in omega arith))
 
-top-requires : tie.Need-top-requires
-top-requires c κs = search needs
-
 returns-6 : tie.Need-returns-6
 unfolding isSingleInstance usedSum
 returns-6 c =
@@ -91,9 +82,6 @@ returns-6 c =
     let x : isSingleInstance (a .table .now) (a .t .root) ≡ true = eq-eqb _ 3 (sym (c .before .before .before .before .mode .ensures) ∙ c .before .before .before .if4 .left) in
     let e = c .before .top .ensures ∙ view-screen (a .t) (omega arith) 0 0 (omega arith) in
     rw (refuted _ (task-fits (a .table .now) (a .t) l) (λ f. c .if6 .taken (e ∙ f .lone x .1)))
-
-cast-result : tie.Need-cast-result
-cast-result c = search needs
 
 returns-7 : tie.Need-returns-7
 unfolding isSingleInstance usedSum
@@ -121,14 +109,14 @@ used-sum-spec =
     (tie.spec
     size-requires
     returns
-    cast-h
+    (λ c. search needs)
     returns-2
     returns-3
     mode-requires
-    plain-sum-requires
+    (λ c κs. search needs)
     returns-4
     returns-5
-    top-requires
+    (λ c κs. search needs)
     returns-6
-    cast-result
+    (λ c. search needs)
     returns-7)

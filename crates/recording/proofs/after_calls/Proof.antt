@@ -19,54 +19,12 @@ loop-holds c =
     let a = start .args in
     reached-start (a .table .now) (a .calls .now) (a .begun) (start .pre .sound)
 
-sub-loop : tie.Need-sub-loop Inv-loop μ-loop
-sub-loop c = search needs
-
-shared-slice-read-kind : tie.Need-shared-slice-read-kind Inv-loop μ-loop
-shared-slice-read-kind c = search needs
-
-add-b : tie.Need-add-b Inv-loop μ-loop
-add-b c = search needs
-
-shared-slice-read-b : tie.Need-shared-slice-read-b Inv-loop μ-loop
-shared-slice-read-b c = search needs
-
-word-at-requires : tie.Need-word-at-requires Inv-loop μ-loop
-word-at-requires c κs = search needs
-
-add-from : tie.Need-add-from Inv-loop μ-loop
-add-from c = search needs
-
-image-length-requires : tie.Need-image-length-requires Inv-loop μ-loop
-image-length-requires c κs = search needs
-
-sub-if1 : tie.Need-sub-if1 Inv-loop μ-loop
-sub-if1 c = search needs
-
 returns : tie.Need-returns Inv-loop μ-loop
 returns c =
     let l = c .before .before .before .before .before .before .loop in
     let word = c .before .before .word-at in
     let n = c .before .image-length in
     reached-cut (l .inv) (omega arith) (word .result) (n .result) (word .ensures) (n .ensures) (omega arith)
-
-add-p : tie.Need-add-p Inv-loop μ-loop
-add-p c = search needs
-
-sub-after-record : tie.Need-sub-after-record Inv-loop μ-loop
-sub-after-record c = search needs
-
-part-after-record-start : tie.Need-part-after-record-start Inv-loop μ-loop
-part-after-record-start c = search needs
-
-part-after-record-end : tie.Need-part-after-record-end Inv-loop μ-loop
-part-after-record-end c = search needs
-
-after-record-requires : tie.Need-after-record-requires Inv-loop μ-loop
-after-record-requires c κs = search needs
-
-loop-less : tie.Need-loop-less Inv-loop μ-loop
-loop-less c = search needs
 
 loop-again : tie.Need-loop-again Inv-loop μ-loop
 loop-again c =
@@ -87,20 +45,20 @@ after-calls-spec =
     Inv-loop
     μ-loop
     loop-holds
-    sub-loop
-    shared-slice-read-kind
-    add-b
-    shared-slice-read-b
-    word-at-requires
-    add-from
-    image-length-requires
-    sub-if1
+    (λ c. search needs)
+    (λ c. search needs)
+    (λ c. search needs)
+    (λ c. search needs)
+    (λ c κs. search needs)
+    (λ c. search needs)
+    (λ c κs. search needs)
+    (λ c. search needs)
     returns
-    add-p
-    sub-after-record
-    part-after-record-start
-    part-after-record-end
-    after-record-requires
-    loop-less
+    (λ c. search needs)
+    (λ c. search needs)
+    (λ c. search needs)
+    (λ c. search needs)
+    (λ c κs. search needs)
+    (λ c. search needs)
     loop-again
     returns-2)

@@ -8,12 +8,6 @@ use Rattle.recording.proofs.Endings.{fresh-stored, replayed-reached, re
 use Rattle.recording.proofs.replay.Statement.{statement}
 use Rattle.recording.proofs.replay.Tie as tie
 
-fresh-requires : tie.Need-fresh-requires
-fresh-requires c κs = search needs
-
-refusal-requires : tie.Need-refusal-requires
-refusal-requires c κs = search needs
-
 returns : tie.Need-returns
 returns c =
     let a = c .before .before .before .before .before .args in
@@ -44,4 +38,4 @@ returns-2 c =
     (sym ok, (e, (λ z. called, (s, (stored-lifelong tb (c .after-calls .result) s, (every, promise3 tb))))))
 
 pub replay-spec : {M : Type 1} → statement M
-replay-spec = tie.close (tie.spec fresh-requires refusal-requires returns after-calls-requires returns-2)
+replay-spec = tie.close (tie.spec (λ c κs. search needs) (λ c κs. search needs) returns after-calls-requires returns-2)

@@ -7,18 +7,12 @@ use Rattle.recording.proofs.Endings.{stored-short, tells-images, tells-
 use Rattle.recording.proofs.same_ending.Statement.{statement}
 use Rattle.recording.proofs.same_ending.Tie as tie
 
-replay-requires : tie.Need-replay-requires
-replay-requires c κs = search needs
-
 returns : tie.Need-returns
 returns c =
     let a = c .before .before .before .before .before .before .args in
     let number = c .before .before .replay .ensures .0 in
     let bad : tableRefusal (a .table .now) ≡ 0 → ⊥ = λ z. c .if1 .taken (number ∙ z) in
     (number, (λ z. absurd (bad z), (λ z. absurd (bad z), (λ n. refl, promise3 (a .table .now)))))
-
-replay-requires-2 : tie.Need-replay-requires-2
-replay-requires-2 c κs = search needs
 
 same-image-requires : tie.Need-same-image-requires
 same-image-requires c κs =
@@ -43,4 +37,4 @@ returns-2 c =
     )
 
 pub same-ending-spec : {M : Type 1} → statement M
-same-ending-spec = tie.close (tie.spec replay-requires returns replay-requires-2 same-image-requires returns-2)
+same-ending-spec = tie.close (tie.spec (λ c κs. search needs) returns (λ c κs. search needs) same-image-requires returns-2)

@@ -8,18 +8,6 @@ use Rattle.session.specs.Stored.{view}
 use Rattle.recording.proofs.same_image.Statement.{statement}
 use Rattle.recording.proofs.same_image.Tie as tie
 
-slice-aggregate-write : tie.Need-slice-aggregate-write
-slice-aggregate-write c = search needs
-
-write-requires : tie.Need-write-requires
-write-requires c κs = search needs
-
-slice-aggregate-write-2 : tie.Need-slice-aggregate-write-2
-slice-aggregate-write-2 c = search needs
-
-write-requires-2 : tie.Need-write-requires-2
-write-requires-2 c κs = search needs
-
 array-share-prefix-a : tie.Need-array-share-prefix-a
 array-share-prefix-a c = search needs
 
@@ -31,9 +19,6 @@ array-share-prefix-b c = search needs
 
 slice-aggregate-same-2 : tie.Need-slice-aggregate-same-2
 slice-aggregate-same-2 c = sym (length-take-le _ _ (array-share-prefix-b (c .before)))
-
-same-requires : tie.Need-same-requires
-same-requires c κs = search needs
 
 returns : tie.Need-returns
 returns c =
@@ -50,13 +35,13 @@ pub same-image-spec : {M : Type 1} → statement M
 same-image-spec =
     tie.close
     (tie.spec
-    slice-aggregate-write
-    write-requires
-    slice-aggregate-write-2
-    write-requires-2
+    (λ c. search needs)
+    (λ c κs. search needs)
+    (λ c. search needs)
+    (λ c κs. search needs)
     array-share-prefix-a
     slice-aggregate-same
     array-share-prefix-b
     slice-aggregate-same-2
-    same-requires
+    (λ c κs. search needs)
     returns)

@@ -20,15 +20,6 @@ abbrev μ-loop : tie.MeasureT-loop
 loop-holds : tie.Need-loop-holds Inv-loop μ-loop
 loop-holds c = (search needs, refl)
 
-array-read-all : tie.Need-array-read-all Inv-loop μ-loop
-array-read-all c = search needs
-
-add-i : tie.Need-add-i Inv-loop μ-loop
-add-i c = search needs
-
-loop-less : tie.Need-loop-less Inv-loop μ-loop
-loop-less c = search needs
-
 loop-again : tie.Need-loop-again Inv-loop μ-loop
 unfolding isRoot
 loop-again c =
@@ -47,4 +38,4 @@ returns c =
     sym ((rw (all-end isRoot roots (o .i) (omega arith)) at (o .inv .1)) ∙ and-true (o .all))
 
 pub all-roots-spec : {M : Type 1} → statement M
-all-roots-spec = tie.close (tie.spec Inv-loop μ-loop loop-holds array-read-all add-i loop-less loop-again returns)
+all-roots-spec = tie.close (tie.spec Inv-loop μ-loop loop-holds (λ c. search needs) (λ c. search needs) (λ c. search needs) loop-again returns)

@@ -26,15 +26,6 @@ returns-2 c =
     let l : length (a .t2) ≡ 16 = search needs in
     rw (length-take-le (a .n) (a .t2) (omega arith), le-leb (a .m) (a .n) (omega arith), eq-eqb (a .m) 0 (omega arith))
 
-sub-i : tie.Need-sub-i
-sub-i c = search needs
-
-cast-i : tie.Need-cast-i
-cast-i c = search needs
-
-array-read-result : tie.Need-array-read-result
-array-read-result c = search needs
-
 main-screen-requires : tie.Need-main-screen-requires
 main-screen-requires c κs = let g = good-shaped (c .before .before .before .args .table .now) (c .before .before .before .pre .0) in omega arith
 
@@ -58,8 +49,8 @@ main-sound-spec =
     (tie.spec
     returns
     returns-2
-    sub-i
-    cast-i
-    array-read-result
+    (λ c. search needs)
+    (λ c. search needs)
+    (λ c. search needs)
     main-screen-requires
     returns-3)

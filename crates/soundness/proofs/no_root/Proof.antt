@@ -21,9 +21,6 @@ abbrev μ-loop : tie.MeasureT-loop
 loop-holds : tie.Need-loop-holds Inv-loop μ-loop
 loop-holds c = (search needs, refl)
 
-array-read-if1 : tie.Need-array-read-if1 Inv-loop μ-loop
-array-read-if1 c = search needs
-
 returns : tie.Need-returns Inv-loop μ-loop
 unfolding otherRoot
 returns c =
@@ -32,12 +29,6 @@ returns c =
     let o = c .before .before .loop in
     let e = ap not (eq-eqb (a .b) _ (c .if1 .taken)) in
     sym (o .inv .1 ∙ all-take-fail (otherRoot (a .b)) (a .t1) (a .n) (omega arith) (o .i) 0 (omega arith) e)
-
-add-i : tie.Need-add-i Inv-loop μ-loop
-add-i c = search needs
-
-loop-less : tie.Need-loop-less Inv-loop μ-loop
-loop-less c = search needs
 
 loop-again : tie.Need-loop-again Inv-loop μ-loop
 unfolding otherRoot
@@ -62,9 +53,9 @@ no-root-spec =
     Inv-loop
     μ-loop
     loop-holds
-    array-read-if1
+    (λ c. search needs)
     returns
-    add-i
-    loop-less
+    (λ c. search needs)
+    (λ c. search needs)
     loop-again
     returns-2)

@@ -25,12 +25,6 @@ abbrev μ-loop : tie.MeasureT-loop
 loop-holds : tie.Need-loop-holds Inv-loop μ-loop
 loop-holds c = (search needs, refl)
 
-array-read-b : tie.Need-array-read-b Inv-loop μ-loop
-array-read-b c = search needs
-
-add-i : tie.Need-add-i Inv-loop μ-loop
-add-i c = search needs
-
 mode-requires : tie.Need-mode-requires Inv-loop μ-loop
 unfolding rootsKnown
 mode-requires c κs =
@@ -42,9 +36,6 @@ mode-requires c κs =
     let k : getD (a .t2) i 0 < sizeOf tb = ltb-true _ _
     (all-take-at (λ x. ltb x (sizeOf tb)) (a .t2) (a .n) (omega arith) i 0 (omega arith) (c .before .before .before .pre .1 .1)) in
     omega arith
-
-no-root-requires : tie.Need-no-root-requires Inv-loop μ-loop
-no-root-requires c κs = search needs
 
 returns : tie.Need-returns Inv-loop μ-loop
 unfolding rootsOnce isSingleTask isSingleInstance
@@ -58,9 +49,6 @@ returns c =
     ∙ said-no (c .before .no-root .ensures) (c .if2 .taken) in
     sym (o .inv .1 ∙ pairwise-take-step (mayBeRoots tb) (a .t2) (a .n) (omega arith) (o .i) 0 (omega arith) ∙ rw e)
 
-loop-less : tie.Need-loop-less Inv-loop μ-loop
-loop-less c = search needs
-
 loop-again : tie.Need-loop-again Inv-loop μ-loop
 unfolding rootsOnce isSingleTask isSingleInstance
 loop-again c =
@@ -72,9 +60,6 @@ loop-again c =
     let e = differ-once tb (getD (a .t2) (o .i) 0) (drop (o .i + 1) (take (a .n) (a .t2))) once
     ∙ said-yes (c .before .no-root .ensures) (c .if2 .left) in
     (omega arith, o .inv .1 ∙ pairwise-take-step (mayBeRoots tb) (a .t2) (a .n) (omega arith) (o .i) 0 (omega arith) ∙ rw e)
-
-loop-less-2 : tie.Need-loop-less-2 Inv-loop μ-loop
-loop-less-2 c = search needs
 
 loop-again-2 : tie.Need-loop-again-2 Inv-loop μ-loop
 unfolding rootsOnce isSingleTask isSingleInstance
@@ -101,13 +86,13 @@ roots-differ-spec =
     Inv-loop
     μ-loop
     loop-holds
-    array-read-b
-    add-i
+    (λ c. search needs)
+    (λ c. search needs)
     mode-requires
-    no-root-requires
+    (λ c κs. search needs)
     returns
-    loop-less
+    (λ c. search needs)
     loop-again
-    loop-less-2
+    (λ c. search needs)
     loop-again-2
     returns-2)
