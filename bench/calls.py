@@ -5,7 +5,8 @@ plain Rust by value, with the library's storage.
 Usage: bench/calls.py [COUNT]     (calls counted by callgrind for each line; 640 if left out)
 
 Both are built first (for release). Prints nanoseconds a call (second/lent's calls_bench, run several times, since runs
-differ: of each run the best turn, of the runs the middle one, with the least and the most), then instructions a call by valgrind's callgrind.
+differ: of each run the best turn, of the runs the middle one, with the least and the most), then instructions a call by
+valgrind's callgrind, and how many calls of memcpy and memmove the library makes for it.
 """
 import os
 import re
@@ -46,14 +47,16 @@ def nanoseconds():
     return best, copies
 
 
-def instructions(who, call, size, count):
-    """Instructions a call, counted inside of the measured function alone."""
+def counted(who, call, size, count):
+    """Instructions a call, counted inside of the measured function alone, and calls of memcpy and memmove in it."""
     with tempfile.NamedTemporaryFile() as out:
         told = subprocess.run(
-            ["valgrind", "--tool=callgrind", f"--toggle-collect=*measured_{who}*", f"--callgrind-out-file={out.name}",
-             BENCH, "--once", who, call, size, str(count)],
+            ["valgrind", "--tool=callgrind", "--compress-strings=no", f"--toggle-collect=*measured_{who}*",
+             f"--callgrind-out-file={out.name}", BENCH, "--once", who, call, size, str(count)],
             stdout=subprocess.DEVNULL, stderr=subprocess.PIPE, text=True, check=True)
-    return int(next(line for line in told.stderr.splitlines() if "Collected" in line).split(":")[1]) / count
+        copies = re.findall(r"^cfn=.*mem(?:cpy|move).*\ncalls=(\d+)", open(out.name).read(), re.M)
+    instructions = int(next(line for line in told.stderr.splitlines() if "Collected" in line).split(":")[1])
+    return instructions / count, sum(map(int, copies)) / count
 
 
 def main():
@@ -69,11 +72,11 @@ def main():
         print(f"{call:<15} {size:<8} {told[0]:>16} {told[1]:>16} {ratio:>6.2f} {told[2]:>16}".rstrip(), flush=True)
     print(f"copying a session of 546 bytes: {statistics.median(copies):.1f}")
     print(f"instructions a call, of {count} calls")
-    print("call            size         lent   second  ratio")
+    print("call            size         lent   second  ratio  memcpy, lent")
     for call in CALLS:
         for size in SIZES:
-            lent, second = (instructions(who, call, size, count) for who in ("lent", "second"))
-            print(f"{call:<15} {size:<8} {lent:>8.0f} {second:>8.0f} {lent / second:>6.2f}", flush=True)
+            (lent, copies), (second, _) = (counted(who, call, size, count) for who in ("lent", "second"))
+            print(f"{call:<15} {size:<8} {lent:>8.0f} {second:>8.0f} {lent / second:>6.2f} {copies:>13.1f}", flush=True)
 
 
 main()
