@@ -2,6 +2,7 @@
 
 ghost use Prim.Native.Nat.{_≤_};
 ghost use mathlib.Core.Path.{_≡_};
+ghost use Rattle.model.specs.Session.{mostHeight};
 ghost use Rattle.model.specs.Answers.{lookAt, refused as refusedAnswer};
 ghost use Rattle.session.specs.Stored.{view};
 ghost use Rattle.answer.specs.Seen.{Seen, answerOf};
@@ -11,7 +12,7 @@ use session::Task;
 
 // What a look shows where n tasks stand, t is the front one, and the main place is so: zeros where none stands.
 pub fn of_front(t: Task, n: u8, main: u8) -> Answer
-    requires { ⌜ (1 ≤ n → (1 ≤ t .height) × (t .height ≤ 32)) ⌝ }
+    requires { ⌜ (1 ≤ n → (1 ≤ t .height) × (t .height ≤ mostHeight)) ⌝ }
     ensures { λ r. ⌜ r ≡ answerOf t n main ⌝ }
 {
     if n == 0 {

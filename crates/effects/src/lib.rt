@@ -5,7 +5,7 @@ ghost use mathlib.Core.Path.{_≡_};
 ghost use mathlib.Core.Bool.{true};
 ghost use mathlib.Core.List.{[]};
 ghost use Rattle.model.specs.Lists.{further};
-ghost use Rattle.model.specs.Session.{stack};
+ghost use Rattle.model.specs.Session.{stack, mostTasks, mostHeight};
 ghost use Rattle.model.specs.declared.Change.{Change};
 ghost use Rattle.model.specs.declared.Effect.{Effect};
 ghost use Rattle.model.specs.Effects.{mainMoved};
@@ -38,7 +38,7 @@ fn main_moved(place: u8, main: u8) -> u8
 
 // The main place after one more task was put in front.
 fn main_further(main: u8) -> u8
-    requires { ⌜ main ≤ 16 ⌝ }
+    requires { ⌜ main ≤ mostTasks ⌝ }
     ensures { λ r. ⌜ r ≡ further main ⌝ }
 {
     if main == 0 {
@@ -78,7 +78,7 @@ fn lowered(t: Task, h: u8) -> Task
 
 // The screen behind m others is gone, the next k come down by one, and b stands where the last of them stood.
 pub fn closed_up(t: Task, m: usize, k: usize, b: u8) -> Task
-    requires { ⌜ m + k < 32 ⌝ }
+    requires { ⌜ m + k < mostHeight ⌝ }
     ensures { λ r. ⌜ r ≡ withScreens t (closedUp m k b (t .screens)) ⌝ }
 {
     let mut out = t;
@@ -187,7 +187,7 @@ pub fn front_after(t: Task, b: u8, effect: Effect) -> Task
 
 // The number of tasks after an effect.
 pub fn count_after(effect: Effect, n: u8) -> u8
-    requires { ⌜ n ≤ 16 ⌝ }
+    requires { ⌜ n ≤ mostTasks ⌝ }
     ensures { λ r. ⌜ r ≡ countAfter effect n ⌝ }
 {
     match effect {
@@ -199,7 +199,7 @@ pub fn count_after(effect: Effect, n: u8) -> u8
 
 // The main place after an effect.
 pub fn main_after(effect: Effect, place: u8, main: u8) -> u8
-    requires { ⌜ (effect ≡ Effect.New → main ≤ 16) ⌝ }
+    requires { ⌜ (effect ≡ Effect.New → main ≤ mostTasks) ⌝ }
     ensures { λ r. ⌜ r ≡ mainAfter effect place main ⌝ }
 {
     match effect {

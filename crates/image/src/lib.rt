@@ -6,6 +6,7 @@ ghost use mathlib.Core.Path.{_≡_};
 ghost use mathlib.Core.Bool.{true};
 ghost use mathlib.Core.List.{[], _∷_, _++_};
 ghost use lib.ListN.{length, drop};
+ghost use Rattle.model.specs.Session.{mostTasks, mostHeight};
 ghost use Rattle.model.specs.Image.{bodyOf, trailer, image, imageShaped, readTasks};
 ghost use Rattle.model.specs.Written.{written};
 ghost use Rattle.session.specs.Stored.{view, viewTask, storageBlank, holdTask};
@@ -42,10 +43,10 @@ pub fn length(s: Session) -> usize
 
 // Writes the screens of a task, top first. Yields the place after them.
 fn write_screens(out: &mut [u8], at: usize, t: Task) -> usize
-    requires { ⌜ (t .height ≤ 32) × (at + t .height ≤ length (now out)) ⌝ }
+    requires { ⌜ (t .height ≤ mostHeight) × (at + t .height ≤ length (now out)) ⌝ }
     ensures place { λ r. ⌜ r ≡ at + length (viewTask t .screens) ⌝ }
     ensures bytes { λ r. ⌜ now (out .exit) ≡ written (now (out .entry)) at (viewTask t .screens) ⌝ }
-    ensures bound { λ r. ⌜ r ≤ at + 32 ⌝ }
+    ensures bound { λ r. ⌜ r ≤ at + mostHeight ⌝ }
 {
     let h = t.height as usize;
     let mut i = h;
@@ -59,7 +60,7 @@ fn write_screens(out: &mut [u8], at: usize, t: Task) -> usize
 
 // Writes a task: its root, its height, its screens. Yields the place after them.
 fn write_task(out: &mut [u8], at: usize, t: Task) -> usize
-    requires { ⌜ (t .height ≤ 32) × (at + 2 + t .height ≤ length (now out)) ⌝ }
+    requires { ⌜ (t .height ≤ mostHeight) × (at + 2 + t .height ≤ length (now out)) ⌝ }
     ensures place { λ r. ⌜ r ≡ at + length (bodyOf (viewTask t ∷ [])) ⌝ }
     ensures bytes { λ r. ⌜ now (out .exit) ≡ written (now (out .entry)) at (bodyOf (viewTask t ∷ [])) ⌝ }
     ensures bound { λ r. ⌜ r ≤ at + 34 ⌝ }
@@ -135,7 +136,7 @@ fn unreadable() -> Contents
 // The task whose root stands at a place, its height and its screens behind it. The top screen comes first there, and last
 // in storage.
 fn read_task(body: &[u8], at: usize, height: u8) -> Task
-    requires { ⌜ (height ≤ 32) × (at + 2 + height ≤ length (now body)) ⌝ }
+    requires { ⌜ (height ≤ mostHeight) × (at + 2 + height ≤ length (now body)) ⌝ }
     ensures { λ r. ⌜ r ≡ holdTask (taskIn (now (body .entry)) at height) ⌝ }
 {
     let h = height as usize;
@@ -155,7 +156,7 @@ fn read_task(body: &[u8], at: usize, height: u8) -> Task
 
 // The session that the body is of: exactly n tasks of height 1 to 32, front first.
 fn read_tasks(body: &[u8], n: u8, main: u8) -> Contents
-    requires { ⌜ n ≤ 16 ⌝ }
+    requires { ⌜ n ≤ mostTasks ⌝ }
     ensures { λ r. ⌜ r ≡ contentsOf (readTasks n (now (body .entry))) main ⌝ }
 {
     let mut s = Session::fresh();

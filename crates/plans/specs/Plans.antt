@@ -5,7 +5,7 @@ use mathlib.Core.Bool.{Bool, true, false, not, _&&_}
 use lib.Dec.{eqb, ltb}
 use Rattle.model.specs.declared.Mark.{Mark}
 use Rattle.model.specs.Lists.{if_then_else_, omit}
-use Rattle.model.specs.Session.{stack}
+use Rattle.model.specs.Session.{stack, mostTasks}
 use Rattle.model.specs.Effects.{mainWithout}
 use Rattle.session.specs.declared.Task.{Task}
 use Rattle.session.specs.declared.Session.{Session}
@@ -15,15 +15,15 @@ use Rattle.plans.specs.declared.Plan.{Plan}
 -- ---- a refused call: nothing changes
 
 abbrev pub stillOf : Session → ℕ → Plan
-stillOf s k = record { front = taskBehind s 0; main = s .main; shift = 0; n = s .n; gone = 16; pops = false; refusal = k }
+stillOf s k = record { front = taskBehind s 0; main = s .main; shift = 0; n = s .n; gone = mostTasks; pops = false; refusal = k }
 
 -- ---- the three plans: no task goes, the second one pops, the task behind g others goes
 
 abbrev pub keeps : Task → ℕ → ℕ → ℕ → Plan
-keeps t k n m = record { front = t; main = m; shift = k; n = n; gone = 16; pops = false; refusal = 0 }
+keeps t k n m = record { front = t; main = m; shift = k; n = n; gone = mostTasks; pops = false; refusal = 0 }
 
 abbrev pub pops : Task → ℕ → ℕ → ℕ → Plan
-pops t k n m = record { front = t; main = m; shift = k; n = n; gone = 16; pops = true; refusal = 0 }
+pops t k n m = record { front = t; main = m; shift = k; n = n; gone = mostTasks; pops = true; refusal = 0 }
 
 abbrev pub loses : ℕ → Task → ℕ → ℕ → ℕ → Plan
 loses g t k n m = record { front = t; main = mainWithout (suc g) m; shift = k; n = n - 1; gone = g; pops = false; refusal = 0 }
@@ -45,22 +45,22 @@ closes (Mark.Stands (suc j) i) one false t k n m = pops t k n m
 
 -- the same, field by field as code makes it; g is the field gone
 abbrev pub goneBy : Mark → Bool → Bool → ℕ
-goneBy Mark.Gone one one′ = 16
-goneBy (Mark.Stands k i) one one′ = if eqb k 0 then (if one then 0 else 16) else (if one′ then 1 else 16)
+goneBy Mark.Gone one one′ = mostTasks
+goneBy (Mark.Stands k i) one one′ = if eqb k 0 then (if one then 0 else mostTasks) else (if one′ then 1 else mostTasks)
 
 abbrev pub frontBy : Mark → ℕ → Task → Task
 frontBy Mark.Gone g t = t
-frontBy (Mark.Stands k i) g t = if eqb k 0 && eqb g 16 then without i t else t
+frontBy (Mark.Stands k i) g t = if eqb k 0 && eqb g mostTasks then without i t else t
 
 abbrev pub popsBy : Mark → ℕ → Bool
 popsBy Mark.Gone g = false
-popsBy (Mark.Stands k i) g = not (eqb k 0) && eqb g 16
+popsBy (Mark.Stands k i) g = not (eqb k 0) && eqb g mostTasks
 
 abbrev pub countBy : ℕ → ℕ → ℕ
-countBy g n = if ltb g 16 then n - 1 else n
+countBy g n = if ltb g mostTasks then n - 1 else n
 
 abbrev pub mainBy : ℕ → ℕ → ℕ
-mainBy g m = if ltb g 16 then mainWithout (suc g) m else m
+mainBy g m = if ltb g mostTasks then mainWithout (suc g) m else m
 
 -- what closing it relies on: it stands in the front task, where it is marked there
 abbrev pub Opens : Mark → Task → Type 0

@@ -12,7 +12,7 @@ use model::Mark;
 use session::Session;
 use session::Task;
 
-// The front task after the call, how many tasks go one place back, which task goes then (16 or more: none), whether the
+// The front task after the call, how many tasks go one place back, which task goes then, if one does, whether the
 // task behind the front one loses its top screen, and the numbers. A refused call changes nothing.
 pub struct Plan {
     pub front: Task,
@@ -23,6 +23,11 @@ pub struct Plan {
     pub pops: bool,
     pub refusal: u8,
 }
+
+// What stands for no task among the indices of tasks, and the last of these.
+const NO_TASK: u8 = Session::TASKS as u8;
+
+const LAST: usize = Session::TASKS - 1;
 
 // ---- put
 
@@ -45,18 +50,18 @@ pub fn put(s: Session, plan: Plan) -> Session
         out.tasks[1] = x.pop();
     }
     let mut j = plan.gone as usize;
-    while j < 15 {
+    while j < LAST {
         let x = out.tasks[j + 1];
         out.tasks[j] = x;
         j += 1;
     }
-    if plan.gone < 16 {
+    if plan.gone < NO_TASK {
         let blank = Task {
             root: 0,
             height: 0,
             screens: [0; Session::SCREENS],
         };
-        out.tasks[15] = blank;
+        out.tasks[LAST] = blank;
     }
     out
 }
@@ -65,7 +70,7 @@ pub fn put(s: Session, plan: Plan) -> Session
 pub fn front_alone(plan: Plan) -> bool
     ensures { λ r. ⌜ r ≡ frontAlone plan ⌝ }
 {
-    (plan.shift == 0) & (plan.gone >= 16) & !plan.pops
+    (plan.shift == 0) & (plan.gone >= NO_TASK) & !plan.pops
 }
 
 // ---- the answer
@@ -97,29 +102,29 @@ pub fn still(s: Session, number: u8) -> Plan
         main: s.main,
         shift: 0,
         n: s.n,
-        gone: 16,
+        gone: NO_TASK,
         pops: false,
         refusal: number,
     }
 }
 
-// The task that goes since the marked screen is its only one: 0 the front one, 1 the one behind it, 16 none.
+// The task that goes since the marked screen is its only one: 0 the front one, 1 the one behind it, or none.
 fn gone_by(mark: Mark, front: u8, second: u8) -> u8
     ensures { λ r. ⌜ r ≡ goneBy mark (leb front 1) (leb second 1) ⌝ }
 {
     match mark {
-        Mark::Gone => 16,
+        Mark::Gone => NO_TASK,
         Mark::Stands(k, _) => {
             if k == 0 {
                 if front <= 1 {
                     return 0;
                 }
-                return 16;
+                return NO_TASK;
             }
             if second <= 1 {
                 return 1;
             }
-            16
+            NO_TASK
         }
     }
 }
@@ -132,7 +137,7 @@ fn front_by(mark: Mark, gone: u8, t: Task) -> Task
     match mark {
         Mark::Gone => t,
         Mark::Stands(k, i) => {
-            if (k == 0) & (gone == 16) {
+            if (k == 0) & (gone == NO_TASK) {
                 return closing::without_screen(t, i);
             }
             t
@@ -146,7 +151,7 @@ fn pops_by(mark: Mark, gone: u8) -> bool
 {
     match mark {
         Mark::Gone => false,
-        Mark::Stands(k, _) => (k != 0) & (gone == 16),
+        Mark::Stands(k, _) => (k != 0) & (gone == NO_TASK),
     }
 }
 
@@ -154,7 +159,7 @@ fn count_by(gone: u8, n: u8) -> u8
     requires { ⌜ 1 ≤ n ⌝ }
     ensures { λ r. ⌜ r ≡ countBy gone n ⌝ }
 {
-    if gone < 16 {
+    if gone < NO_TASK {
         return n - 1;
     }
     n
@@ -163,7 +168,7 @@ fn count_by(gone: u8, n: u8) -> u8
 fn main_by(gone: u8, main: u8) -> u8
     ensures { λ r. ⌜ r ≡ mainBy gone main ⌝ }
 {
-    if gone < 16 {
+    if gone < NO_TASK {
         return closing::main_without(gone + 1, main);
     }
     main

@@ -90,7 +90,7 @@ pub fn effect_of(rule: Rule) -> Effect
 
 // b stands in the task.
 fn holds_screen(t: Task, b: u8) -> bool
-    requires { ⌜ t .height ≤ 32 ⌝ }
+    requires { ⌜ t .height ≤ mostHeight ⌝ }
     ensures { λ r. ⌜ r ≡ holds b (viewTask t .screens) ⌝ }
 {
     search::topmost(t, b) != 0
@@ -98,7 +98,7 @@ fn holds_screen(t: Task, b: u8) -> bool
 
 // The same, and it is looked for only where that is wanted.
 fn holds_where(wanted: bool, t: Task, b: u8) -> bool
-    requires { ⌜ t .height ≤ 32 ⌝ }
+    requires { ⌜ t .height ≤ mostHeight ⌝ }
     ensures { λ r. ⌜ r ≡ (wanted && holds b (viewTask t .screens)) ⌝ }
 {
     if wanted {

@@ -4,6 +4,7 @@ ghost use Prim.Native.Nat.{_≤_};
 ghost use mathlib.Core.Path.{_≡_};
 ghost use lib.Dec.{eqb};
 ghost use lib.ListN.{take};
+ghost use Rattle.model.specs.Session.{mostTasks, mostHeight};
 ghost use Rattle.model.specs.Lists.{find};
 ghost use Rattle.model.specs.Search.{seekRoot, seek as seekTask};
 ghost use Rattle.session.specs.Stored.{view, viewTask, rootsOf};
@@ -29,7 +30,7 @@ pub fn roots_of(s: Session) -> [u8; Session::TASKS]
 
 // By root: the place of the first of n roots that is b, or 0.
 pub fn by_root(roots: [u8; Session::TASKS], n: u8, b: u8) -> u8
-    requires { ⌜ n ≤ 16 ⌝ }
+    requires { ⌜ n ≤ mostTasks ⌝ }
     ensures { λ r. ⌜ r ≡ find (λ x. eqb x b) (take n roots) ⌝ }
 {
     let mut i: u8 = 0;
@@ -67,7 +68,7 @@ pub fn by_affinity(table: &[u8], roots: [u8; Session::TASKS], n: u8, b: u8) -> u
 
 // The task sought by root alone.
 pub fn seek_root(s: Session, b: u8) -> Found
-    requires { ⌜ s .n ≤ 16 ⌝ }
+    requires { ⌜ s .n ≤ mostTasks ⌝ }
     ensures { λ r. ⌜ r ≡ seekRoot b (view s .tasks) ⌝ }
 {
     let place = by_root(roots_of(s), s.n, b);
@@ -96,7 +97,7 @@ pub fn seek(table: &[u8], s: Session, b: u8) -> Found
 
 // The place, from the top, of the topmost b in a task, or 0.
 pub fn topmost(t: Task, b: u8) -> u8
-    requires { ⌜ t .height ≤ 32 ⌝ }
+    requires { ⌜ t .height ≤ mostHeight ⌝ }
     ensures { λ r. ⌜ r ≡ find (eqb b) (viewTask t .screens) ⌝ }
 {
     let mut i: u8 = 0;

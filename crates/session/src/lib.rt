@@ -2,7 +2,7 @@
 
 ghost use Prim.Native.Nat.{_<_, _≤_};
 ghost use mathlib.Core.Path.{_≡_};
-ghost use Rattle.model.specs.Session.{top as topOf};
+ghost use Rattle.model.specs.Session.{top as topOf, mostHeight};
 ghost use Rattle.session.specs.Stored.{freshSession, viewTask, pushed, popped};
 
 // A task: the screen that created it, and its screens, bottom first.
@@ -47,7 +47,7 @@ impl Session {
 impl Task {
     // The screen on top.
     pub fn top(self) -> u8
-        requires { ⌜ (0 < self .height) × (self .height ≤ 32) ⌝ }
+        requires { ⌜ (0 < self .height) × (self .height ≤ mostHeight) ⌝ }
         ensures { λ r. ⌜ r ≡ topOf (viewTask self) ⌝ }
     {
         let h = (self.height - 1) as usize;
@@ -56,7 +56,7 @@ impl Task {
 
     // The task with one screen more on top.
     pub fn push(self, b: u8) -> Task
-        requires { ⌜ self .height < 32 ⌝ }
+        requires { ⌜ self .height < mostHeight ⌝ }
         ensures { λ r. ⌜ r ≡ pushed self b ⌝ }
     {
         let h = self.height as usize;
@@ -68,7 +68,7 @@ impl Task {
 
     // The task without its top screen.
     pub fn pop(self) -> Task
-        requires { ⌜ (0 < self .height) × (self .height ≤ 32) ⌝ }
+        requires { ⌜ (0 < self .height) × (self .height ≤ mostHeight) ⌝ }
         ensures { λ r. ⌜ r ≡ popped self ⌝ }
     {
         let h = (self.height - 1) as usize;
