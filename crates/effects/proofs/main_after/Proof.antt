@@ -12,6 +12,21 @@ enum-told c = search needs
 main-further-requires : tie.Need-main-further-requires
 main-further-requires c κs = c .before .before .pre (c .enum-told .given .1)
 
+enum-told-2 : tie.Need-enum-told-2
+enum-told-2 c = search needs
+
+enum-told-3 : tie.Need-enum-told-3
+enum-told-3 c = search needs
+
+main-moved-requires : tie.Need-main-moved-requires
+main-moved-requires c κs = search needs
+
+returns : tie.Need-returns
+returns c = search needs
+
+returns-2 : tie.Need-returns-2
+returns-2 c = search needs
+
 returns-3 : tie.Need-returns-3
 returns-3 c =
     let a = c .before .before .before .args in
@@ -23,9 +38,9 @@ main-after-spec =
     (tie.spec
     enum-told
     main-further-requires
-    (λ c. search needs)
-    (λ c. search needs)
-    (λ c κs. search needs)
-    (λ c. search needs)
-    (λ c. search needs)
+    enum-told-2
+    enum-told-3
+    main-moved-requires
+    returns
+    returns-2
     returns-3)
