@@ -9,9 +9,21 @@ ghost use Rattle.calls.specs.StoredCalls.{reply, callStored};
 ghost use Rattle.image_calls.specs.Restores.{AcceptsImages, BringsBack, SavesAgain};
 ghost use Rattle.image_calls.specs.StoredSaves.{saved, saveStored, BroughtBack, NoOtherHas};
 ghost use Rattle.navigator.specs.Promise3.{KeepsPromise3};
+ghost use Rattle.lent.specs.Abi.{abiNumber};
 use image_calls::SaveReply;
 use model::Answer;
 use session::Session;
+
+// The number of this interface; bindings/abi has its structs and signatures.
+const ABI: u32 = 1;
+
+// The library's own number, for callers who compare it with that of their header.
+#[no_mangle]
+pub extern "C" fn milchkompass_abi() -> u32
+    ensures { λ r. ⌜ r ≡ abiNumber ⌝ }
+{
+    ABI
+}
 
 // Look: the answer of the session as it is, which stays.
 #[no_mangle]
