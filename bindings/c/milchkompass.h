@@ -1,7 +1,7 @@
-/* The proved navigator for programs in C: link liblent.a (`rt staticlib lent`).
+/* The proved navigator for programs in C: link libmilchkompass.a (`bindings/library`).
  *
  * A table is bytes: N (1 to 64), the main screen's number, then for screens 0 to N - 1 a launch mode and an affinity.
- * A session belongs to its caller, who lends it to each call; a session whose bytes are all 0 is fresh.
+ * A session belongs to its caller, who lends it to each call, and begins as MILCHKOMPASS_SESSION_FRESH.
  *
  * For all arguments: an accepted call answers 0 and what is then in front; a refused call answers the number of the
  * first check that fails and zeros, and session and buffers keep every byte. The checks go in the order 1, 2, 20, then
@@ -9,7 +9,11 @@
  *
  * A pointer with a length is to that many bytes, and no pointer is null, even with length 0. What a call may write, a
  * session or a buffer, shares no byte with its other arguments. The library keeps no pointer, allocates nothing and has
- * no state: calls on different sessions may run at the same time. */
+ * no state.
+ *
+ * Threads may make calls at the same time, and may share a table and an image, which are only read. A session that is
+ * lent by pointer is written in every call, in look too: look stores the session that it read, so its pointer is not
+ * const. During the call no other thread reads or writes that session. Save takes a copy. */
 #ifndef MILCHKOMPASS_H
 #define MILCHKOMPASS_H
 
@@ -20,6 +24,12 @@
 extern "C" {
 #endif
 
+/* The number of this interface, which is raised with each change of a struct or of a signature. */
+#define MILCHKOMPASS_ABI 1
+
+/* The library's own number. Where it is not MILCHKOMPASS_ABI, header and library do not fit: make no other call. */
+uint32_t milchkompass_abi(void);
+
 /* The limits of a session: its tasks, and the screens of a task. */
 #define MILCHKOMPASS_TASKS 16
 #define MILCHKOMPASS_SCREENS 32
@@ -28,50 +38,57 @@ extern "C" {
 #define MILCHKOMPASS_IMAGE_MAX 550
 
 /* Launch modes, under the names and numbers of Android's ActivityInfo. The first is the manifest's "standard". */
-#define LAUNCH_MULTIPLE 0
-#define LAUNCH_SINGLE_TOP 1
-#define LAUNCH_SINGLE_TASK 2
-#define LAUNCH_SINGLE_INSTANCE 3
+#define MILCHKOMPASS_LAUNCH_MULTIPLE 0
+#define MILCHKOMPASS_LAUNCH_SINGLE_TOP 1
+#define MILCHKOMPASS_LAUNCH_SINGLE_TASK 2
+#define MILCHKOMPASS_LAUNCH_SINGLE_INSTANCE 3
 
 /* The six flags of a start, under the names and numbers of Android's Intent. Any of them may be set together. */
-#define FLAG_ACTIVITY_NEW_TASK UINT32_C(0x10000000)
-#define FLAG_ACTIVITY_SINGLE_TOP UINT32_C(0x20000000)
-#define FLAG_ACTIVITY_MULTIPLE_TASK UINT32_C(0x08000000)
-#define FLAG_ACTIVITY_CLEAR_TOP UINT32_C(0x04000000)
-#define FLAG_ACTIVITY_REORDER_TO_FRONT UINT32_C(0x00020000)
-#define FLAG_ACTIVITY_CLEAR_TASK UINT32_C(0x00008000)
+#define MILCHKOMPASS_FLAG_ACTIVITY_NEW_TASK UINT32_C(0x10000000)
+#define MILCHKOMPASS_FLAG_ACTIVITY_SINGLE_TOP UINT32_C(0x20000000)
+#define MILCHKOMPASS_FLAG_ACTIVITY_MULTIPLE_TASK UINT32_C(0x08000000)
+#define MILCHKOMPASS_FLAG_ACTIVITY_CLEAR_TOP UINT32_C(0x04000000)
+#define MILCHKOMPASS_FLAG_ACTIVITY_REORDER_TO_FRONT UINT32_C(0x00020000)
+#define MILCHKOMPASS_FLAG_ACTIVITY_CLEAR_TASK UINT32_C(0x00008000)
 
-/* The refusals. 9 is the player's alone. */
+/* The refusals; milchkompass_refusal_text says what each means. 9 is the player's alone. */
 enum milchkompass_refusal {
-    /* the call is accepted */
     MILCHKOMPASS_ACCEPTED = 0,
-    /* table length wrong, or N not 1 to 64 */
     MILCHKOMPASS_TABLE_LENGTH = 1,
-    /* main screen not below N, or a mode above 3 */
     MILCHKOMPASS_TABLE_CONTENT = 2,
-    /* start: B not below N */
     MILCHKOMPASS_NO_SUCH_SCREEN = 3,
-    /* start: a bit outside the six */
     MILCHKOMPASS_OTHER_FLAG = 4,
-    /* restore: under 6 bytes, last two bytes not hex 08 42, or length not L + 6 */
     MILCHKOMPASS_IMAGE_TRAILER = 5,
-    /* restore: n above 16, or the L bytes are not exactly n tasks of height 1 to 32 */
     MILCHKOMPASS_IMAGE_TASKS = 6,
-    /* restore: the session read from the image is not sound under the table */
     MILCHKOMPASS_IMAGE_UNSOUND = 7,
-    /* save: buffer shorter than the image */
     MILCHKOMPASS_BUFFER_SHORT = 8,
-    /* the session is not sound under the table */
     MILCHKOMPASS_SESSION_UNSOUND = 20,
-    /* start, Back: empty */
     MILCHKOMPASS_EMPTY = 21,
-    /* launch: not empty */
     MILCHKOMPASS_NOT_EMPTY = 22,
-    /* a new task is needed and n = 16 */
     MILCHKOMPASS_TASKS_FULL = 23,
-    /* a push onto a task of 32 (not after empty) */
     MILCHKOMPASS_TASK_FULL = 24
 };
+
+/* The condition of a refusal, as the rules say it. */
+static inline const char *milchkompass_refusal_text(uint8_t refusal) {
+    switch (refusal) {
+    case MILCHKOMPASS_ACCEPTED: return "the call is accepted";
+    case MILCHKOMPASS_TABLE_LENGTH: return "table length wrong, or N not 1 to 64";
+    case MILCHKOMPASS_TABLE_CONTENT: return "main screen not below N, or a mode above 3";
+    case MILCHKOMPASS_NO_SUCH_SCREEN: return "start: B not below N";
+    case MILCHKOMPASS_OTHER_FLAG: return "start: a bit outside the six";
+    case MILCHKOMPASS_IMAGE_TRAILER: return "restore: under 6 bytes, last two bytes not hex 08 42, or length not L + 6";
+    case MILCHKOMPASS_IMAGE_TASKS: return "restore: n above 16, or the L bytes are not exactly n tasks of height 1 to 32";
+    case MILCHKOMPASS_IMAGE_UNSOUND: return "restore: the session read from the image is not sound under the table";
+    case MILCHKOMPASS_BUFFER_SHORT: return "save: buffer shorter than the image";
+    case MILCHKOMPASS_SESSION_UNSOUND: return "the session is not sound under the table";
+    case MILCHKOMPASS_EMPTY: return "start, Back: empty";
+    case MILCHKOMPASS_NOT_EMPTY: return "launch: not empty";
+    case MILCHKOMPASS_TASKS_FULL: return "a new task is needed and n = 16";
+    case MILCHKOMPASS_TASK_FULL: return "a push onto a task of 32 (not after empty)";
+    default: return "no refusal of a call";
+    }
+}
 
 /* A task: the screen that created it, how many screens it has, and the screens, bottom first, then zeros. */
 typedef struct milchkompass_task {
@@ -86,6 +103,9 @@ typedef struct milchkompass_session {
     uint8_t n;
     uint8_t main;
 } milchkompass_session;
+
+/* A fresh session: no task. Every byte is 0. */
+#define MILCHKOMPASS_SESSION_FRESH {{{0, 0, {0}}}, 0, 0}
 
 /* An answer: the refusal (0 if none), and after the call the front screen, the root and the height of the front task,
  * the number of tasks and the main place. An empty session gives six zeros. */
@@ -121,7 +141,7 @@ milchkompass_answer milchkompass_finish_start(const uint8_t *table, size_t table
 /* Back. After it the front screen is gone, and its task too if that was its last. Its own check: 21. */
 milchkompass_answer milchkompass_back(const uint8_t *table, size_t table_length, milchkompass_session *s);
 
-/* Look. The session stays; the answer is what it shows. No check of its own. */
+/* Look. The session stays, though it is written; the answer is what it shows. No check of its own. */
 milchkompass_answer milchkompass_look(const uint8_t *table, size_t table_length, milchkompass_session *s);
 
 /* Save. After it the buffer begins with the session's image, whose length is in the reply, and the rest of the buffer
@@ -138,4 +158,18 @@ milchkompass_answer milchkompass_restore(const uint8_t *table, size_t table_leng
 }
 #endif
 
+#endif
+
+/* Android's names without the prefix, for a caller who defines MILCHKOMPASS_ANDROID_NAMES before the include. */
+#ifdef MILCHKOMPASS_ANDROID_NAMES
+#define LAUNCH_MULTIPLE MILCHKOMPASS_LAUNCH_MULTIPLE
+#define LAUNCH_SINGLE_TOP MILCHKOMPASS_LAUNCH_SINGLE_TOP
+#define LAUNCH_SINGLE_TASK MILCHKOMPASS_LAUNCH_SINGLE_TASK
+#define LAUNCH_SINGLE_INSTANCE MILCHKOMPASS_LAUNCH_SINGLE_INSTANCE
+#define FLAG_ACTIVITY_NEW_TASK MILCHKOMPASS_FLAG_ACTIVITY_NEW_TASK
+#define FLAG_ACTIVITY_SINGLE_TOP MILCHKOMPASS_FLAG_ACTIVITY_SINGLE_TOP
+#define FLAG_ACTIVITY_MULTIPLE_TASK MILCHKOMPASS_FLAG_ACTIVITY_MULTIPLE_TASK
+#define FLAG_ACTIVITY_CLEAR_TOP MILCHKOMPASS_FLAG_ACTIVITY_CLEAR_TOP
+#define FLAG_ACTIVITY_REORDER_TO_FRONT MILCHKOMPASS_FLAG_ACTIVITY_REORDER_TO_FRONT
+#define FLAG_ACTIVITY_CLEAR_TASK MILCHKOMPASS_FLAG_ACTIVITY_CLEAR_TASK
 #endif

@@ -5,31 +5,20 @@
 
 #include "milchkompass.h"
 
-#define SIZED(type, size) _Static_assert(sizeof(type) == (size), #type)
-#define PLACED(type, field, size, offset)                                                                              \
-    _Static_assert(sizeof(((type *)0)->field) == (size) && offsetof(type, field) == (offset), #type "." #field)
+#if defined LAUNCH_MULTIPLE || defined LAUNCH_SINGLE_TOP || defined LAUNCH_SINGLE_TASK || \
+    defined LAUNCH_SINGLE_INSTANCE || defined FLAG_ACTIVITY_NEW_TASK || defined FLAG_ACTIVITY_SINGLE_TOP || \
+    defined FLAG_ACTIVITY_MULTIPLE_TASK || defined FLAG_ACTIVITY_CLEAR_TOP || \
+    defined FLAG_ACTIVITY_REORDER_TO_FRONT || defined FLAG_ACTIVITY_CLEAR_TASK
+#error "Android's names without the prefix, which nobody asked for"
+#endif
+#define MILCHKOMPASS_ANDROID_NAMES
+#include "milchkompass.h"
 
-SIZED(milchkompass_task, 34);
-PLACED(milchkompass_task, root, 1, 0);
-PLACED(milchkompass_task, height, 1, 1);
-PLACED(milchkompass_task, screens, 32, 2);
-
-SIZED(milchkompass_session, 546);
-PLACED(milchkompass_session, tasks, 16 * 34, 0);
-PLACED(milchkompass_session, n, 1, 544);
-PLACED(milchkompass_session, main, 1, 545);
-
-SIZED(milchkompass_answer, 6);
-PLACED(milchkompass_answer, refusal, 1, 0);
-PLACED(milchkompass_answer, screen, 1, 1);
-PLACED(milchkompass_answer, root, 1, 2);
-PLACED(milchkompass_answer, height, 1, 3);
-PLACED(milchkompass_answer, tasks, 1, 4);
-PLACED(milchkompass_answer, main, 1, 5);
-
-SIZED(milchkompass_save_reply, 16);
-PLACED(milchkompass_save_reply, refusal, 1, 0);
-PLACED(milchkompass_save_reply, length, 8, 8);
+/* The current number's row of bindings/abi: sizes, places, and each function declared once more, alike. */
+#define SIZE(type, size) _Static_assert(sizeof(type) == (size), #type)
+#define FIELD(type, field, offset, size)                                                                               \
+    _Static_assert(offsetof(type, field) == (offset) && sizeof(((type *)0)->field) == (size), #type "." #field)
+#include "abi_row.h"
 
 /* The six flags by document 01's short names. */
 #define NTK FLAG_ACTIVITY_NEW_TASK
@@ -90,9 +79,27 @@ static void save_refused(uint8_t number, const uint8_t *table, size_t length, se
     expect(memcmp(out, before, sizeof out) == 0, "a refused save: the buffer");
 }
 
+/* Header and library have the same number. */
+static void number(void) {
+    expect(milchkompass_abi() == MILCHKOMPASS_ABI, "the library's number");
+}
+
+static void fresh_and_texts(void) {
+    session fresh = MILCHKOMPASS_SESSION_FRESH, zeros;
+    memset(&zeros, 0, sizeof zeros);
+    expect(same(fresh, zeros), "a fresh session is all zeros");
+    expect(strcmp(milchkompass_refusal_text(MILCHKOMPASS_ACCEPTED), "the call is accepted") == 0, "the text of 0");
+    expect(strcmp(milchkompass_refusal_text(22), "launch: not empty") == 0, "the text of 22");
+    for (int i = 0; i < 256; i++) {
+        bool known = (i <= 8) || (20 <= i && i <= 24);
+        bool named = strcmp(milchkompass_refusal_text((uint8_t)i), "no refusal of a call") != 0;
+        expect(known == named, "a text for each refusal, and for no other number");
+    }
+}
+
 /* The player's example, call by call. */
 static void example(void) {
-    session s = {0};
+    session s = MILCHKOMPASS_SESSION_FRESH;
     ANSWERS(milchkompass_look(T, &s), 0, 0, 0, 0, 0, 0);
     ANSWERS(milchkompass_launch(T, &s), 0, 0, 0, 1, 1, 1);
     ANSWERS(milchkompass_start(T, &s, 1, 0), 0, 1, 0, 2, 1, 1);
@@ -220,6 +227,8 @@ static void full(void) {
 }
 
 int main(void) {
+    number();
+    fresh_and_texts();
     example();
     play_stacks();
     save_and_restore();

@@ -1,15 +1,29 @@
-//! Links liblent.a from the folder that the variable LENT names.
+//! Links libmilchkompass.a: from the folder that MILCHKOMPASS_LIB_DIR names, or
+//! else from the checkout in which this crate lies.
 
 use std::env;
-use std::path::Path;
+use std::path::PathBuf;
+use std::process::exit;
+
+const VARIABLE: &str = "MILCHKOMPASS_LIB_DIR";
 
 fn main() {
-    println!("cargo:rerun-if-env-changed=LENT");
-    let Ok(folder) = env::var("LENT") else {
-        panic!("set LENT to the folder of liblent.a, absolute (`rt staticlib lent`)");
+    println!("cargo:rerun-if-env-changed={VARIABLE}");
+    let folder = match env::var_os(VARIABLE) {
+        Some(folder) => PathBuf::from(folder),
+        None => {
+            let own = env::var_os("CARGO_MANIFEST_DIR").expect("cargo sets it");
+            PathBuf::from(own).join("../../target/milchkompass/lib")
+        }
     };
-    let library = Path::new(&folder).join("liblent.a");
+    let library = folder.join("libmilchkompass.a");
     println!("cargo:rerun-if-changed={}", library.display());
-    println!("cargo:rustc-link-search=native={folder}");
-    println!("cargo:rustc-link-lib=static=lent");
+    if !folder.is_absolute() || !library.is_file() {
+        eprintln!("there is no {}", library.display());
+        eprintln!("run `bindings/library` in the checkout of Milchkompass,");
+        eprintln!("or set {VARIABLE} to the folder of libmilchkompass.a, absolute");
+        exit(1);
+    }
+    println!("cargo:rustc-link-search=native={}", folder.display());
+    println!("cargo:rustc-link-lib=static=milchkompass");
 }

@@ -1,10 +1,11 @@
 //! The flag word of a start.
 
-use std::ops::{BitOr, BitOrAssign};
+use std::fmt;
+use std::ops::{BitAnd, BitAndAssign, BitOr, BitOrAssign};
 
-/// The flags of a start, as Android publishes them. Any of the six may be set
-/// together.
-#[derive(Clone, Copy, Debug, Default, PartialEq, Eq, Hash)]
+/// The flags of a start, as Android publishes them, with the methods that the
+/// crate `bitflags` gives. Any of the six may be set together.
+#[derive(Clone, Copy, Default, PartialEq, Eq, Hash)]
 pub struct Flags(u32);
 
 impl Flags {
@@ -23,15 +24,59 @@ impl Flags {
     /// Android's `FLAG_ACTIVITY_CLEAR_TASK`.
     pub const CLEAR_TASK: Flags = Flags(0x0000_8000);
 
+    const NAMED: [(&'static str, Flags); 6] = [
+        ("NEW_TASK", Flags::NEW_TASK),
+        ("SINGLE_TOP", Flags::SINGLE_TOP),
+        ("MULTIPLE_TASK", Flags::MULTIPLE_TASK),
+        ("CLEAR_TOP", Flags::CLEAR_TOP),
+        ("REORDER_TO_FRONT", Flags::REORDER_TO_FRONT),
+        ("CLEAR_TASK", Flags::CLEAR_TASK),
+    ];
+
+    /// No flag.
+    pub const fn empty() -> Flags {
+        Flags::NONE
+    }
+
+    /// All six flags.
+    pub const fn all() -> Flags {
+        let mut word = 0;
+        let mut i = 0;
+        while i < Flags::NAMED.len() {
+            word |= Flags::NAMED[i].1 .0;
+            i += 1;
+        }
+        Flags(word)
+    }
+
+    /// The flags of a whole word, or none where it has a bit outside the six.
+    pub const fn from_bits(word: u32) -> Option<Flags> {
+        if word & !Flags::all().0 == 0 {
+            Some(Flags(word))
+        } else {
+            None
+        }
+    }
+
     /// The flags of a whole word, as an intent or a recording holds it. With a
     /// bit outside the six, a start is refused.
-    pub const fn from_bits(word: u32) -> Flags {
+    pub const fn from_bits_retain(word: u32) -> Flags {
         Flags(word)
     }
 
     /// The whole word.
     pub const fn bits(self) -> u32 {
         self.0
+    }
+
+    /// No bit is set.
+    pub const fn is_empty(self) -> bool {
+        self.0 == 0
+    }
+
+    /// All of the other's bits are set.
+    pub const fn contains(self, other: Flags) -> bool {
+        self.0 & other.0 == other.0
     }
 }
 
@@ -46,5 +91,33 @@ impl BitOr for Flags {
 impl BitOrAssign for Flags {
     fn bitor_assign(&mut self, other: Flags) {
         *self = *self | other;
+    }
+}
+
+impl BitAnd for Flags {
+    type Output = Flags;
+
+    fn bitand(self, other: Flags) -> Flags {
+        Flags(self.0 & other.0)
+    }
+}
+
+impl BitAndAssign for Flags {
+    fn bitand_assign(&mut self, other: Flags) {
+        *self = *self & other;
+    }
+}
+
+/// The names of the flags, and the other bits as a number.
+impl fmt::Debug for Flags {
+    fn fmt(&self, f: &mut fmt::Formatter) -> fmt::Result {
+        let set = |(_, flag): &&(&str, Flags)| self.contains(*flag);
+        let names = Flags::NAMED.iter().filter(set);
+        let mut parts: Vec<String> = names.map(|(name, _)| name.to_string()).collect();
+        let other = self.0 & !Flags::all().0;
+        if other != 0 || parts.is_empty() {
+            parts.push(format!("{other:#x}"));
+        }
+        write!(f, "Flags({})", parts.join(" | "))
     }
 }

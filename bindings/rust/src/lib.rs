@@ -38,12 +38,14 @@
 #![warn(missing_docs)]
 
 mod flags;
+mod number;
 mod raw;
 mod refusal;
 mod session;
 mod table;
 
 pub use flags::Flags;
+pub use number::UnknownNumber;
 pub use refusal::Refusal;
-pub use session::{Answer, Session};
+pub use session::{Answer, Session, Task};
 pub use table::{LaunchMode, Screen, Table};

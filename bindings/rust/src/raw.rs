@@ -1,6 +1,9 @@
 //! The static library, as it declares itself to C: a slice is a pointer and a
 //! length.
 
+/// The number of the interface that this file declares.
+const ABI: u32 = 1;
+
 /// The limits of a session: its tasks, and the screens of a task.
 const TASKS: usize = 16;
 const SCREENS: usize = 32;
@@ -10,7 +13,7 @@ pub const IMAGE_MAX: usize = TASKS * (2 + SCREENS) + 6;
 
 /// A task, its screens bottom first.
 #[repr(C)]
-#[derive(Clone, Copy, PartialEq, Eq)]
+#[derive(Clone, Copy, PartialEq, Eq, Hash)]
 pub struct Task {
     pub root: u8,
     pub height: u8,
@@ -19,7 +22,7 @@ pub struct Task {
 
 /// A session: n tasks, front first, and the main place.
 #[repr(C)]
-#[derive(Clone, Copy, PartialEq, Eq)]
+#[derive(Clone, Copy, PartialEq, Eq, Hash)]
 pub struct Session {
     pub tasks: [Task; TASKS],
     pub n: u8,
@@ -57,6 +60,7 @@ pub struct SaveReply {
 }
 
 extern "C" {
+    fn milchkompass_abi() -> u32;
     fn milchkompass_launch(table: *const u8, table_length: usize, s: *mut Session) -> Answer;
     fn milchkompass_start(
         table: *const u8,
@@ -93,6 +97,17 @@ extern "C" {
 // SAFETY of each call below: pointers and lengths are those of whole slices,
 // what is written is borrowed for writing and so apart from the rest, and the
 // library keeps no pointer. It takes any bytes.
+
+/// Panics where the library has another interface than this file: the sizes of
+/// what is lent would differ.
+pub fn check_abi() {
+    let library = unsafe { milchkompass_abi() };
+    assert_eq!(
+        library, ABI,
+        "libmilchkompass.a and the crate milchkompass differ in their interface: \
+         take both from one checkout"
+    );
+}
 
 pub fn launch(table: &[u8], s: &mut Session) -> Answer {
     unsafe { milchkompass_launch(table.as_ptr(), table.len(), s) }

@@ -3,6 +3,8 @@
 use std::error::Error;
 use std::fmt;
 
+use crate::UnknownNumber;
+
 /// One line a refusal: its number, its name and its condition.
 macro_rules! refusals {
     ($($number:literal $name:ident $text:literal)*) => {
@@ -55,8 +57,21 @@ impl Refusal {
         if number == 0 {
             return Ok(());
         }
+        Err(Refusal::try_from(number).expect("the library gives no other number"))
+    }
+}
+
+/// The refusal of this number, as the player prints it. 0 is none: the call is
+/// accepted. 9 is the player's alone.
+impl TryFrom<u8> for Refusal {
+    type Error = UnknownNumber;
+
+    fn try_from(number: u8) -> Result<Refusal, UnknownNumber> {
         let known = Refusal::ALL.iter().find(|r| r.number() == number);
-        Err(*known.expect("the library gives no other number"))
+        known.copied().ok_or(UnknownNumber {
+            number,
+            of: "refusal",
+        })
     }
 }
 

@@ -27,12 +27,22 @@ impl Answer {
     }
 }
 
+/// A task of a session.
+#[derive(Clone, Copy, Debug, PartialEq, Eq, Hash)]
+pub struct Task<'a> {
+    /// The screen that created it.
+    pub root: u8,
+    /// Its screens, bottom first: the last is its top.
+    pub screens: &'a [u8],
+}
+
 /// A session under its table. Two are equal where table and session are; no
-/// list of calls tells equal ones apart.
+/// list of calls tells equal ones apart. Threads may share a `&Session`: look
+/// and save lend the library a copy.
 ///
 /// It shows its tasks, front first, as `root:[top,..,bottom]`, and the main
 /// place: `3:[3] 0:[1,0], m 2`.
-#[derive(Clone, PartialEq, Eq)]
+#[derive(Clone, PartialEq, Eq, Hash)]
 pub struct Session {
     table: Table,
     stored: raw::Session,
@@ -52,14 +62,34 @@ impl Session {
         &self.table
     }
 
+    /// The tasks, front first.
+    pub fn tasks(&self) -> impl DoubleEndedIterator<Item = Task<'_>> + ExactSizeIterator {
+        let stored = &self.stored.tasks[..usize::from(self.stored.n)];
+        stored.iter().map(|task| Task {
+            root: task.root,
+            screens: &task.screens[..usize::from(task.height)],
+        })
+    }
+
+    /// The place (from 1) of the task made by launch, 0 if it is gone.
+    pub fn main_place(&self) -> u8 {
+        self.stored.main
+    }
+
     /// Launch: one task of the main screen alone, which is the main task.
-    /// Refused with [`NotEmpty`](Refusal::NotEmpty).
+    ///
+    /// # Errors
+    ///
+    /// [`NotEmpty`](Refusal::NotEmpty).
     pub fn launch(&mut self) -> Result<Answer, Refusal> {
         outcome(raw::launch(self.table.bytes(), &mut self.stored))
     }
 
     /// Start of a screen, by the first of the rules R1 to R18 that fits.
-    /// Refused with [`NoSuchScreen`](Refusal::NoSuchScreen),
+    ///
+    /// # Errors
+    ///
+    /// The first that applies: [`NoSuchScreen`](Refusal::NoSuchScreen),
     /// [`OtherFlag`](Refusal::OtherFlag), [`Empty`](Refusal::Empty), then
     /// [`TasksFull`](Refusal::TasksFull) or [`TaskFull`](Refusal::TaskFull).
     pub fn start(&mut self, screen: u8, flags: Flags) -> Result<Answer, Refusal> {
@@ -68,14 +98,21 @@ impl Session {
     }
 
     /// Finishing start: as [`start`](Session::start), and then the screen
-    /// that was in front is removed, if it still stands. Refused as a start is.
+    /// that was in front is removed, if it still stands.
+    ///
+    /// # Errors
+    ///
+    /// Those of a start, before anything is removed.
     pub fn finish_start(&mut self, screen: u8, flags: Flags) -> Result<Answer, Refusal> {
         let (table, word) = (self.table.bytes(), flags.bits());
         outcome(raw::finish_start(table, &mut self.stored, screen, word))
     }
 
     /// Back: the front screen goes, and its task too if that was its last.
-    /// Refused with [`Empty`](Refusal::Empty).
+    ///
+    /// # Errors
+    ///
+    /// [`Empty`](Refusal::Empty).
     pub fn back(&mut self) -> Result<Answer, Refusal> {
         outcome(raw::back(self.table.bytes(), &mut self.stored))
     }
@@ -94,7 +131,11 @@ impl Session {
     }
 
     /// Save at the start of a buffer: the image's length. The rest of the
-    /// buffer stays. Refused with [`BufferShort`](Refusal::BufferShort).
+    /// buffer stays.
+    ///
+    /// # Errors
+    ///
+    /// [`BufferShort`](Refusal::BufferShort).
     pub fn save_into(&self, buffer: &mut [u8]) -> Result<usize, Refusal> {
         let reply = raw::save(self.table.bytes(), &self.stored, buffer);
         Refusal::check(reply.refusal)?;
@@ -102,7 +143,10 @@ impl Session {
     }
 
     /// Restore: the session of a whole image, in the place of the present one.
-    /// Refused with [`ImageTrailer`](Refusal::ImageTrailer),
+    ///
+    /// # Errors
+    ///
+    /// The first that applies: [`ImageTrailer`](Refusal::ImageTrailer),
     /// [`ImageTasks`](Refusal::ImageTasks), then
     /// [`ImageUnsound`](Refusal::ImageUnsound).
     pub fn restore(&mut self, image: &[u8]) -> Result<Answer, Refusal> {
@@ -126,15 +170,13 @@ fn outcome(answer: raw::Answer) -> Result<Answer, Refusal> {
 
 impl fmt::Display for Session {
     fn fmt(&self, f: &mut fmt::Formatter) -> fmt::Result {
-        let tasks = &self.stored.tasks[..usize::from(self.stored.n)];
-        for (i, task) in tasks.iter().enumerate() {
-            let screens = task.screens[..usize::from(task.height)].iter().rev();
-            let screens: Vec<String> = screens.map(u8::to_string).collect();
+        for (i, task) in self.tasks().enumerate() {
+            let screens: Vec<String> = task.screens.iter().rev().map(u8::to_string).collect();
             let space = if i == 0 { "" } else { " " };
             write!(f, "{space}{}:[{}]", task.root, screens.join(","))?;
         }
-        let comma = if tasks.is_empty() { "" } else { ", " };
-        write!(f, "{comma}m {}", self.stored.main)
+        let comma = if self.tasks().len() == 0 { "" } else { ", " };
+        write!(f, "{comma}m {}", self.main_place())
     }
 }
 

@@ -1,7 +1,7 @@
 //! The screen table.
 
 use crate::raw;
-use crate::Refusal;
+use crate::{Refusal, UnknownNumber};
 
 /// A screen's launch mode, under the names of Android's manifest.
 #[derive(Clone, Copy, Debug, Default, PartialEq, Eq, Hash)]
@@ -16,6 +16,29 @@ pub enum LaunchMode {
     SingleTask = 2,
     /// `singleInstance`
     SingleInstance = 3,
+}
+
+impl LaunchMode {
+    const ALL: [LaunchMode; 4] = [
+        LaunchMode::Standard,
+        LaunchMode::SingleTop,
+        LaunchMode::SingleTask,
+        LaunchMode::SingleInstance,
+    ];
+}
+
+/// The mode of this number, as Android's `ActivityInfo` and a table's bytes
+/// have it.
+impl TryFrom<u8> for LaunchMode {
+    type Error = UnknownNumber;
+
+    fn try_from(number: u8) -> Result<LaunchMode, UnknownNumber> {
+        let mode = LaunchMode::ALL.get(usize::from(number));
+        mode.copied().ok_or(UnknownNumber {
+            number,
+            of: "launch mode",
+        })
+    }
 }
 
 /// A row of the table.
@@ -40,10 +63,17 @@ impl Screen {
 pub struct Table(Vec<u8>);
 
 impl Table {
-    /// The table of these screens. Refused with
-    /// [`TableLength`](Refusal::TableLength) if they are not 1 to 64, with
+    /// The table of these screens.
+    ///
+    /// # Errors
+    ///
+    /// [`TableLength`](Refusal::TableLength) if they are not 1 to 64,
     /// [`TableContent`](Refusal::TableContent) if the main screen is not one of
     /// them.
+    ///
+    /// # Panics
+    ///
+    /// If the library that is linked has another interface than this crate.
     pub fn new(main: u8, screens: &[Screen]) -> Result<Table, Refusal> {
         // Where N is no byte the largest stands for it, and is refused as well.
         let n = u8::try_from(screens.len()).unwrap_or(u8::MAX);
@@ -55,8 +85,16 @@ impl Table {
     }
 
     /// The table that these bytes are: N, the main screen, then N times a mode
-    /// and an affinity. Refused as [`Table::new`] is, and with
-    /// [`TableContent`](Refusal::TableContent) for a mode above 3.
+    /// and an affinity.
+    ///
+    /// # Errors
+    ///
+    /// As [`Table::new`], and [`TableContent`](Refusal::TableContent) for a
+    /// mode above 3.
+    ///
+    /// # Panics
+    ///
+    /// As [`Table::new`].
     pub fn from_bytes(bytes: &[u8]) -> Result<Table, Refusal> {
         Table::checked(bytes.to_vec())
     }
@@ -66,8 +104,28 @@ impl Table {
         &self.0
     }
 
+    /// How many screens there are: 1 to 64.
+    #[allow(clippy::len_without_is_empty)] // it is never empty
+    pub fn len(&self) -> usize {
+        usize::from(self.0[0])
+    }
+
+    /// The main screen.
+    pub fn main(&self) -> u8 {
+        self.0[1]
+    }
+
+    /// The screens, by number.
+    pub fn screens(&self) -> impl DoubleEndedIterator<Item = Screen> + ExactSizeIterator + '_ {
+        self.0[2..].chunks_exact(2).map(|row| {
+            let mode = LaunchMode::try_from(row[0]).expect("the table is good");
+            Screen::new(mode, row[1])
+        })
+    }
+
     /// A look at a fresh session is refused only by the table.
     fn checked(bytes: Vec<u8>) -> Result<Table, Refusal> {
+        raw::check_abi();
         let answer = raw::look(&bytes, &raw::Session::FRESH);
         Refusal::check(answer.refusal)?;
         Ok(Table(bytes))

@@ -2,8 +2,11 @@
 
 mod common;
 
+use std::collections::HashSet;
+use std::thread;
+
 use common::{image, session, table_t};
-use milchkompass::{Answer, Flags, Refusal, Session, Table};
+use milchkompass::{Answer, Flags, LaunchMode, Refusal, Screen, Session, Table, Task};
 
 const NTK: Flags = Flags::NEW_TASK;
 const STP: Flags = Flags::SINGLE_TOP;
@@ -92,13 +95,99 @@ fn the_longest_image() {
 }
 
 #[test]
-fn tables_and_flags() {
+fn tables() {
     let bytes = [6, 0, 0, 1, 0, 1, 1, 1, 2, 2, 3, 1, 0, 2];
     assert_eq!(table_t().bytes(), bytes);
     assert_eq!(Table::from_bytes(&bytes), Ok(table_t()));
     assert_eq!(Session::new(table_t()).table(), &table_t());
+    let screens: Vec<Screen> = table_t().screens().collect();
+    assert_eq!(Table::new(0, &screens), Ok(table_t()));
+    assert_eq!(screens[3], Screen::new(LaunchMode::SingleTask, 2));
+    assert_eq!((table_t().len(), table_t().screens().len()), (6, 6));
+    let other = Table::new(5, &screens).unwrap();
+    assert_eq!((table_t().main(), other.main()), (0, 5));
+}
+
+#[test]
+fn launch_modes() {
+    for (number, mode) in [
+        (0, LaunchMode::Standard),
+        (1, LaunchMode::SingleTop),
+        (2, LaunchMode::SingleTask),
+        (3, LaunchMode::SingleInstance),
+    ] {
+        assert_eq!(LaunchMode::try_from(number), Ok(mode));
+        assert_eq!(mode as u8, number);
+    }
+    for number in 4..=255 {
+        assert!(LaunchMode::try_from(number).is_err());
+    }
+    let error = LaunchMode::try_from(4).unwrap_err();
+    assert_eq!(error.to_string(), "4 is the number of no launch mode");
+}
+
+#[test]
+fn flags() {
     let mut flags = NTK;
     flags |= CTK;
-    assert_eq!(flags, Flags::from_bits(0x1000_8000));
     assert_eq!(flags.bits(), 0x1000_8000);
+    assert_eq!(Flags::from_bits(0x1000_8000), Some(flags));
+    assert_eq!(Flags::from_bits_retain(0x1000_8000), flags);
+    assert!(flags.contains(NTK) && flags.contains(flags) && flags.contains(Flags::NONE));
+    assert!(!flags.contains(STP) && !flags.contains(NTK | STP));
+    assert_eq!(flags & (CTK | CTP), CTK);
+    flags &= STP;
+    assert!(flags.is_empty() && !CTK.is_empty());
+    assert_eq!((Flags::empty(), Flags::default()), (flags, Flags::NONE));
+    assert_eq!(Flags::all(), NTK | STP | MTK | CTP | RTF | CTK);
+    for bit in 0..32 {
+        let word = 1 << bit;
+        let known = Flags::all().contains(Flags::from_bits_retain(word));
+        assert_eq!(Flags::from_bits(word).is_some(), known);
+        assert_eq!(Flags::from_bits_retain(word).bits(), word);
+    }
+}
+
+#[test]
+fn flags_show_their_names() {
+    let other = Flags::from_bits_retain(0x41);
+    for (flags, shown) in [
+        (Flags::NONE, "Flags(0x0)"),
+        (RTF, "Flags(REORDER_TO_FRONT)"),
+        (CTK | NTK, "Flags(NEW_TASK | CLEAR_TASK)"),
+        (other, "Flags(0x41)"),
+        (other | STP, "Flags(SINGLE_TOP | 0x41)"),
+    ] {
+        assert_eq!(format!("{flags:?}"), shown);
+    }
+}
+
+#[test]
+fn what_a_session_holds() {
+    let p10 = session(&[(3, &[3]), (0, &[1, 0])], 2);
+    let tasks: Vec<Task> = p10.tasks().collect();
+    let task = |root, screens| Task { root, screens };
+    assert_eq!(tasks, [task(3, &[3]), task(0, &[0, 1])]);
+    assert_eq!((p10.tasks().len(), p10.main_place()), (2, 2));
+    let fresh = Session::new(table_t());
+    assert_eq!((fresh.tasks().len(), fresh.main_place()), (0, 0));
+}
+
+#[test]
+fn equal_sessions_hash_alike() {
+    let p10 = session(&[(3, &[3]), (0, &[1, 0])], 2);
+    let mut seen = HashSet::from([p10.clone()]);
+    assert!(!seen.insert(session(&[(3, &[3]), (0, &[1, 0])], 2)));
+    assert!(seen.insert(session(&[(3, &[3]), (0, &[1, 0])], 0)));
+}
+
+#[test]
+fn threads_share_a_session() {
+    let p10 = session(&[(3, &[3]), (0, &[1, 0])], 2);
+    thread::scope(|scope| {
+        let calls = [(); 2].map(|_| scope.spawn(|| (p10.look(), p10.save())));
+        for call in calls {
+            assert_eq!(call.join().unwrap(), (p10.look(), p10.save()));
+        }
+    });
 }

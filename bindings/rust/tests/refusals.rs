@@ -34,7 +34,7 @@ fn starts_refused(before: &Session, screen: u8, flags: Flags, refusal: Refusal) 
 #[test]
 fn starts() {
     let fresh = Session::new(table_t());
-    let other = Flags::from_bits(1);
+    let other = Flags::from_bits_retain(1);
     starts_refused(&fresh, 6, other, Refusal::NoSuchScreen);
     starts_refused(&fresh, 0, other, Refusal::OtherFlag);
     starts_refused(&fresh, 0, Flags::NONE, Refusal::Empty);
@@ -91,4 +91,12 @@ fn errors() {
     assert_eq!(error.to_string(), "refusal 22: launch: not empty");
     let numbers: Vec<u8> = Refusal::ALL.iter().map(|r| r.number()).collect();
     assert_eq!(numbers, [1, 2, 3, 4, 5, 6, 7, 8, 20, 21, 22, 23, 24]);
+    for number in 0..=255 {
+        match Refusal::try_from(number) {
+            Ok(refusal) => assert_eq!(refusal.number(), number),
+            Err(_) => assert!(!numbers.contains(&number)),
+        }
+    }
+    let error = Refusal::try_from(9).unwrap_err();
+    assert_eq!(error.to_string(), "9 is the number of no refusal");
 }

@@ -1,11 +1,12 @@
 //! The C header and this crate declare what the library's source declares:
-//! each function, each struct that one of them names, the limits, the flags,
-//! and the refusals by the sentences that the definitions quote.
+//! the number of the interface and its row, each function, each struct that one
+//! of them names, the limits, the launch modes, the flags, and the refusals by
+//! the sentences that the definitions quote.
 
 mod render;
 mod source;
 
-use milchkompass::{Flags, Refusal};
+use milchkompass::{Flags, LaunchMode, Refusal};
 use source::read;
 
 /// Without white space and without a comma after the last of a list.
@@ -42,6 +43,50 @@ fn has(text: &str, declaration: &str) {
 /// The text has this line.
 fn has_line(text: &str, line: &str) {
     assert!(text.lines().any(|l| l.trim() == line), "{line}");
+}
+
+/// The rows of bindings/abi: each number, and its lines.
+fn rows() -> Vec<(String, Vec<String>)> {
+    let mut rows: Vec<(String, Vec<String>)> = Vec::new();
+    for line in read("bindings/abi").lines() {
+        if let Some(number) = line.strip_prefix("abi ") {
+            rows.push((number.to_string(), Vec::new()));
+        } else if let (Some((_, row)), false) = (rows.last_mut(), line.is_empty()) {
+            row.push(line.to_string());
+        }
+    }
+    rows
+}
+
+#[test]
+fn number_of_the_interface() {
+    let source = read("crates/lent/src/lib.rt");
+    let (_, rest) = source.split_once("const ABI: u32 = ").expect("the number");
+    let (number, _) = rest.split_once(';').expect("its end");
+    has_line(&header(), &format!("#define MILCHKOMPASS_ABI {number}"));
+    has(&declared_in_rust(), &format!("const ABI: u32 = {number};"));
+    let numbers: Vec<String> = rows().into_iter().map(|(number, _)| number).collect();
+    let last: usize = number.parse().expect("a number");
+    let all: Vec<String> = (1..=last).map(|n| n.to_string()).collect();
+    assert_eq!(numbers, all, "a row for each number up to the current one");
+}
+
+#[test]
+fn row_of_the_interface() {
+    let (structs, functions) = (source::structs(), source::functions());
+    let mut lines: Vec<String> = structs
+        .iter()
+        .flat_map(|declared| render::struct_in_row(&structs, declared))
+        .chain(functions.iter().map(render::function_in_c))
+        .collect();
+    let (number, mut row) = rows().pop().expect("a row");
+    lines.sort();
+    row.sort();
+    assert_eq!(
+        row, lines,
+        "row {number} of bindings/abi is not what the source declares: what has \
+         changed raises the number and gets a new row, what is added is added to it"
+    );
 }
 
 #[test]
@@ -86,9 +131,35 @@ fn limits() {
     );
 }
 
+/// Android's name for a constant of the header, which has it with the prefix,
+/// and without only for who asks.
+fn named(name: &str, value: &str) {
+    let header = header();
+    has_line(&header, &format!("#define MILCHKOMPASS_{name} {value}"));
+    let (always, asked) = header
+        .split_once("#ifdef MILCHKOMPASS_ANDROID_NAMES")
+        .expect("Android's names");
+    let plain = format!("#define {name} MILCHKOMPASS_{name}");
+    has_line(asked, &plain);
+    assert!(!always.contains(&plain), "{plain}");
+}
+
+#[test]
+fn launch_modes() {
+    for (name, mode) in [
+        ("MULTIPLE", LaunchMode::Standard),
+        ("SINGLE_TOP", LaunchMode::SingleTop),
+        ("SINGLE_TASK", LaunchMode::SingleTask),
+        ("SINGLE_INSTANCE", LaunchMode::SingleInstance),
+    ] {
+        named(&format!("LAUNCH_{name}"), &(mode as u8).to_string());
+    }
+    assert_eq!(header().matches("#define LAUNCH_").count(), 4);
+}
+
 #[test]
 fn flags() {
-    let (flags, header) = (read("crates/flags/src/lib.rt"), header());
+    let flags = read("crates/flags/src/lib.rt");
     for (short, name, flag) in [
         ("NTK", "NEW_TASK", Flags::NEW_TASK),
         ("STP", "SINGLE_TOP", Flags::SINGLE_TOP),
@@ -99,32 +170,48 @@ fn flags() {
     ] {
         let bits = format!("{:#010x}", flag.bits());
         has_line(&flags, &format!("const {short}: u32 = {bits};"));
-        has_line(
-            &header,
-            &format!("#define FLAG_ACTIVITY_{name} UINT32_C({bits})"),
+        named(
+            &format!("FLAG_ACTIVITY_{name}"),
+            &format!("UINT32_C({bits})"),
         );
+        assert_eq!(format!("{flag:?}"), format!("Flags({name})"));
     }
     assert_eq!(flags.matches(": u32 = 0x").count(), 6);
-    assert_eq!(header.matches("#define FLAG_").count(), 6);
+    assert_eq!(header().matches("#define FLAG_").count(), 6);
+}
+
+#[test]
+fn prefix() {
+    let header = header();
+    let (always, _) = header
+        .split_once("#ifdef MILCHKOMPASS_ANDROID_NAMES")
+        .expect("Android's names");
+    for name in always.lines().filter_map(|l| l.strip_prefix("#define ")) {
+        assert!(name.starts_with("MILCHKOMPASS_"), "{name}");
+    }
 }
 
 #[test]
 fn refusals() {
-    let (definitions, header) = (source::definitions(), squeezed(&header()));
+    let (definitions, header) = (source::definitions(), header());
     for refusal in Refusal::ALL {
         let (number, text) = (refusal.number(), refusal.condition());
         let quoted = format!("\"{number}: {text}\"");
         assert!(definitions.contains(&quoted), "{quoted}");
         let name = render::snake(&format!("{refusal:?}")).to_uppercase();
-        has(
+        let declared = format!("MILCHKOMPASS_{name} = {number}");
+        let lines = header.lines().map(|l| l.trim().trim_end_matches(','));
+        assert_eq!(lines.filter(|l| *l == declared).count(), 1, "{declared}");
+        has_line(
             &header,
-            &format!("/* {text} */ MILCHKOMPASS_{name} = {number}"),
+            &format!("case MILCHKOMPASS_{name}: return \"{text}\";"),
         );
     }
-    let named = header.matches("*/MILCHKOMPASS_").count();
-    assert_eq!(
-        named,
-        Refusal::ALL.len() + 1,
-        "and the one of an accepted call"
-    );
+    let with_accepted = Refusal::ALL.len() + 1;
+    assert_eq!(header.matches("case MILCHKOMPASS_").count(), with_accepted);
+    let (_, rest) = header
+        .split_once("enum milchkompass_refusal {")
+        .expect("them");
+    let (names, _) = rest.split_once('}').expect("their end");
+    assert_eq!(names.matches(" = ").count(), with_accepted);
 }

@@ -46,6 +46,51 @@ pub fn struct_in_rust(declared: &Struct) -> String {
     format!("pub struct {} {{ {fields} }}", declared.name)
 }
 
+/// The size and the alignment of a type.
+fn layout(structs: &[Struct], kind: &str) -> (usize, usize) {
+    let (size, alignment) = match inner(kind) {
+        "u8" => (1, 1),
+        "u32" => (4, 4),
+        "usize" => (8, 8),
+        name => {
+            let declared = structs.iter().find(|s| s.name == name).expect(name);
+            let (size, alignment, _) = placed(structs, declared);
+            (size, alignment)
+        }
+    };
+    let times = match kind.split_once("; Session::") {
+        Some((_, "TASKS]")) => 16,
+        Some((_, "SCREENS]")) => 32,
+        Some((_, limit)) => panic!("{limit}"),
+        None => 1,
+    };
+    (times * size, alignment)
+}
+
+/// A struct's size, its alignment, and the place and the size of each field.
+fn placed(structs: &[Struct], declared: &Struct) -> (usize, usize, Vec<(usize, usize)>) {
+    let (mut end, mut widest, mut places) = (0usize, 1, Vec::new());
+    for (_, kind) in &declared.fields {
+        let (size, alignment) = layout(structs, kind);
+        let place = end.next_multiple_of(alignment);
+        places.push((place, size));
+        end = place + size;
+        widest = widest.max(alignment);
+    }
+    (end.next_multiple_of(widest), widest, places)
+}
+
+/// A struct's lines in bindings/abi.
+pub fn struct_in_row(structs: &[Struct], declared: &Struct) -> Vec<String> {
+    let name = type_in_c(&declared.name);
+    let (size, _, places) = placed(structs, declared);
+    let mut lines = vec![format!("SIZE({name}, {size});")];
+    for ((field, _), (place, size)) in declared.fields.iter().zip(places) {
+        lines.push(format!("FIELD({name}, {field}, {place}, {size});"));
+    }
+    lines
+}
+
 pub fn function_in_c(function: &Function) -> String {
     let parameters = join(&function.parameters, ", ", |(name, kind)| {
         let of = type_in_c(inner(kind));
@@ -57,6 +102,11 @@ pub fn function_in_c(function: &Function) -> String {
             _ => format!("{of} {name}"),
         }
     });
+    let parameters = if parameters.is_empty() {
+        "void".to_string()
+    } else {
+        parameters
+    };
     let result = type_in_c(&function.result);
     format!("{result} {}({parameters});", function.name)
 }
