@@ -18,12 +18,19 @@ fn main() {
     };
     let library = folder.join("libmilchkompass.a");
     println!("cargo:rerun-if-changed={}", library.display());
-    if !folder.is_absolute() || !library.is_file() {
-        eprintln!("there is no {}", library.display());
-        eprintln!("run `bindings/library` in the checkout of Milchkompass,");
-        eprintln!("or set {VARIABLE} to the folder of libmilchkompass.a, absolute");
-        exit(1);
+    if !folder.is_absolute() {
+        fail(&format!("{VARIABLE} is not absolute: {}", folder.display()));
+    }
+    if !library.is_file() {
+        fail(&format!("there is no {}", library.display()));
     }
     println!("cargo:rustc-link-search=native={}", folder.display());
     println!("cargo:rustc-link-lib=static=milchkompass");
+}
+
+fn fail(why: &str) -> ! {
+    eprintln!("{why}");
+    eprintln!("run `bindings/library` in the checkout of Milchkompass,");
+    eprintln!("or set {VARIABLE} to the folder of libmilchkompass.a");
+    exit(1);
 }

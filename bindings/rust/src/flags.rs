@@ -3,8 +3,8 @@
 use std::fmt;
 use std::ops::{BitAnd, BitAndAssign, BitOr, BitOrAssign};
 
-/// The flags of a start, as Android publishes them, with the methods that the
-/// crate `bitflags` gives. Any of the six may be set together.
+/// The flags of a start, as Android publishes them, by the conventions of the
+/// crate `bitflags`. Any of the six may be set together.
 #[derive(Clone, Copy, Default, PartialEq, Eq, Hash)]
 pub struct Flags(u32);
 

@@ -34,6 +34,9 @@
 //! Every rule and every check is the static library's, which is proved for all
 //! inputs. This crate decides nothing: it lends its session to the library and
 //! names the numbers that come back. It is not proved itself; it is tested.
+//!
+//! The library is libmilchkompass.a, which `bindings/library` makes in the
+//! checkout; `MILCHKOMPASS_LIB_DIR` names another folder of it.
 
 #![warn(missing_docs)]
 
