@@ -37,7 +37,10 @@ fn warn(path: &[u8], recording: &[u8]) {
         return;
     }
     io::write_all(STDERR_FILENO, b"warning: ");
-    complain(path, b": records that are no call, of an unknown kind or cut: ");
+    complain(
+        path,
+        b": records that are no call, of an unknown kind or cut: ",
+    );
     io::print_decimal(STDERR_FILENO, ignored.count as u64);
     io::write_all(STDERR_FILENO, b", the first at byte ");
     io::print_decimal(STDERR_FILENO, ignored.first as u64);

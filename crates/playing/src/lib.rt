@@ -102,7 +102,10 @@ fn warn(met: Notes) {
     if met.count == 0 {
         return;
     }
-    io::write_all(STDERR_FILENO, b"warning: records of kind 6, a restore in recordings for `same` and unknown to the player: ");
+    io::write_all(
+        STDERR_FILENO,
+        b"warning: records of kind 6, a restore in recordings for `same` and unknown to the player: ",
+    );
     io::print_decimal(STDERR_FILENO, met.count as u64);
     io::write_all(STDERR_FILENO, b", the first on line ");
     io::print_decimal(STDERR_FILENO, met.first as u64);

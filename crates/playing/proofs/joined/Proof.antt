@@ -13,9 +13,10 @@ returns c =
 
 returns-2 : tie.Need-returns-2
 returns-2 c =
-    let a = c .before .before .before .before .before .args in
-    (joined-first (a .others) {n = a .met} {t = a .then} (c .before .if2 .taken) (c .before .before .before .if1 .left),
-    omega (arith, c .before .if2 .taken))
+    let a = c .before .before .before .before .before .args in (
+      joined-first (a .others) {n = a .met} {t = a .then} (c .before .if2 .taken) (c .before .before .before .if1 .left),
+      omega (arith, c .before .if2 .taken),
+    )
 
 returns-3 : tie.Need-returns-3
 returns-3 c =
