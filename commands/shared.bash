@@ -147,7 +147,7 @@ prove() { # PROGRAM
 # Sets `built` to the program. One build goes on at a time, under a lock which stands outside of target/, and the others wait.
 build() { # PROGRAM
     local program=$1 kit lock
-    kit=$(rt version 2>/dev/null) || fail "the kit's command 'rt' is not to be found"
+    kit=$(rt version 2>/dev/null) || fail "the kit's command 'rt' cannot be run: README.md names the kit"
     built=$here/.built/$program-$(sources_of "$program")
     [ ! -x "$built" ] || return 0
     if ! { mkdir -p "$here/.built" "$here/target" && [ -w "$here/.built" ] && [ -w "$here/target" ] &&
