@@ -126,7 +126,7 @@ prove() { # PROGRAM
     local program=$1 log=$here/.built/$1.log all done=0 line
     all=$(crates_of "$program" | wc -l)
     progress "$program" 0 "$all"
-    (cd "$here" && rt check "$program" 2>&1) | tee "$log" | while IFS= read -r line; do
+    (cd "$here" && rt check "$program" 2>&1 </dev/null) | tee "$log" | while IFS= read -r line; do
         case $line in
             'rt: '*' proved (unchanged'*) done=$((done + 1)) ;;
             'rt: '*' proved ('*) done=$((done + 1)) && progress "$program" "$done" "$all" ;;
@@ -147,7 +147,7 @@ prove() { # PROGRAM
 # Sets `built` to the program. One build goes on at a time, under a lock which stands outside of target/, and the others wait.
 build() { # PROGRAM
     local program=$1 kit lock
-    kit=$(rt version 2>/dev/null) || fail "the kit's command 'rt' cannot be run: README.md names the kit"
+    kit=$(rt version 2>/dev/null </dev/null) || fail "the kit's command 'rt' cannot be run: README.md names the kit"
     built=$here/.built/$program-$(sources_of "$program")
     [ ! -x "$built" ] || return 0
     if ! { mkdir -p "$here/.built" "$here/target" && [ -w "$here/.built" ] && [ -w "$here/target" ] &&
@@ -166,10 +166,14 @@ build() { # PROGRAM
 run() { # ARGUMENT..
     local said status=0 line failed=''
     { said=$(exec "$built" "$@" 2>&1 >&3 3>&-) || status=$?; } 3>&1
-    while [ -n "$said" ] && IFS= read -r line; do
+    # line by line, and without a file, which a full disk would not take
+    while [ -n "$said" ]; do
+        line=${said%%$'\n'*}
+        said=${said#"$line"}
+        said=${said#$'\n'}
         say "$line"
         case $line in 'warning: '*) ;; *) failed=yes ;; esac
-    done <<<"$said"
+    done
     case $status in
         0 | 141) ;;
         139) fail 'stopped by signal SEGV; it needs 4 MiB of stack (ulimit -s)' ;;
