@@ -1,7 +1,8 @@
 # What the commands share. A command sources this file, sets `usage`, and then calls, in this order:
 #
 #   arguments N "$@"    there are N names; else the usage
-#   readable NAME       for each name of a file that is read: a message where it cannot be
+#   readable NAME       for each file that the program opens: a message where it cannot be read
+#   take_input NAME     for one that it gets as its standard input: the same, and opens it
 #   build PROGRAM       proves and builds the program, unless it was built from these sources by this kit
 #   run ARGUMENT..      runs it
 #
@@ -39,9 +40,9 @@ refuse() {
     exit 2
 }
 
-# Writes a text to standard output, or fails; a closed pipe is a failed write here.
+# Writes a text to standard output, or fails: in a process of its own, which a closed pipe may end.
 print() {
-    (trap '' PIPE && printf '%s\n' "$1" 2>/dev/null) || fail 'standard output cannot be written'
+    (printf '%s\n' "$1" 2>/dev/null) || fail 'standard output cannot be written'
 }
 
 arguments() { # N ARGUMENT..

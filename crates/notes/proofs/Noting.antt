@@ -1,12 +1,17 @@
 -- Notes of a list of places, and of a list with one more.
-use Prim.Native.Nat.{ℕ, zero, suc, _+_}
-use mathlib.Core.Path.{_≡_, refl, sym}
+use Prim.Native.Nat.{ℕ, _+_, _≤_}
+use mathlib.Core.Path.{_≡_, refl}
 use mathlib.Core.Bool.{Bool, true, false}
 use mathlib.Core.List.{List, [], _∷_, _++_, append-nil}
 use native.Mathlib.Omega.{arith}
-use lib.ListN.{length, getD, length-append}
+use lib.ListN.{length, length-append}
 use Rattle.notes.specs.declared.Notes.{Notes}
 use Rattle.notes.specs.Places.{placeIf, Tells}
+
+-- one place at most is noted
+pub place-few : (met : Bool) (place : ℕ) → length (placeIf met place) ≤ 1
+place-few true place = omega arith
+place-few false place = omega arith
 
 pub tells-none : (met : Bool) (place : ℕ) (n : Notes) → met ≡ false → (ps : List ℕ) → Tells ps n → Tells (ps ++ placeIf met place) n
 tells-none met place n e ps t = rw (e, append-nil ps) t

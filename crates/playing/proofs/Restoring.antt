@@ -1,5 +1,5 @@
 -- The records of kind 6 of a block: up to a place, and how many there can be; and those of two lists of records.
-use Prim.Native.Nat.{ℕ, zero, suc, _+_, _*_, _≤_, _<_, zero-le}
+use Prim.Native.Nat.{ℕ, suc, _+_, _≤_, _<_, zero-le}
 use mathlib.Core.Path.{_≡_, refl, sym, _∙_, ap}
 use mathlib.Core.Bool.{Bool, true, false}
 use mathlib.Core.List.{List, [], _∷_, _++_, append-nil, append-assoc}
@@ -11,6 +11,7 @@ use lib.Seq.{drop-drop, getD-drop}
 use Rattle.model.specs.Player.{Record, recordsIn}
 use Rattle.notes.specs.declared.Notes.{Notes}
 use Rattle.notes.specs.Places.{placeIf, Tells}
+use Rattle.notes.proofs.Noting.{place-few}
 use Rattle.playing.specs.Restores.{restoresFrom, behind}
 
 -- ---- one record
@@ -44,10 +45,6 @@ pub record Met (l : List ℕ) (n : Notes) (i p : ℕ) : Type 0 where
 
 pub met-start : (l : List ℕ) (n : Notes) → Tells [] n → Met l n 1 0
 met-start l n t = let k = t .count in record { inside = omega arith; number = omega arith; few = omega arith; places = []; tells = t; rest = refl }
-
-place-few : (met : Bool) (p : ℕ) → length (placeIf met p) ≤ 1
-place-few true p = omega arith
-place-few false p = omega arith
 
 module _ {l : List ℕ} {n : Notes} {i p : ℕ} (h : Met l n i p) where
   -- nothing is left

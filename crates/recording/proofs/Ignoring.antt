@@ -2,7 +2,7 @@
 use Prim.Native.Nat.{ℕ, zero, suc, _+_, _-_, _*_, _≤_, _<_}
 use mathlib.Core.Path.{_≡_, refl, sym, _∙_, ap}
 use mathlib.Core.Bool.{Bool, true, false}
-use mathlib.Core.List.{List, [], _++_, append-nil, append-assoc}
+use mathlib.Core.List.{List, [], _++_, append-assoc}
 use native.Mathlib.Nat.{add-zero}
 use native.Mathlib.Omega.{arith}
 use lib.Dec.{ltb}
@@ -13,6 +13,7 @@ use Rattle.model.specs.Lists.{if_then_else_}
 use Rattle.flags.specs.Words.{wordAt}
 use Rattle.notes.specs.declared.Notes.{Notes}
 use Rattle.notes.specs.Places.{placeIf, Tells}
+use Rattle.notes.proofs.Noting.{place-few}
 use Rattle.recording.specs.CallBytes.{imageLength, firstImage, firstWhole}
 use Rattle.recording.specs.Ignored.{unknownKind, ignoredAmong, ignoredFrom}
 use Rattle.recording.proofs.Reading.{lengthAt, image-at}
@@ -62,11 +63,6 @@ pub record Noted (l : List ℕ) (from : ℕ) (n : Notes) (p : ℕ) : Type 0 wher
 pub noted-start : (l : List ℕ) (from : ℕ) (n : Notes) → from ≤ length l → Tells [] n → Noted l from n from
 noted-start l from n h t =
     let k = t .count in record { inside = h; few = omega arith; places = []; tells = t; rest = refl }
-
--- one place at most is noted
-place-few : (met : Bool) (p : ℕ) → length (placeIf met p) ≤ 1
-place-few true p = omega arith
-place-few false p = omega arith
 
 -- something is left behind a place that is not the end
 left-test : (long p left : ℕ) → p ≤ long → left ≡ long - p → ltb 0 left ≡ ltb p long
