@@ -1,6 +1,6 @@
 // The program `same`: reads two recordings, prints whether their endings are alike, or where they are told apart.
 // It only reads, calls and writes; what it prints is the business of `endings`. Of an input that it cannot take it says what
-// is wrong on standard error, and prints nothing.
+// is wrong on standard error, and prints nothing; a line there that begins with `warning: ` changes nothing.
 
 ghost use Prim.Native.Nat.{_≤_};
 ghost use mathlib.Core.Path.{_≡_};
@@ -28,6 +28,23 @@ fn unread() -> Loaded
 fn complain(path: &[u8], what: &[u8]) {
     io::write_all(STDERR_FILENO, path);
     io::write_all(STDERR_FILENO, what);
+}
+
+// Warns of a recording's records that are no call.
+fn warn(path: &[u8], recording: &[u8]) {
+    let ignored = endings::ignored(recording);
+    if ignored.count == 0 {
+        return;
+    }
+    io::write_all(STDERR_FILENO, b"warning: ");
+    complain(
+        path,
+        b": records that are no call, of an unknown kind or cut: ",
+    );
+    io::print_decimal(STDERR_FILENO, ignored.count as u64);
+    io::write_all(STDERR_FILENO, b", the first at byte ");
+    io::print_decimal(STDERR_FILENO, ignored.first as u64);
+    io::write_all(STDERR_FILENO, b"\n");
 }
 
 // Reads all that is left of an open file into the buffer.
@@ -82,6 +99,7 @@ fn read_recording(path: &[u8], buffer: &mut [u8]) -> Loaded
         io::write_all(STDERR_FILENO, b"\n");
         return unread();
     }
+    warn(path, &buffer[..long]);
     recording
 }
 

@@ -2,12 +2,14 @@
 use Prim.Native.Nat.{ℕ, _+_, _*_, _-_}
 use mathlib.Core.Path.{_≡_, _∙_}
 use mathlib.Core.List.{List}
-use lib.ListN.{length, take}
+use lib.ListN.{length, take, drop}
 use borrow.Rule.Slice.PartMut.{midOf}
 use Rattle.model.specs.Table.{sizeOf, tableRefusal}
 use Rattle.model.specs.Player.{tableIn, recordBytes}
 use Rattle.session.specs.Stored.{hold}
 use Rattle.recording.specs.Replay.{ending, replayed}
+use Rattle.recording.specs.Ignored.{ignoredFrom}
+use Rattle.endings.specs.Endings.{ignoredIn}
 use Rattle.endings.proofs.Parts.{part-rest, take-taken, drop-taken}
 
 module _ (l : List ℕ) (n : ℕ) (e : n ≡ length (tableIn l)) where
@@ -16,6 +18,9 @@ module _ (l : List ℕ) (n : ℕ) (e : n ≡ length (tableIn l)) where
 
   pub calls-part : midOf n (length l - n) l ≡ recordBytes l
   calls-part = part-rest n l ∙ rw e (drop-taken (2 + 2 * sizeOf l) l)
+
+  pub ignored-part : ignoredFrom n (drop n l) ≡ ignoredIn l
+  ignored-part = rw (e, drop-taken (2 + 2 * sizeOf l) l)
 
 pub replayed-good : (tb bytes : List ℕ) → tableRefusal tb ≡ 0 → replayed tb bytes ≡ hold (ending tb bytes)
 unfolding replayed

@@ -11,9 +11,11 @@ ghost use Rattle.model.specs.Histories.{AnswerAlike, byRules};
 ghost use Rattle.model.specs.Written.{written};
 ghost use Rattle.session.specs.Stored.{hold, Ready};
 ghost use Rattle.difference.specs.Apart.{mostBacks, FirstApart};
-ghost use Rattle.endings.specs.Endings.{endingOf};
+ghost use Rattle.notes.specs.Places.{Tells};
+ghost use Rattle.endings.specs.Endings.{endingOf, ignoredIn};
 ghost use Rattle.endings.specs.Verdict.{lastKind, verdictText, longestVerdict};
 use difference::Difference;
+use notes::Notes;
 use session::Session;
 
 // The length of the longest verdict: "apart after ", a number of three digits, " Backs" and a newline, and two lines.
@@ -47,6 +49,14 @@ pub fn same_table(first: &[u8], second: &[u8]) -> bool
     let i = table_end(first);
     let j = table_end(second);
     check::same(&first[..i], &second[..j])
+}
+
+// A recording's records that are no call: how many, and the place of the first, counted from the recording's first byte.
+pub fn ignored(input: &[u8]) -> Notes
+    ensures { λ r. ⌜ Tells (ignoredIn (now (input .entry))) r ⌝ }
+{
+    let end = table_end(input);
+    recording::ignored(input, end)
 }
 
 // The session after a recording's calls.

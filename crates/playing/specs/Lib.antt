@@ -1,1 +1,2 @@
+pub mod Restores
 pub mod Turns

@@ -1,5 +1,5 @@
 -- What a block leaves. No contract can name the bytes that were read; but there are bytes, all of them played.
-use Prim.Native.Nat.{ℕ, _%_}
+use Prim.Native.Nat.{ℕ, _%_, _≤_}
 use mathlib.Core.Path.{_≡_}
 use mathlib.Core.Bool.{true}
 use mathlib.Core.List.{List}
@@ -7,12 +7,16 @@ use lib.ListN.{length}
 use Rattle.model.specs.Player.{recordsIn, sessionAfter}
 use Rattle.session.specs.declared.Session.{Session}
 use Rattle.session.specs.Stored.{view, hold}
+use Rattle.notes.specs.Places.{Tells}
 use Rattle.play.specs.Steps.{Playable}
+use Rattle.playing.specs.Restores.{restoresFrom}
 use Rattle.playing.specs.declared.Turned.{Turned}
 
 -- where the input goes on behind it, the block holds whole records (`WholeBlocks` in `play/specs/Blocks.antt`)
 pub record Turns (tb : List ℕ) (c : Session) (r : Turned) : Type 0 where
   pub block : List ℕ
   pub played : r .session ≡ hold (sessionAfter tb (view c) (recordsIn block))
+  pub met : Tells (restoresFrom 1 (recordsIn block)) (r .restores)
+  pub few : (r .restores .count ≤ 10000) × (r .restores .first ≤ 10000)
   pub whole : r .more ≡ true → length block % 6 ≡ 0
   pub keeps : Playable tb (r .session)

@@ -1,12 +1,21 @@
 // The player: a table and then records from a file, a line of text for each record on standard output.
 // It only reads, calls and writes, in blocks; what it writes is the business of `play` and `input`. Memory does not grow.
+// What cannot be read or written is told on standard error; a line there that begins with `warning: ` changes nothing.
 
-ghost use Prim.Native.Nat.{_≤_};
+ghost use Prim.Native.Nat.{ℕ, _+_, _≤_};
+ghost use mathlib.Core.Path.{_≡_};
+ghost use mathlib.Core.List.{List, _++_};
 ghost use lib.ListN.{length};
+ghost use Rattle.io.specs.Counts.{Counts};
 ghost use Rattle.model.specs.Table.{longestTable};
+ghost use Rattle.model.specs.Player.{recordsIn};
+ghost use Rattle.notes.specs.Places.{Tells};
 ghost use Rattle.play.specs.Steps.{Playable};
+ghost use Rattle.playing.specs.Restores.{restoresFrom, behind};
 ghost use Rattle.playing.specs.Turns.{Turns};
+use libc::STDERR_FILENO;
 use libc::STDOUT_FILENO;
+use notes::Notes;
 use session::Session;
 use table::Beginning;
 
@@ -15,9 +24,100 @@ const RECORDS: usize = 10000;
 
 const BLOCK: usize = 6 * RECORDS;
 
-// What is left after a block: the session, and whether to go on.
+// ---- reading and writing
+
+// Says why nothing more can be read, unless the input is at its end.
+fn check_end(fd: i32) {
+    let mut beyond = [0u8; 1];
+    if libc::read(fd, &mut beyond) < 0 {
+        os::fail(b"input");
+    }
+}
+
+// Reads until the buffer is full or the input ends, and yields how many bytes were read.
+fn read_block(fd: i32, buffer: &mut [u8]) -> usize
+    ensures { λ r. ⌜ Counts r (now (buffer .exit)) ⌝ }
+{
+    let got = io::read_full(fd, buffer);
+    if got < buffer.len() {
+        check_end(fd);
+    }
+    got
+}
+
+// Writes text to standard output and yields whether it went. It says why not, but where nobody reads on.
+fn print(text: &[u8]) -> bool {
+    if io::write_all(STDOUT_FILENO, text) {
+        return true;
+    }
+    if os::errno() != libc::EPIPE {
+        os::fail(b"standard output");
+    }
+    false
+}
+
+// ---- kind 6, which is the restore of `same` and no record of the player
+
+// The records of kind 6 in a block: how many, and the number of the first in the block, counted from 1.
+fn restores(block: &[u8]) -> Notes
+    ensures { λ r. ⌜ Tells (restoresFrom 1 (recordsIn (now (block .entry)))) r ⌝ }
+{
+    let mut met = Notes::none();
+    let mut i: usize = 1;
+    let mut p: usize = 0;
+    while p < block.len() {
+        met = met.noted(block[p] == 6, i);
+        if block.len() - p <= 6 {
+            return met;
+        }
+        i += 1;
+        p += 6;
+    }
+    met
+}
+
+// Both notes as one, where the second are of records behind so many others.
+fn joined(met: Notes, others: usize, then: Notes) -> Notes
+    requires { ⌜ (met .count + then .count ≤ 0xFFFFFFFFFFFFFFFF) × (others + then .first ≤ 0xFFFFFFFFFFFFFFFF) ⌝ }
+    ensures both { λ r. ⌜ ((ps qs : List ℕ) → Tells ps met → Tells qs then → Tells (ps ++ behind others qs) r) ⌝ }
+    ensures sum { λ r. ⌜ r .count ≡ met .count + then .count ⌝ }
+{
+    if then.count == 0 {
+        return met;
+    }
+    if met.count == 0 {
+        return Notes {
+            count: then.count,
+            first: others + then.first,
+        };
+    }
+    Notes {
+        count: met.count + then.count,
+        first: met.first,
+    }
+}
+
+// Warns of records of kind 6.
+fn warn(met: Notes) {
+    if met.count == 0 {
+        return;
+    }
+    io::write_all(
+        STDERR_FILENO,
+        b"warning: records of kind 6, a restore in recordings for `same` and unknown to the player: ",
+    );
+    io::print_decimal(STDERR_FILENO, met.count as u64);
+    io::write_all(STDERR_FILENO, b", the first on line ");
+    io::print_decimal(STDERR_FILENO, met.first as u64);
+    io::write_all(STDERR_FILENO, b"\n");
+}
+
+// ---- blocks
+
+// What is left after a block: the session, its records of kind 6, and whether to go on.
 struct Turned {
     session: Session,
+    restores: Notes,
     more: bool,
 }
 
@@ -28,13 +128,15 @@ fn turn(fd: i32, table: &[u8], s: Session) -> Turned
 {
     let mut input = [0u8; BLOCK];
     let mut output = [0u8; line::LONGEST * RECORDS];
-    let got = io::read_full(fd, &mut input);
+    let got = read_block(fd, &mut input);
+    let met = restores(&input[..got]);
     let played = play::play(table, s, &input[..got], &mut output);
     let written = played.written;
-    let went = io::write_all(STDOUT_FILENO, &output[..written]);
+    let went = print(&output[..written]);
     let after = played.session;
     Turned {
         session: after,
+        restores: met,
         more: went & (got == BLOCK),
     }
 }
@@ -42,13 +144,19 @@ fn turn(fd: i32, table: &[u8], s: Session) -> Turned
 // Plays block after block from a fresh session. No input reaches the number of blocks that is counted down from.
 fn run(fd: i32, table: &[u8]) {
     let mut s = Session::fresh();
-    let mut left = u64::MAX;
+    let mut met = Notes::none();
+    let mut others: usize = 0;
+    let mut left: u64 = 1000000000000000;
     while left > 0 {
         let t = turn(fd, table, s);
         s = t.session;
+        let here = t.restores;
+        met = joined(met, others, here);
         if !t.more {
+            warn(met);
             return;
         }
+        others += RECORDS;
         left -= 1;
     }
 }
@@ -58,18 +166,18 @@ fn read_table(fd: i32, buffer: &mut [u8]) -> usize
     requires { ⌜ longestTable ≤ length (now buffer) ⌝ }
     ensures { λ r. ⌜ r ≤ longestTable ⌝ }
 {
-    let got = io::read_full(fd, &mut buffer[..2]);
+    let got = read_block(fd, &mut buffer[..2]);
     let Beginning::Cut(long) = table::beginning_of(&buffer[..got]) else {
         return got;
     };
-    got + io::read_full(fd, &mut buffer[got..long])
+    got + read_block(fd, &mut buffer[got..long])
 }
 
 // Says that there is no table.
 fn stop() {
     let mut line = [0u8; line::LONGEST];
     let long = input::write_stop(&mut line);
-    io::write_all(STDOUT_FILENO, &line[..long]);
+    print(&line[..long]);
 }
 
 // Plays what a file descriptor gives: the table, then the records. What is read and written no contract can say; what the

@@ -3,3 +3,4 @@ pub mod Writing
 pub mod EveryList
 pub mod Endings
 pub mod Replaying
+pub mod Ignoring

@@ -55,7 +55,7 @@ module _ (l : List ℕ) (p : ℕ) where
   abbrev pub callAt : List Call
   callAt = callOf (getD l p 0) (getD l (p + 1) 0) (wordAt l p) imageAt
 
-  image-at : firstImage (drop p l) ≡ lengthAt
+  pub image-at : firstImage (drop p l) ≡ lengthAt
   image-at = rw (getD-drop p l 0 0, getD-drop p l 2 0, getD-drop p l 3 0, getD-drop p l 4 0, getD-drop p l 5 0, add-zero p)
 
   call-at : firstCall (drop p l) ≡ callAt

@@ -1,2 +1,3 @@
 pub mod CallBytes
 pub mod Replay
+pub mod Ignored

@@ -5,7 +5,7 @@ ghost use Prim.Native.Nat.{_≤_};
 ghost use mathlib.Core.Path.{_≡_};
 ghost use mathlib.Core.Logic.{_↔_};
 ghost use mathlib.Core.Bool.{true, false};
-ghost use lib.ListN.{length};
+ghost use lib.ListN.{length, drop};
 ghost use Rattle.model.specs.Table.{tableRefusal};
 ghost use Rattle.model.specs.Image.{image, longestImage};
 ghost use Rattle.model.specs.Histories.{after};
@@ -13,8 +13,11 @@ ghost use Rattle.model.specs.Promises.{Lifelong};
 ghost use Rattle.session.specs.Stored.{view, storageBlank, soundStored, Ready};
 ghost use Rattle.calls.specs.StoredCalls.{byProgram};
 ghost use Rattle.navigator.specs.Promise3.{reached, KeepsPromise3};
+ghost use Rattle.notes.specs.Places.{Tells};
 ghost use Rattle.recording.specs.CallBytes.{imageLength, callOf, callsIn};
+ghost use Rattle.recording.specs.Ignored.{ignoredFrom};
 ghost use Rattle.recording.specs.Replay.{replayed, EveryList, EndAlike, TellsImages};
+use notes::Notes;
 use session::Session;
 
 // The length of the longest image: each task has a root, a height and its screens, and six bytes follow the last.
@@ -143,4 +146,25 @@ pub fn same_ending(table: &[u8], first: &[u8], second: &[u8]) -> Ending
         refusal: 0,
         alike: same_image(s, t),
     }
+}
+
+// The records that are no call, in the list of calls from a place on: those of an unknown kind, and one that is cut at the end.
+pub fn ignored(input: &[u8], from: usize) -> Notes
+    requires { ⌜ from ≤ length (now input) ⌝ }
+    ensures { λ r. ⌜ Tells (ignoredFrom from (drop from (now (input .entry)))) r ⌝ }
+{
+    let mut seen = Notes::none();
+    let mut p = from;
+    while input.len() - p >= 6 {
+        let kind = input[p];
+        let word = flags::word_at(input, p);
+        let behind = p + 6;
+        let n = image_length(kind, word);
+        if n > input.len() - behind {
+            return seen.noted(true, p);
+        }
+        seen = seen.noted((kind == 0) | (kind > 6), p);
+        p = behind + n;
+    }
+    seen.noted(p < input.len(), p)
 }

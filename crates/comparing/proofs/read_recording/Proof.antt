@@ -55,6 +55,15 @@ same-length-2 c = search needs
 returns-2 : tie.Need-returns-2
 returns-2 c = rw (c .unread2 .ensures) (zero-le, λ h. absurd (false≢true h))
 
+slice-reshare-prefix-warn : tie.Need-slice-reshare-prefix-warn
+slice-reshare-prefix-warn c = search needs
+
+slice-aggregate-warn : tie.Need-slice-aggregate-warn
+slice-aggregate-warn c = sym (length-take-le _ _ (slice-reshare-prefix-warn (c .before)))
+
+warn-requires : tie.Need-warn-requires
+warn-requires c κs = search needs
+
 same-length-3 : tie.Need-same-length-3
 same-length-3 c = search needs
 
@@ -81,5 +90,8 @@ read-recording-spec =
     unread-requires-2
     same-length-2
     returns-2
+    slice-reshare-prefix-warn
+    slice-aggregate-warn
+    warn-requires
     same-length-3
     returns-3)

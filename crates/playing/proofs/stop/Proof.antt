@@ -8,8 +8,8 @@ use Rattle.playing.proofs.stop.Tie as tie
 array-share-prefix-line : tie.Need-array-share-prefix-line
 array-share-prefix-line c = search needs
 
-slice-aggregate-write-all : tie.Need-slice-aggregate-write-all
-slice-aggregate-write-all c = sym (length-take-le _ _ (array-share-prefix-line (c .before)))
+slice-aggregate-print : tie.Need-slice-aggregate-print
+slice-aggregate-print c = sym (length-take-le _ _ (array-share-prefix-line (c .before)))
 
 pub stop-spec : {M : Type 1} → statement M
 stop-spec =
@@ -18,6 +18,6 @@ stop-spec =
     (λ c. search needs)
     (λ c κs. search needs)
     array-share-prefix-line
-    slice-aggregate-write-all
+    slice-aggregate-print
     (λ c κs. search needs)
     (λ c. search needs))

@@ -11,6 +11,7 @@ use Rattle.model.specs.Player.{Record, recordsIn, sessionAfter, longestLine}
 use Rattle.model.proofs.Logic.{and-right}
 use Rattle.session.specs.Stored.{view, hold}
 use Rattle.play.proofs.BlockLaws.{records-few}
+use Rattle.playing.proofs.Restoring.{met-few}
 use Rattle.playing.proofs.turn.Statement.{statement}
 use Rattle.playing.proofs.turn.Tie as tie
 
@@ -30,8 +31,8 @@ full-whole e f h = omega arith
 all-fit : (block : List ℕ) {n room : ℕ} → length block ≤ 6 * records → n ≡ room → longestLine * records ≤ n → take (room / longestLine) (recordsIn block) ≡ recordsIn block
 all-fit block {n} {room} short e h = let few = records-few block in take-all (room / longestLine) (recordsIn block) (omega arith)
 
-slice-aggregate-read-full : tie.Need-slice-aggregate-read-full
-slice-aggregate-read-full c = search needs
+slice-aggregate-read-block : tie.Need-slice-aggregate-read-block
+slice-aggregate-read-block c = search needs
 
 slice-aggregate-play-2 : tie.Need-slice-aggregate-play-2
 slice-aggregate-play-2 c = search needs
@@ -39,25 +40,28 @@ slice-aggregate-play-2 c = search needs
 array-share-prefix-output : tie.Need-array-share-prefix-output
 array-share-prefix-output c = rw (c .before .play .kept .1 .1 .1 .0) (c .before .play .ensures .1 .1 .1 .1 .1)
 
-slice-aggregate-write-all : tie.Need-slice-aggregate-write-all
-slice-aggregate-write-all c = sym (length-take-le _ _ (array-share-prefix-output (c .before)))
+slice-aggregate-print : tie.Need-slice-aggregate-print
+slice-aggregate-print c = sym (length-take-le _ _ (array-share-prefix-output (c .before)))
 
 returns : tie.Need-returns
 returns c =
     let play = c .before .before .before .before in
-    let read = play .before .before .before .before in
+    let restores = play .before .before .before in
+    let read = restores .before .before .before in
     let a = read .before .before .before .args in
-    let block = take (read .read-full .result) (read .read-full .last .1 .0) in
-    let long : length block ≡ read .read-full .result =
-    length-take-le (read .read-full .result) (read .read-full .last .1 .0) (read .read-full .ensures .0) in
-    let few = within (read .read-full .ensures .0) (read .read-full .kept .1 .0) (slice-aggregate-read-full (read .before)) (leb-true _ (6 * records) refl) in
+    let block = take (read .read-block .result) (read .read-block .last .1 .0) in
+    let long : length block ≡ read .read-block .result =
+    length-take-le (read .read-block .result) (read .read-block .last .1 .0) (read .read-block .ensures .0) in
+    let few = within (read .read-block .ensures .0) (read .read-block .kept .1 .0) (slice-aggregate-read-block (read .before)) (leb-true _ (6 * records) refl) in
     record {
       block = block;
       played =
           play .play .ensures .0
           ∙ ap (λ (rs : List Record). hold (sessionAfter (a .table .now) (view (a .s)) rs))
           (all-fit block (omega arith) (slice-aggregate-play-2 (play .before)) (leb-true (longestLine * records) _ refl));
-      whole = λ h. full-whole long (eqb-true _ _ (and-right (c .before .write-all .result) _ h)) refl;
+      met = restores .restores .ensures;
+      few = met-few (recordsIn block) (restores .restores .ensures) (let k = records-few block in omega arith);
+      whole = λ h. full-whole long (eqb-true _ _ (and-right (c .before .print .result) _ h)) refl;
       keeps = play .play .ensures .1 .1 .1 .1 .0;
     }
 
@@ -65,13 +69,16 @@ pub turn-spec : {M : Type 1} → statement M
 turn-spec =
     tie.close
     (tie.spec
-    slice-aggregate-read-full
+    slice-aggregate-read-block
+    (λ c κs. search needs)
+    (λ c. search needs)
+    (λ c. search needs)
     (λ c κs. search needs)
     (λ c. search needs)
     (λ c. search needs)
     slice-aggregate-play-2
     (λ c κs. search needs)
     array-share-prefix-output
-    slice-aggregate-write-all
+    slice-aggregate-print
     (λ c κs. search needs)
     returns)

@@ -21,6 +21,8 @@ pub fn run<T>(
     let spawned = Command::new(program)
         .stdin(Stdio::piped())
         .stdout(Stdio::piped())
+        // It warns of kind 6, which random input has; warnings are not compared.
+        .stderr(Stdio::null())
         .spawn();
     let mut child = match spawned {
         Ok(child) => child,
