@@ -11,8 +11,8 @@ use Rattle.model.specs.Lists.{isEmpty}
 use Rattle.model.specs.Refusals.{Check, refusal}
 use Rattle.model.specs.Table.{tableRefusal, tableShaped, tableFilled}
 use Rattle.model.specs.Session.{Stack, State}
-use Rattle.model.specs.Answers.{lookAt, refused, answerBy, settle}
-use Rattle.model.specs.Calls.{Call, launch, back, look, checksIn, ownChecks, done, answerTo}
+use Rattle.model.specs.Answers.{lookAt, refused, answerBy}
+use Rattle.model.specs.Calls.{Call, launch, back, look, checksIn, ownChecks, done}
 use Rattle.model.proofs.RefusalLaws.{refusal-skip, refusal-passes, refusal-append-refused, checks-bad-table, checks-unsound, checks-own}
 use Rattle.model.proofs.Keeps.{done-sound}
 use Rattle.session.specs.declared.Session.{Session}
@@ -22,7 +22,7 @@ use Rattle.session.proofs.Known.{Sized}
 use Rattle.session.proofs.StoredLaws.{held, view-hold, view-count, hold-sound, hold-sized, sound-fits, sound-blank, blank-few, sound-view}
 use Rattle.answer.proofs.LookLaws.{answer-refused, answer-accepted, sound-seen}
 use Rattle.calls.specs.declared.Reply.{Reply}
-use Rattle.calls.specs.StoredCalls.{reply, refusalStored, sharedRefusal, callStored, KeepsSound}
+use Rattle.calls.specs.StoredCalls.{reply, givenBy, refusalStored, sharedRefusal, callStored, KeepsSound}
 
 -- the call k on c left the session s, with the refusal n
 pub record Left (tb : List ℕ) (c : Session) (k : Call) (n : ℕ) (s : Session) : Type 0 where
@@ -68,10 +68,6 @@ module _ (tb : List ℕ) (c : Session) where
   -- ---- calls
 
   module _ (k : Call) where
-    -- what the call gives by its refusal
-    abbrev pub settledBy : ℕ → Reply
-    settledBy n = settle reply n c (hold (done tb (view c) k)) (answerTo tb (view c) k)
-
     -- the number of a call that one of the shared checks refuses, and of one that they pass
     pub number-shared : (n : ℕ) → sharedRefusal tb c ≡ n → (n ≡ 0 → ⊥) → refusalStored tb c k ≡ n
     unfolding refusalStored sharedRefusal
@@ -86,19 +82,19 @@ module _ (tb : List ℕ) (c : Session) where
     pub call-refused : (n : ℕ) → sharedRefusal tb c ≡ n → (n ≡ 0 → ⊥) → callStored tb c k ≡ reply c (refused n)
     unfolding callStored
     call-refused zero e z = absurd (z refl)
-    call-refused (suc n) e z = ap settledBy (number-shared (suc n) e z)
+    call-refused (suc n) e z = ap (givenBy tb c k) (number-shared (suc n) e z)
 
     -- only the call's own checks are left
-    pub call-settled : Ready tb c → callStored tb c k ≡ settledBy (refusal (ownChecks tb (view c) k))
+    pub call-settled : Ready tb c → callStored tb c k ≡ givenBy tb c k (refusal (ownChecks tb (view c) k))
     unfolding callStored
-    call-settled h = ap settledBy (number-own h)
+    call-settled h = ap (givenBy tb c k) (number-own h)
 
     -- a sound session stays sound
     pub call-keeps : KeepsSound tb c (callStored tb c k .session)
     call-keeps g e =
         rw (call-settled (record { good = g; sound = e })) (go (refusal (ownChecks tb (view c) k)) refl)
       where
-        go : (n : ℕ) → refusal (ownChecks tb (view c) k) ≡ n → soundStored tb (settledBy n .session) ≡ true
+        go : (n : ℕ) → refusal (ownChecks tb (view c) k) ≡ n → soundStored tb (givenBy tb c k n .session) ≡ true
         go zero f = hold-sound tb (done tb (view c) k) (done-sound tb g (view c) (sound-view tb c e) k f)
         go (suc n) f = e
 
@@ -109,13 +105,13 @@ module _ (tb : List ℕ) (c : Session) where
     -- refused by a check of its own
     pub own-refused : Ready tb c → (n : ℕ) → refusal (ownChecks tb (view c) k) ≡ n → (n ≡ 0 → ⊥) → callStored tb c k ≡ reply c (refused n)
     own-refused h zero e z = absurd (z refl)
-    own-refused h (suc n) e z = call-settled h ∙ ap settledBy e
+    own-refused h (suc n) e z = call-settled h ∙ ap (givenBy tb c k) e
 
     -- accepted: the session that it makes, and a look at it
     pub own-accepted : Ready tb c → refusal (ownChecks tb (view c) k) ≡ 0
         → callStored tb c k ≡ reply (hold (done tb (view c) k)) (lookAt (view (hold (done tb (view c) k))))
     own-accepted h e =
-        call-settled h ∙ ap settledBy e
+        call-settled h ∙ ap (givenBy tb c k) e
         ∙ ap (λ (v : State ℕ). reply (hold (done tb (view c) k)) (lookAt v)) (sym (view-hold (done tb (view c) k)))
 
     -- which can be looked at

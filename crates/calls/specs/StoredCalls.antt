@@ -24,8 +24,12 @@ refusalStored tb c k = refusal (checksIn tb (soundStored tb c) (ownChecks tb (vi
 unfoldable pub sharedRefusal : List ℕ → Session → ℕ
 sharedRefusal tb c = refusal (checksIn tb (soundStored tb c) [])
 
+-- what a call gives with the refusal n (0 if none)
+abbrev pub givenBy : List ℕ → Session → Call → ℕ → Reply
+givenBy tb c k n = settle reply n c (hold (done tb (view c) k)) (answerTo tb (view c) k)
+
 unfoldable pub callStored : List ℕ → Session → Call → Reply
-callStored tb c k = settle reply (refusalStored tb c k) c (hold (done tb (view c) k)) (answerTo tb (view c) k)
+callStored tb c k = givenBy tb c k (refusalStored tb c k)
 
 -- the program's calls under the table tb, one after the other (document 01, "Lists in demand 3")
 abbrev pub byProgram : List ℕ → Machine Session Call Answer

@@ -1,8 +1,9 @@
 // What a warning tells of things that were met: how many, and the place of the first.
 
-ghost use Prim.Native.Nat.{ℕ, _<_};
-ghost use mathlib.Core.List.{List, [], _++_};
-ghost use Rattle.notes.specs.Places.{placeIf, Tells};
+ghost use Prim.Native.Nat.{_<_};
+ghost use mathlib.Core.Path.{_≡_};
+ghost use mathlib.Core.List.{[]};
+ghost use Rattle.notes.specs.Places.{notedAt, Tells};
 
 pub struct Notes {
     pub count: usize,
@@ -20,7 +21,7 @@ impl Notes {
     // Another one was met at this place, where `met` says so.
     pub fn noted(self, met: bool, place: usize) -> Notes
         requires { ⌜ self .count < 0xFFFFFFFFFFFFFFFF ⌝ }
-        ensures { λ r. ⌜ ((places : List ℕ) → Tells places self → Tells (places ++ placeIf met place) r) ⌝ }
+        ensures { λ r. ⌜ r ≡ notedAt self met place ⌝ }
     {
         if !met {
             return self;

@@ -10,8 +10,8 @@ use lib.ListN.{length, getD, drop, length-drop, length-append, drop-of-length-le
 use lib.Seq.{drop-drop, getD-drop}
 use Rattle.model.specs.Player.{Record, recordsIn}
 use Rattle.notes.specs.declared.Notes.{Notes}
-use Rattle.notes.specs.Places.{placeIf, Tells}
-use Rattle.notes.proofs.Noting.{place-few}
+use Rattle.notes.specs.Places.{placeIf, Tells, notedAt}
+use Rattle.notes.proofs.Noting.{place-few, tells-noted}
 use Rattle.playing.specs.Restores.{restoresFrom, behind}
 
 -- ---- one record
@@ -53,7 +53,7 @@ module _ {l : List ℕ} {n : Notes} {i p : ℕ} (h : Met l n i p) where
       rw (h .rest ∙ ap (λ (ps : List ℕ). h .places ++ ps) (restores-none i (drop p l) (drop-of-length-le l over)) ∙ append-nil (h .places))
       (h .tells)
 
-  module _ (some : p < length l) {n′ : Notes} (more : (ps : List ℕ) → Tells ps n → Tells (ps ++ placeIf (eqb (getD l p 0) 6) i) n′) where
+  module _ (some : p < length l) {n′ : Notes} (more : n′ ≡ notedAt n (eqb (getD l p 0) 6) i) where
     -- with the record at p
     with-one : restoresFrom 1 (recordsIn l) ≡ (h .places ++ placeIf (eqb (getD l p 0) 6) i) ++ restoresFrom (suc i) (recordsIn (drop (p + 6) l))
     with-one =
@@ -66,11 +66,11 @@ module _ {l : List ℕ} {n : Notes} {i p : ℕ} (h : Met l n i p) where
     met-last over =
         rw (with-one ∙ ap (λ (ps : List ℕ). (h .places ++ placeIf (eqb (getD l p 0) 6) i) ++ ps)
         (restores-none (suc i) (drop (p + 6) l) (drop-of-length-le l over)) ∙ append-nil (h .places ++ placeIf (eqb (getD l p 0) 6) i))
-        (more (h .places) (h .tells))
+        (tells-noted (eqb (getD l p 0) 6) i n n′ more (h .places) (h .tells))
 
     pub met-more : p + 6 ≤ length l → Met l n′ (i + 1) (p + 6)
     met-more six =
-        let t = more (h .places) (h .tells) in
+        let t = tells-noted (eqb (getD l p 0) 6) i n n′ more (h .places) (h .tells) in
         let k = t .count in
         let k′ = h .tells .count in
         let f = h .few in

@@ -1,7 +1,7 @@
 -- The place that is reached in a list of calls, and the notes of the records before it that are no call.
 use Prim.Native.Nat.{ℕ, zero, suc, _+_, _-_, _*_, _≤_, _<_}
 use mathlib.Core.Path.{_≡_, refl, sym, _∙_, ap}
-use mathlib.Core.Bool.{Bool, true, false}
+use mathlib.Core.Bool.{Bool, true}
 use mathlib.Core.List.{List, [], _++_, append-assoc}
 use native.Mathlib.Nat.{add-zero}
 use native.Mathlib.Omega.{arith}
@@ -12,8 +12,8 @@ use borrow.Author.Tests.{le-leb, lt-leb, lt-ltb, le-ltb}
 use Rattle.model.specs.Lists.{if_then_else_}
 use Rattle.flags.specs.Words.{wordAt}
 use Rattle.notes.specs.declared.Notes.{Notes}
-use Rattle.notes.specs.Places.{placeIf, Tells}
-use Rattle.notes.proofs.Noting.{place-few}
+use Rattle.notes.specs.Places.{placeIf, Tells, notedAt}
+use Rattle.notes.proofs.Noting.{place-few, tells-noted}
 use Rattle.recording.specs.CallBytes.{imageLength, firstImage, firstWhole}
 use Rattle.recording.specs.Ignored.{unknownKind, ignoredAmong, ignoredFrom}
 use Rattle.recording.proofs.Reading.{lengthAt, image-at}
@@ -72,10 +72,10 @@ left-test long p (suc left) h e = lt-ltb 0 (suc left) (omega arith) ∙ sym (lt-
 module _ {l : List ℕ} {from : ℕ} {n : Notes} {p : ℕ} (h : Noted l from n p) where
   -- a whole record more, with the image behind its six bytes
   pub noted-more : p + 6 ≤ length l → (w i : ℕ) → w ≡ wordAt l p → i ≡ imageLength (getD l p 0) w → i ≤ length l - (p + 6)
-      → (n′ : Notes) → ((ps : List ℕ) → Tells ps n → Tells (ps ++ placeIf (unknownKind (getD l p 0)) p) n′) → Noted l from n′ (p + 6 + i)
+      → (n′ : Notes) → n′ ≡ notedAt n (unknownKind (getD l p 0)) p → Noted l from n′ (p + 6 + i)
   noted-more six w i ew ei fits n′ more =
       let m : i ≡ lengthAt l p = ei ∙ ap (imageLength (getD l p 0)) ew in
-      let t = more (h .places) (h .tells) in
+      let t = tells-noted (unknownKind (getD l p 0)) p n n′ more (h .places) (h .tells) in
       let k = t .count in
       let k′ = h .tells .count in
       let f = h .few in
@@ -97,18 +97,18 @@ module _ {l : List ℕ} {from : ℕ} {n : Notes} {p : ℕ} (h : Noted l from n p
 
   -- what is left is cut, or nothing
   noted-end : (met : Bool) → ignoredFrom p (drop p l) ≡ placeIf met p → (n′ : Notes)
-      → ((ps : List ℕ) → Tells ps n → Tells (ps ++ placeIf met p) n′) → Tells (ignoredFrom from (drop from l)) n′
-  noted-end met e n′ more = rw (h .rest, e) (more (h .places) (h .tells))
+      → n′ ≡ notedAt n met p → Tells (ignoredFrom from (drop from l)) n′
+  noted-end met e n′ more = rw (h .rest, e) (tells-noted met p n n′ more (h .places) (h .tells))
 
   pub noted-cut : p + 6 ≤ length l → (w i : ℕ) → w ≡ wordAt l p → i ≡ imageLength (getD l p 0) w → length l - (p + 6) < i
-      → (n′ : Notes) → ((ps : List ℕ) → Tells ps n → Tells (ps ++ placeIf true p) n′) → Tells (ignoredFrom from (drop from l)) n′
+      → (n′ : Notes) → n′ ≡ notedAt n true p → Tells (ignoredFrom from (drop from l)) n′
   noted-cut six w i ew ei over =
       let m : i ≡ lengthAt l p = ei ∙ ap (imageLength (getD l p 0)) ew in
       let d = length-drop p l in
       noted-end true (ignored-cut p (drop p l) (omega (arith, image-at l p)) ∙ rw (lt-ltb 0 (length (drop p l)) (omega arith)))
 
   pub noted-few : length l - p < 6 → (n′ : Notes)
-      → ((ps : List ℕ) → Tells ps n → Tells (ps ++ placeIf (ltb p (length l)) p) n′) → Tells (ignoredFrom from (drop from l)) n′
+      → n′ ≡ notedAt n (ltb p (length l)) p → Tells (ignoredFrom from (drop from l)) n′
   noted-few few =
       let d = length-drop p l in
       noted-end (ltb p (length l)) (ignored-cut p (drop p l) (omega arith) ∙ ap (λ (b : Bool). placeIf b p) (left-test (length l) p (length (drop p l)) (h .inside) (omega arith)))
