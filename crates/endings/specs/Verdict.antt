@@ -1,22 +1,20 @@
 -- What is said of two recordings' endings, byte for byte, in ASCII.
 use Prim.Native.Nat.{ℕ, zero, suc, _+_, _*_}
-use mathlib.Core.List.{List, [], _∷_, _++_}
+use mathlib.Core.List.{List, _++_}
 use lib.ListN.{length}
 use Rattle.model.specs.Lists.{if_then_else_}
-use Rattle.model.specs.Player.{newline, decimal, lineOf, longestLine}
+use Rattle.model.specs.Texts.{ascii}
+use Rattle.model.specs.Player.{decimal, lineOf, longestLine}
 use Rattle.difference.specs.declared.Difference.{Difference}
 
--- "alike" and a newline
 abbrev pub alikeText : List ℕ
-alikeText = 97 ∷ 108 ∷ 105 ∷ 107 ∷ 101 ∷ newline ∷ []
+alikeText = ascii "alike\n"
 
--- "apart after "
 abbrev pub apartText : List ℕ
-apartText = 97 ∷ 112 ∷ 97 ∷ 114 ∷ 116 ∷ 32 ∷ 97 ∷ 102 ∷ 116 ∷ 101 ∷ 114 ∷ 32 ∷ []
+apartText = ascii "apart after "
 
--- " Backs" and a newline
 abbrev pub backsText : List ℕ
-backsText = 32 ∷ 66 ∷ 97 ∷ 99 ∷ 107 ∷ 115 ∷ newline ∷ []
+backsText = ascii " Backs\n"
 
 -- the player's kind of the last record of a look and then k Backs: "4 Back, 5 look"
 abbrev pub lastKind : ℕ → ℕ

@@ -1,11 +1,10 @@
 -- Document 01, "Stacks to prove", in one table with one theorem; and the player's example, byte for byte.
 -- Both are proved by computing: every definition is unfolded.
 use Prim.Native.Nat.{ℕ, _+_}
-use Prim.Native.Char.{code}
-use Prim.Native.String.{String, [] as noText, _∷_ as moreText}
 use mathlib.Core.Path.{_≡_, refl}
 use mathlib.Core.List.{List, [], _∷_, _++_, map}
 use lib.ListN.{replicate}
+use Rattle.model.specs.Texts.{ascii}
 use Rattle.model.specs.Refusals.{refusal}
 use Rattle.model.specs.Table.{modeOf, affinityOf, isSingleTop, isSingleTask, isSingleInstance, rootsOnce, tableShaped, tableFilled}
 use Rattle.model.specs.Session.{State, stack, state, fresh, heightFits, screensKnown, instanceAlone, taskSound, rootsDiffer, mainSound, sound}
@@ -110,11 +109,6 @@ unfolding computing
 stacks = refl
 
 -- ---- the player's example
-
--- the bytes of a text
-abbrev ascii : String → List ℕ
-ascii noText = []
-ascii (moreText c t) = code c ∷ ascii t
 
 -- "Records: 010000000000 020100000000 020300000000 030010000000, four of 040000000000."
 abbrev example : List ℕ

@@ -9,7 +9,7 @@ use lib.Dec.{eqb}
 use Rattle.model.specs.declared.Flags.{Flags}
 use Rattle.model.specs.declared.Group.{Group}
 use Rattle.model.specs.declared.Rule.{Rule}
-use Rattle.model.specs.Lists.{if_then_else_, first, pairwise, All, Pairwise}
+use Rattle.model.specs.Lists.{if_then_else_, first, pairwise, All, Pairwise, FirstFit}
 use Rattle.model.specs.Refusals.{Check, accepted, refusal}
 use Rattle.model.specs.Session.{State, sound}
 use Rattle.model.specs.Rules.{rulesOf, groupOf, soughtBy, fits, chooseIn, choose}
@@ -17,14 +17,6 @@ use Rattle.model.specs.Calls.{Call, launch, start, finishingStart, back,
 use Rattle.model.proofs.Logic.{not-decides, eqb-decides, pairwise-decides}
 
 -- ---- the first that fits
-
--- x is the first of xs that passes the test
-pub record FirstFit {A : Type 0} (test : A → Bool) (xs : List A) (x : A) : Type 0 where
-  pub before : List A
-  pub behind : List A
-  pub stands : xs ≡ before ++ x ∷ behind
-  pub fails : All (λ y. test y ≡ false) before
-  pub fits : test x ≡ true
 
 -- what `first` gives: its default where no element passes the test, and else the first that does
 pub data First {A : Type 0} (default : A) (test : A → Bool) (xs : List A) : A → Type 0 where

@@ -1,5 +1,6 @@
 pub mod Lists
 pub mod Written
+pub mod Texts
 pub mod Refusals
 pub mod Table
 pub mod Session
@@ -13,4 +14,7 @@ pub mod Calls
 pub mod Marks
 pub mod Histories
 pub mod Player
+pub mod Reasons
+pub mod Sentences
+pub mod Explained
 pub mod Promises

@@ -1,7 +1,8 @@
 -- Words about tests and lists that the other definitions are written in. Nothing here is about navigation.
 use Prim.Native.Nat.{ℕ, zero, suc}
+use mathlib.Core.Path.{_≡_}
 use mathlib.Core.Bool.{Bool, true, false, _&&_}
-use mathlib.Core.List.{List, [], _∷_}
+use mathlib.Core.List.{List, [], _∷_, _++_}
 
 infixr 1 if_then_else_
 abbrev pub if_then_else_ : {A : Type 0} → Bool → A → A → A
@@ -79,3 +80,11 @@ module _ {A : Type 0} where
   abbrev pub Pairwise : (A → A → Type 0) → List A → Type 0
   Pairwise R [] = Unit {0}
   Pairwise R (x ∷ xs) = All (R x) xs × Pairwise R xs
+
+-- x is the first of xs that passes the test
+pub record FirstFit {A : Type 0} (test : A → Bool) (xs : List A) (x : A) : Type 0 where
+  pub before : List A
+  pub behind : List A
+  pub stands : xs ≡ before ++ x ∷ behind
+  pub fails : All (λ y. test y ≡ false) before
+  pub fits : test x ≡ true

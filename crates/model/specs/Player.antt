@@ -1,6 +1,6 @@
 -- Document 01, "Player": how its input is read, and the text that it prints, byte for byte.
 use Prim.Native.Nat.{ℕ, _+_, _*_, _/_, _%_}
-use mathlib.Core.Bool.{Bool, _&&_}
+use mathlib.Core.Bool.{Bool, _&&_, _||_}
 use mathlib.Core.List.{List, [], _∷_, _++_}
 use lib.Dec.{leb, ltb, eqb}
 use lib.ListN.{length, take, drop}
@@ -65,6 +65,10 @@ requestOf kind b w =
     if eqb kind 3 then asks (finishingStart b w) else
     if eqb kind 4 then asks back else
     if eqb kind 5 then asks look else unplayable
+
+-- "2 start, 3 finishing start"
+abbrev pub isStart : ℕ → Bool
+isStart kind = eqb kind 2 || eqb kind 3
 
 -- "flag word high byte first"
 abbrev pub wordOf : ℕ → ℕ → ℕ → ℕ → ℕ

@@ -70,6 +70,16 @@ pub struct Choice {
     pub found: Found,
 }
 
+// Why a start went as it did: its refusal (0 if none), the number of its rule, the place of the task found (0 if none), and
+// how it was found (0 none, 1 by root, 2 by affinity).
+#[repr(C)]
+pub struct Reason {
+    pub refusal: u8,
+    pub rule: u8,
+    pub place: u8,
+    pub found: u8,
+}
+
 // What is done with the screens of a task: nothing; empty, push B; clear to B; lift; push B.
 pub enum Change {
     Keep,

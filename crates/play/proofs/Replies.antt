@@ -9,7 +9,7 @@ use Rattle.model.specs.Table.{tableRefusal}
 use Rattle.model.specs.Session.{State, fresh, mostTasks, sound}
 use Rattle.model.specs.Answers.{outcome, refused, settle}
 use Rattle.model.specs.Calls.{ownChecks, done, answerTo, refusalOf, call}
-use Rattle.model.specs.Player.{Request, unplayable, asks, requestOf, outcomeOf}
+use Rattle.model.specs.Player.{Request, unplayable, asks, isStart, requestOf, outcomeOf}
 use Rattle.model.proofs.RefusalLaws.{checks-bad-table}
 use Rattle.model.proofs.Sound.{Sound}
 use Rattle.model.proofs.Keeps.{fresh-sound, call-sound}
@@ -25,7 +25,7 @@ use Rattle.calls.specs.StoredCalls.{reply, sharedRefusal}
 use Rattle.calls.proofs.Settling.{shared-bad-table, shared-passed, call-refused}
 use Rattle.calls.proofs.PlanSettling.{Gives, still-gives, look-gives, launch-gives, back-gives, start-gives}
 use Rattle.calls.proofs.HistoryLaws.{storedOutcome, call-held}
-use Rattle.play.specs.Steps.{Playable, replyStored, isStart, SoughtFor, PlannedFor, planFor}
+use Rattle.play.specs.Steps.{Playable, replyStored, SoughtFor, PlannedFor, planFor}
 use Rattle.play.proofs.Requests.{Kind, launches, starts, finishes, backs, looks, unknown, kind-of, request-1, request-2, request-3, request-4, request-5}
 
 -- ---- sessions that can be played on

@@ -5,8 +5,7 @@ use mathlib.Core.Bool.{Bool, true, false}
 use lib.Dec.{eqb}
 use borrow.Author.Tests.{eqb-true, eqb-false, ne-eqb}
 use Rattle.model.specs.Calls.{launch, start, finishingStart, back, look}
-use Rattle.model.specs.Player.{unplayable, asks, requestOf}
-use Rattle.play.specs.Steps.{isStart}
+use Rattle.model.specs.Player.{unplayable, asks, isStart, requestOf}
 
 module _ (kind b w : ℕ) where
   pub request-1 : kind ≡ 1 → requestOf kind b w ≡ asks launch

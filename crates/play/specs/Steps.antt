@@ -1,9 +1,8 @@
 -- What can be played on; and the plan of a record.
 use Prim.Native.Nat.{ℕ}
 use mathlib.Core.Path.{_≡_}
-use mathlib.Core.Bool.{Bool, true, false, _||_}
+use mathlib.Core.Bool.{Bool, true, false}
 use mathlib.Core.List.{List}
-use lib.Dec.{eqb}
 use Rattle.model.specs.Table.{tableRefusal}
 use Rattle.model.specs.Answers.{refused}
 use Rattle.model.specs.Calls.{launch, start, finishingStart, back, look, restore}
@@ -30,10 +29,6 @@ replyStored tb c unplayable = reply c (refused 9)
 replyStored tb c (asks k) = callStored tb c k
 
 -- ---- its plan
-
--- "2 start, 3 finishing start"
-abbrev pub isStart : ℕ → Bool
-isStart kind = eqb kind 2 || eqb kind 3
 
 -- a start seeks a task, any other record does not; k is the refusal of the table
 abbrev pub SoughtFor : Bool → List ℕ → Session → ℕ → ℕ → ℕ → Sought → Type 0

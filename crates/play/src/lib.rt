@@ -4,10 +4,10 @@
 ghost use Prim.Native.Nat.{_+_, _*_, _≤_};
 ghost use mathlib.Core.Path.{_≡_};
 ghost use lib.ListN.{length, take};
-ghost use Rattle.model.specs.Player.{requestOf, recordsIn, textOf, sessionAfter, longestLine};
+ghost use Rattle.model.specs.Player.{isStart, requestOf, recordsIn, textOf, sessionAfter, longestLine};
 ghost use Rattle.model.specs.Written.{written as writtenInto};
 ghost use Rattle.session.specs.Stored.{view, hold, Ready};
-ghost use Rattle.play.specs.Steps.{Playable, isStart, SoughtFor, PlannedFor, planFor};
+ghost use Rattle.play.specs.Steps.{Playable, SoughtFor, PlannedFor, planFor};
 ghost use Rattle.play.specs.Fitting.{fitting, bytesTaken, fieldsAt, Plays};
 use plans::Plan;
 use session::Session;

@@ -96,15 +96,16 @@ module _ (tb : List ℕ) (c : Session) (b w k : ℕ) (passed : k ≡ 0) (fin : B
     chosen-is : x ≡ chosenStored tb c b (flagsOf w)
     chosen-is =
         let n = chooses .number in
+        let q = chooses .rule in
         let d = chooses .effect in
         let p = chooses .place in
-        λ i. record { number = n i; effect = d i; place = p i }
+        λ i. record { number = n i; rule = q i; effect = d i; place = p i }
 
     module _ (room : x .number ≡ 0) {t : Task} (task : t ≡ taskBehind c j) where
       pub chosen-plannable : Plannable tb c b (flagsOf w) t x
       chosen-plannable =
           record {
-            chosen = record { number = chooses .number; effect = chooses .effect; place = chooses .place; index = refl };
+            chosen = record { number = chooses .number; rule = chooses .rule; effect = chooses .effect; place = chooses .place; index = refl };
             task = task ∙ ap (taskBehind c) (chooses .index);
             room = room;
           }

@@ -57,6 +57,7 @@ pub record SoughtFrom (tb : List ℕ) (c : Session) (b w k : ℕ) (x : Sought) :
 -- k is the index of the task found
 pub record Chooses (tb : List ℕ) (c : Session) (b : ℕ) (f : Flags) (k : ℕ) (x : Chosen) : Type 0 where
   pub number : x .number ≡ roomRefusal tb c b f
+  pub rule : x .rule ≡ choose tb (view c) b f .rule
   pub effect : x .effect ≡ effectOf (choose tb (view c) b f .rule)
   pub place : x .place ≡ placeOf (choose tb (view c) b f .found)
   pub index : k ≡ indexOf (choose tb (view c) b f .found)
@@ -94,6 +95,7 @@ abbrev pub chosenStored : List ℕ → Session → ℕ → Flags → Chosen
 chosenStored tb c b f =
     record {
       number = roomRefusal tb c b f;
+      rule = choose tb (view c) b f .rule;
       effect = effectOf (choose tb (view c) b f .rule);
       place = placeOf (choose tb (view c) b f .found);
     }

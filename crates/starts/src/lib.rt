@@ -14,6 +14,7 @@ use model::Flags;
 use model::Found;
 use model::Group;
 use model::Mark;
+use model::Rule;
 use plans::Plan;
 use session::Session;
 use session::Task;
@@ -90,15 +91,16 @@ pub fn seek(table: &[u8], s: Session, b: u8, word: u32, number: u8) -> Sought
     seek_task(table, s, b, flags::read(word))
 }
 
-// What is chosen: 23, 24 or 0, what is done, and the place of the task found.
+// What is chosen: 23, 24 or 0, the rule, what it does, and the place of the task found.
 pub struct Chosen {
     pub number: u8,
+    pub rule: Rule,
     pub effect: Effect,
     pub place: u8,
 }
 
 // t is the task at the index.
-fn choose(table: &[u8], s: Session, t: Task, sought: Sought, b: u8, f: Flags) -> Chosen
+pub fn choose(table: &[u8], s: Session, t: Task, sought: Sought, b: u8, f: Flags) -> Chosen
     requires { ⌜ Startable (now table) s b × Seeks (now table) s b f sought × (t ≡ taskBehind s (sought .index)) ⌝ }
     ensures { λ r. ⌜ Chooses (now (table .entry)) s b f (sought .index) r ⌝ }
 {
@@ -108,6 +110,7 @@ fn choose(table: &[u8], s: Session, t: Task, sought: Sought, b: u8, f: Flags) ->
     let effect = rules::effect_of(rule);
     Chosen {
         number: rules::room_refusal(s.n, t, effect),
+        rule: rule,
         effect: effect,
         place: rules::place_of(found),
     }

@@ -64,6 +64,7 @@ returns c =
     let d = effect .effect-of .ensures ∙ ap (λ (x : Choice). effectOf (x .rule)) e in
     record {
       number = c .before .room-refusal .ensures tb (view (a .s)) (a .b) f (subst (λ (x : Choice). Shows (view (a .s)) (x .found) (a .t)) e (shows start)) (counted tb (a .s) (a .b) (sizes start) (start .pre .0)) d;
+      rule = ap (λ (x : Choice). x .rule) e;
       effect = d;
       place = c .place-of .ensures ∙ ap (λ (x : Choice). placeOf (x .found)) e;
       index = start .pre .1 .index ∙ ap (λ (x : Choice). indexOf (x .found)) e;

@@ -1,0 +1,97 @@
+-- Document 02, request 1, "Which rule moved my seller?": the rule of a start and the task that was found for it.
+use Prim.Native.Nat.{ℕ, zero, suc, pred}
+use mathlib.Core.Path.{_≡_}
+use mathlib.Core.List.{List, _++_}
+use lib.Dec.{eqb}
+use lib.ListN.{getD}
+use Rattle.model.specs.declared.Choice.{Choice}
+use Rattle.model.specs.declared.Found.{Found}
+use Rattle.model.specs.declared.Group.{Group}
+use Rattle.model.specs.declared.Reason.{Reason}
+use Rattle.model.specs.declared.Rule.{Rule}
+use Rattle.model.specs.Lists.{FirstFit}
+use Rattle.model.specs.Session.{State}
+use Rattle.model.specs.Flags.{flagsOf}
+use Rattle.model.specs.Search.{placeOf}
+use Rattle.model.specs.Rules.{rulesOf, groupOf, soughtBy, fits}
+use Rattle.model.specs.Effects.{effectOf, carryOut}
+use Rattle.model.specs.Calls.{start, chosen, refusalOf}
+
+-- ---- the four numbers
+
+-- "the rule number R1 to R18"
+unfoldable pub numberOf : Rule → ℕ
+numberOf Rule.R1 = 1
+numberOf Rule.R2 = 2
+numberOf Rule.R3 = 3
+numberOf Rule.R4 = 4
+numberOf Rule.R5 = 5
+numberOf Rule.R6 = 6
+numberOf Rule.R7 = 7
+numberOf Rule.R8 = 8
+numberOf Rule.R9 = 9
+numberOf Rule.R10 = 10
+numberOf Rule.R11 = 11
+numberOf Rule.R12 = 12
+numberOf Rule.R13 = 13
+numberOf Rule.R14 = 14
+numberOf Rule.R15 = 15
+numberOf Rule.R16 = 16
+numberOf Rule.R17 = 17
+numberOf Rule.R18 = 18
+
+-- "whether root or affinity found it (0 none, 1 root, 2 affinity)"
+unfoldable pub howFound : Found → ℕ
+howFound Found.Nowhere = 0
+howFound (Found.ByRoot p) = 1
+howFound (Found.ByAffinity p) = 2
+
+-- "the rule number R1 to R18, the place of the task found (0 if none) and whether root or affinity found it"; "Before the three
+-- stands the refusal, 0 if none"
+abbrev pub reasonOf : Choice → Reason
+reasonOf c = record { refusal = 0; rule = numberOf (c .rule); place = placeOf (c .found); found = howFound (c .found) }
+
+-- "a refused start yields its refusal and three zeros"
+abbrev pub noReason : ℕ → Reason
+noReason k = record { refusal = k; rule = 0; place = 0; found = 0 }
+
+-- by the refusal of the start, 0 if none
+abbrev pub reasonBy : ℕ → Choice → Reason
+reasonBy zero c = reasonOf c
+reasonBy (suc k) c = noReason (suc k)
+
+-- "takes table, session, screen and flags and gives the rule number .."
+unfoldable pub why : List ℕ → State ℕ → ℕ → ℕ → Reason
+why tb s b w = reasonBy (refusalOf tb s (start b w)) (chosen tb s b w)
+
+-- ---- what is to be proved of them
+
+-- the rule that has a number; it is R18 where none has it
+unfoldable pub ruleNumbered : ℕ → Rule
+ruleNumbered n = getD (rulesOf Group.Instance ++ rulesOf Group.Task ++ rulesOf Group.NotApart ++ rulesOf Group.Apart) (pred n) Rule.R18
+
+-- a start of the screen b with the flag word w in the session s
+module _ (tb : List ℕ) (s : State ℕ) (b w : ℕ) where
+  -- the group that "B's mode and 'apart'" select
+  abbrev pub groupSelected : Group
+  groupSelected = groupOf tb s b (flagsOf w)
+
+  -- what that group's search gives
+  abbrev pub taskSought : Found
+  taskSought = soughtBy tb s b (flagsOf w) groupSelected
+
+  -- "this rule, and no earlier one of its group, fits": n is the number of a rule of the group, the rule's test fits, and that
+  -- of each earlier rule of the group does not
+  pub record FitsFirst (n : ℕ) : Type 0 where
+    pub numbered : numberOf (ruleNumbered n) ≡ n
+    pub first : FirstFit (fits tb s b (flagsOf w) taskSought) (rulesOf groupSelected) (ruleNumbered n)
+
+  -- place and how are those of the task that the group's search finds, before the move
+  pub record IsFoundAt (p h : ℕ) : Type 0 where
+    pub place : p ≡ placeOf taskSought
+    pub how : h ≡ howFound taskSought
+
+-- a start of b with the flag word w in s, carried out by a rule; p is the place of the task found. Once the rule is known, the
+-- flags say no more.
+unfoldable pub carriedBy : State ℕ → ℕ → ℕ → Rule → ℕ → State ℕ
+carriedBy s b w r p = carryOut (eqb b) b b (effectOf r) p s

@@ -1,0 +1,83 @@
+// Why a start goes as it does: its refusal, or the rule that moves it and the task that was found for it. Nothing is decided
+// here: the search and the choice are those of a start.
+
+ghost use mathlib.Core.Path.{_≡_};
+ghost use Rattle.model.specs.Reasons.{numberOf, howFound, noReason};
+ghost use Rattle.calls.specs.StoredCalls.{sharedRefusal};
+ghost use Rattle.reasons.specs.StoredReasons.{whyStored};
+use model::Found;
+use model::Reason;
+use model::Rule;
+use session::Session;
+
+// The number of a rule.
+fn number_of(rule: Rule) -> u8
+    ensures { λ r. ⌜ r ≡ numberOf rule ⌝ }
+{
+    match rule {
+        Rule::R1 => 1,
+        Rule::R2 => 2,
+        Rule::R3 => 3,
+        Rule::R4 => 4,
+        Rule::R5 => 5,
+        Rule::R6 => 6,
+        Rule::R7 => 7,
+        Rule::R8 => 8,
+        Rule::R9 => 9,
+        Rule::R10 => 10,
+        Rule::R11 => 11,
+        Rule::R12 => 12,
+        Rule::R13 => 13,
+        Rule::R14 => 14,
+        Rule::R15 => 15,
+        Rule::R16 => 16,
+        Rule::R17 => 17,
+        Rule::R18 => 18,
+    }
+}
+
+// How a task was found: not at all, by its root, or by its affinity.
+fn how_found(found: Found) -> u8
+    ensures { λ r. ⌜ r ≡ howFound found ⌝ }
+{
+    match found {
+        Found::Nowhere => 0,
+        Found::ByRoot(_) => 1,
+        Found::ByAffinity(_) => 2,
+    }
+}
+
+// Of a refused start there is nothing more to say.
+pub fn none(number: u8) -> Reason
+    ensures { λ r. ⌜ r ≡ noReason number ⌝ }
+{
+    Reason {
+        refusal: number,
+        rule: 0,
+        place: 0,
+        found: 0,
+    }
+}
+
+// The reason of a start of b with a flag word; shared is the refusal of the checks that all calls share.
+pub fn why(table: &[u8], s: Session, b: u8, word: u32, shared: u8) -> Reason
+    requires { ⌜ shared ≡ sharedRefusal (now table) s ⌝ }
+    ensures { λ r. ⌜ r ≡ whyStored (now (table .entry)) s b word ⌝ }
+{
+    let sought = starts::seek(table, s, b, word, shared);
+    if sought.number != 0 {
+        return none(sought.number);
+    }
+    let i = sought.index;
+    let t = s.tasks[i];
+    let chosen = starts::choose(table, s, t, sought, b, flags::read(word));
+    if chosen.number != 0 {
+        return none(chosen.number);
+    }
+    Reason {
+        refusal: 0,
+        rule: number_of(chosen.rule),
+        place: chosen.place,
+        found: how_found(sought.found),
+    }
+}
