@@ -31,9 +31,9 @@ use Rattle.starts.specs.Steps.{orElse, made, Plannable, chosenStored, roomyPlan
 use Rattle.starts.proofs.Planning.{start-put, start-puttable, start-uncovers, start-accepts}
 use Rattle.starts.proofs.Seeking.{entered-startable}
 use Rattle.calls.specs.declared.Reply.{Reply}
-use Rattle.calls.specs.StoredCalls.{reply, sharedRefusal, callStored, startCall}
+use Rattle.calls.specs.StoredCalls.{reply, refusalStored, sharedRefusal, callStored, startCall}
 use Rattle.calls.specs.CallPlans.{launchRefusal, mainTask, launchPlan, backRefusal, backMark, backPlan}
-use Rattle.calls.proofs.Settling.{shared-ready, call-refused, own-refused, own-accepted, own-seen, own-sized, empty-view, filled-view, launch-own, launch-22, back-own, back-21}
+use Rattle.calls.proofs.Settling.{shared-ready, number-shared, number-own, call-refused, own-refused, own-accepted, own-seen, own-sized, empty-view, filled-view, launch-own, launch-22, back-own, back-21}
 
 -- the plan p on c gives the reply r
 pub record Gives (c : Session) (p : Plan) (r : Reply) : Type 0 where
@@ -223,6 +223,11 @@ module _ (tb : List ℕ) (c : Session) (z : Sized c) (b w : ℕ) (fin : Bool) wh
       go : (n : ℕ) → entry ≡ n → orElse n roomOf ≡ refusal (startEntry tb (c .n) b w ++ roomChecks (chosen tb (view c) b w) (view c))
       go zero e = sym (refusal-append-passed (startEntry tb (c .n) b w) (roomChecks (chosen tb (view c) b w) (view c)) (start-numbers tb (c .n) b w) e)
       go (suc n) e = sym (refusal-append-refused n (startEntry tb (c .n) b w) (roomChecks (chosen tb (view c) b w) (view c)) e)
+
+  -- the number of a start, from m, the refusal of the shared checks
+  pub start-refusal : (m : ℕ) → m ≡ sharedRefusal tb c → orElse m (orElse entry roomOf) ≡ refusalStored tb c does
+  start-refusal zero shared = let h = shared-ready tb c (sym shared) in start-number h ∙ sym (number-own tb c does h)
+  start-refusal (suc m) shared = sym (number-shared tb c does (suc m) (sym shared) (λ e. omega arith))
 
   -- the session that it makes
   made-done : (f : Bool) → hold (made f tb c b (flagsOf w)) ≡ hold (done tb (view c) (startCall f b w))

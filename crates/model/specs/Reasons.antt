@@ -20,7 +20,7 @@ use Rattle.model.specs.Calls.{start, chosen, refusalOf}
 -- ---- the four numbers
 
 -- "the rule number R1 to R18"
-unfoldable pub numberOf : Rule → ℕ
+abbrev pub numberOf : Rule → ℕ
 numberOf Rule.R1 = 1
 numberOf Rule.R2 = 2
 numberOf Rule.R3 = 3
@@ -41,7 +41,7 @@ numberOf Rule.R17 = 17
 numberOf Rule.R18 = 18
 
 -- "whether root or affinity found it (0 none, 1 root, 2 affinity)"
-unfoldable pub howFound : Found → ℕ
+abbrev pub howFound : Found → ℕ
 howFound Found.Nowhere = 0
 howFound (Found.ByRoot p) = 1
 howFound (Found.ByAffinity p) = 2

@@ -74,10 +74,12 @@ pub fn why(table: &[u8], s: Session, b: u8, word: u32, shared: u8) -> Reason
     if chosen.number != 0 {
         return none(chosen.number);
     }
+    let rule = chosen.rule;
+    let found = sought.found;
     Reason {
         refusal: 0,
-        rule: number_of(chosen.rule),
+        rule: number_of(rule),
         place: chosen.place,
-        found: how_found(sought.found),
+        found: how_found(found),
     }
 }
