@@ -8,10 +8,14 @@ ghost use Rattle.model.specs.Calls.{Call};
 ghost use Rattle.calls.specs.StoredCalls.{reply, callStored};
 ghost use Rattle.image_calls.specs.Restores.{AcceptsImages, BringsBack, SavesAgain};
 ghost use Rattle.image_calls.specs.StoredSaves.{saved, saveStored, BroughtBack, NoOtherHas};
+ghost use Rattle.model.specs.Reasons.{noReason, FitsFirst, IsFoundAt};
+ghost use Rattle.session.specs.Stored.{view};
+ghost use Rattle.reasons.specs.StoredReasons.{whyStored, CarriesOut};
 ghost use Rattle.navigator.specs.Promise3.{KeepsPromise3};
 ghost use Rattle.lent.specs.Abi.{abiNumber};
 use image_calls::SaveReply;
 use model::Answer;
+use model::Reason;
 use session::Session;
 
 // The number of this interface; bindings/abi has its structs and signatures.
@@ -89,6 +93,19 @@ pub extern "C" fn milchkompass_back(table: &[u8], s: &mut Session) -> Answer
     let reply = navigator::back(table, *s);
     *s = reply.session;
     reply.answer
+}
+
+// Why a start of b with a flag word goes as it does: its refusal, or its rule, and where and how the task was found for it.
+#[no_mangle]
+pub extern "C" fn milchkompass_why(table: &[u8], s: Session, b: u8, word: u32) -> Reason
+    ensures gives { λ r. ⌜ r ≡ whyStored (now (table .entry)) s b word ⌝ }
+    ensures refusal { λ r. ⌜ r .refusal ≡ callStored (now (table .entry)) s (Call.start b word) .answer .refusal ⌝ }
+    ensures zeros { λ r. ⌜ ((r .refusal ≡ 0 → ⊥) → r ≡ noReason (r .refusal)) ⌝ }
+    ensures fits { λ r. ⌜ (r .refusal ≡ 0 → FitsFirst (now (table .entry)) (view s) b word (r .rule)) ⌝ }
+    ensures found { λ r. ⌜ (r .refusal ≡ 0 → IsFoundAt (now (table .entry)) (view s) b word (r .place) (r .found)) ⌝ }
+    ensures carries { λ r. ⌜ (r .refusal ≡ 0 → CarriesOut (now (table .entry)) s b word r) ⌝ }
+{
+    navigator::why(table, s, b, word)
 }
 
 // Restore: the session of a whole image, over the one that is lent. A refused restore leaves it.

@@ -8,6 +8,7 @@ pub mod Sessions
 pub mod Sound
 pub mod SearchLaws
 pub mod RuleLaws
+pub mod ReasonLaws
 pub mod RoomLaws
 pub mod Close
 pub mod Effects

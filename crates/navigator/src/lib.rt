@@ -1,6 +1,6 @@
 // The calls of document 01, by value, for any caller. Any table, session and image bytes: each call ends, and its contract
 // says what it gives. The checks that all calls share are made here, and their refusal is passed on. What holds over
-// whole lists of these calls is promise 3 (specs/Promise3), which each of their contracts cites.
+// whole lists of these calls is promise 3 (specs/Promise3), which each of their contracts cites. `why` is no call of a list.
 
 ghost use mathlib.Core.Path.{_≡_};
 ghost use lib.ListN.{take};
@@ -8,9 +8,13 @@ ghost use Rattle.model.specs.Calls.{Call};
 ghost use Rattle.calls.specs.StoredCalls.{sharedRefusal, callStored, KeepsSound};
 ghost use Rattle.image_calls.specs.Restores.{AcceptsImages, BringsBack, SavesAgain};
 ghost use Rattle.image_calls.specs.StoredSaves.{saved, saveStored, BroughtBack, NoOtherHas};
+ghost use Rattle.model.specs.Reasons.{noReason, FitsFirst, IsFoundAt};
+ghost use Rattle.session.specs.Stored.{view};
+ghost use Rattle.reasons.specs.StoredReasons.{whyStored, CarriesOut};
 ghost use Rattle.navigator.specs.Promise3.{KeepsPromise3};
 use calls::Reply;
 use image_calls::SaveReply;
+use model::Reason;
 use session::Session;
 
 // The checks that every call begins with: 1, 2, 20, or 0 where none applies.
@@ -66,6 +70,19 @@ pub fn finish_start(table: &[u8], s: Session, b: u8, word: u32) -> Reply
 {
     let number = shared_refusal(table, s);
     calls::finish_start(table, s, b, word, number)
+}
+
+// Why a start of b with a flag word goes as it does: its refusal, or its rule, and where and how the task was found for it.
+pub fn why(table: &[u8], s: Session, b: u8, word: u32) -> Reason
+    ensures gives { λ r. ⌜ r ≡ whyStored (now (table .entry)) s b word ⌝ }
+    ensures refusal { λ r. ⌜ r .refusal ≡ callStored (now (table .entry)) s (Call.start b word) .answer .refusal ⌝ }
+    ensures zeros { λ r. ⌜ ((r .refusal ≡ 0 → ⊥) → r ≡ noReason (r .refusal)) ⌝ }
+    ensures fits { λ r. ⌜ (r .refusal ≡ 0 → FitsFirst (now (table .entry)) (view s) b word (r .rule)) ⌝ }
+    ensures found { λ r. ⌜ (r .refusal ≡ 0 → IsFoundAt (now (table .entry)) (view s) b word (r .place) (r .found)) ⌝ }
+    ensures carries { λ r. ⌜ (r .refusal ≡ 0 → CarriesOut (now (table .entry)) s b word r) ⌝ }
+{
+    let number = shared_refusal(table, s);
+    reasons::why(table, s, b, word, number)
 }
 
 // Back, on a session that is not empty.
