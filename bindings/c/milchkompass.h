@@ -13,7 +13,7 @@
  *
  * Threads may make calls at the same time, and may share a table and an image, which are only read. A session that is
  * lent by pointer is written in every call, in look too: look stores the session that it read, so its pointer is not
- * const. During the call no other thread reads or writes that session. Save takes a copy. */
+ * const. During the call no other thread reads or writes that session. Save and why take a copy. */
 #ifndef MILCHKOMPASS_H
 #define MILCHKOMPASS_H
 
@@ -124,6 +124,23 @@ typedef struct milchkompass_save_reply {
     size_t length;
 } milchkompass_save_reply;
 
+/* How a task was found. */
+enum milchkompass_found {
+    MILCHKOMPASS_FOUND_NONE = 0,
+    MILCHKOMPASS_FOUND_BY_ROOT = 1,
+    MILCHKOMPASS_FOUND_BY_AFFINITY = 2
+};
+
+/* Why a start goes as it does: the refusal (0 if none), the number of the rule that it uses, 1 to 18 for R1 to R18, the
+ * place (from 1, before the start) of the task found for it, 0 if none, and how that was found. A refused start has
+ * three zeros behind its refusal. */
+typedef struct milchkompass_reason {
+    uint8_t refusal;
+    uint8_t rule;
+    uint8_t place;
+    uint8_t found;
+} milchkompass_reason;
+
 /* Launch. After it the session is one task whose root and only screen is the main screen; it is the main task. Its own
  * check: 22. */
 milchkompass_answer milchkompass_launch(const uint8_t *table, size_t table_length, milchkompass_session *s);
@@ -137,6 +154,11 @@ milchkompass_answer milchkompass_start(const uint8_t *table, size_t table_length
  * call, if that still stands. Its own checks: those of a start, made before the removal. */
 milchkompass_answer milchkompass_finish_start(const uint8_t *table, size_t table_length, milchkompass_session *s,
                                               uint8_t b, uint32_t word);
+
+/* Why. The reason of a start, or of a finishing start, of screen b with a flag word in this session, which is not lent
+ * and stays. Its checks are those of a start. */
+milchkompass_reason milchkompass_why(const uint8_t *table, size_t table_length, milchkompass_session s, uint8_t b,
+                                     uint32_t word);
 
 /* Back. After it the front screen is gone, and its task too if that was its last. Its own check: 21. */
 milchkompass_answer milchkompass_back(const uint8_t *table, size_t table_length, milchkompass_session *s);

@@ -151,6 +151,40 @@ static void play_stacks(void) {
     }
 }
 
+/* The reason of a start of b is these four numbers. */
+#define REASON(before, b, word, ...)                                                                                   \
+    do {                                                                                                               \
+        milchkompass_reason got = milchkompass_why(T, before, b, word), wanted = {__VA_ARGS__};                        \
+        expect(memcmp(&got, &wanted, sizeof got) == 0, "why " #before " " #b " " #word);                               \
+    } while (0)
+
+/* Which rule moves each of P1 to P9, where its task was found, and how. */
+static void reasons(void) {
+    const milchkompass_reason told[] = {
+        {0, 9, 0, MILCHKOMPASS_FOUND_NONE},    {0, 8, 0, MILCHKOMPASS_FOUND_NONE},
+        {0, 8, 0, MILCHKOMPASS_FOUND_NONE},    {0, 7, 0, MILCHKOMPASS_FOUND_NONE},
+        {0, 17, 3, MILCHKOMPASS_FOUND_BY_AFFINITY}, {0, 16, 3, MILCHKOMPASS_FOUND_BY_AFFINITY},
+        {0, 15, 1, MILCHKOMPASS_FOUND_BY_ROOT}, {0, 4, 1, MILCHKOMPASS_FOUND_BY_ROOT},
+        {0, 12, 1, MILCHKOMPASS_FOUND_BY_ROOT}, {0, 16, 1, MILCHKOMPASS_FOUND_BY_ROOT},
+    };
+    _Static_assert(sizeof told / sizeof *told == sizeof stacks / sizeof *stacks, "a reason for each stack");
+    for (size_t i = 0; i < sizeof stacks / sizeof *stacks; i++) {
+        const stack *p = &stacks[i];
+        milchkompass_reason got = milchkompass_why(T, p->before, p->b, p->word);
+        expect(memcmp(&got, &told[i], sizeof got) == 0, p->name);
+    }
+    const session fresh = {0}, unsound = {{{0}}, 0, 1};
+    const uint8_t bad_mode[] = {1, 0, 4, 0};
+    milchkompass_reason cut = milchkompass_why(table_t, sizeof table_t - 1, unsound, 255, 1);
+    expect(cut.refusal == MILCHKOMPASS_TABLE_LENGTH && cut.rule + cut.place + cut.found == 0, "why, table cut");
+    milchkompass_reason mode = milchkompass_why(bad_mode, sizeof bad_mode, unsound, 255, 1);
+    expect(mode.refusal == MILCHKOMPASS_TABLE_CONTENT && mode.rule + mode.place + mode.found == 0, "why, bad mode");
+    REASON(unsound, 255, 1, MILCHKOMPASS_SESSION_UNSOUND, 0, 0, 0);
+    REASON(p10, 6, 1, MILCHKOMPASS_NO_SUCH_SCREEN, 0, 0, 0);
+    REASON(fresh, 0, 1, MILCHKOMPASS_OTHER_FLAG, 0, 0, 0);
+    REASON(fresh, 0, 0, MILCHKOMPASS_EMPTY, 0, 0, 0);
+}
+
 /* P10's image, there and back, byte for byte. */
 static void save_and_restore(void) {
     uint8_t out[sizeof p10_image + 1];
@@ -231,6 +265,7 @@ int main(void) {
     fresh_and_texts();
     example();
     play_stacks();
+    reasons();
     save_and_restore();
     shared_refusals();
     call_refusals();

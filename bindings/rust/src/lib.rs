@@ -43,12 +43,14 @@
 mod flags;
 mod number;
 mod raw;
+mod reason;
 mod refusal;
 mod session;
 mod table;
 
 pub use flags::Flags;
 pub use number::UnknownNumber;
+pub use reason::{Found, FoundBy, Reason, Rule};
 pub use refusal::Refusal;
 pub use session::{Answer, Session, Task};
 pub use table::{LaunchMode, Screen, Table};

@@ -59,6 +59,15 @@ pub struct SaveReply {
     pub length: usize,
 }
 
+/// Why a start goes as it does.
+#[repr(C)]
+pub struct Reason {
+    pub refusal: u8,
+    pub rule: u8,
+    pub place: u8,
+    pub found: u8,
+}
+
 extern "C" {
     fn milchkompass_abi() -> u32;
     fn milchkompass_launch(table: *const u8, table_length: usize, s: *mut Session) -> Answer;
@@ -76,6 +85,13 @@ extern "C" {
         b: u8,
         word: u32,
     ) -> Answer;
+    fn milchkompass_why(
+        table: *const u8,
+        table_length: usize,
+        s: Session,
+        b: u8,
+        word: u32,
+    ) -> Reason;
     fn milchkompass_back(table: *const u8, table_length: usize, s: *mut Session) -> Answer;
     fn milchkompass_look(table: *const u8, table_length: usize, s: *mut Session) -> Answer;
     fn milchkompass_save(
@@ -119,6 +135,10 @@ pub fn start(table: &[u8], s: &mut Session, b: u8, word: u32) -> Answer {
 
 pub fn finish_start(table: &[u8], s: &mut Session, b: u8, word: u32) -> Answer {
     unsafe { milchkompass_finish_start(table.as_ptr(), table.len(), s, b, word) }
+}
+
+pub fn why(table: &[u8], s: &Session, b: u8, word: u32) -> Reason {
+    unsafe { milchkompass_why(table.as_ptr(), table.len(), *s, b, word) }
 }
 
 pub fn back(table: &[u8], s: &mut Session) -> Answer {

@@ -3,7 +3,7 @@
 use std::fmt;
 
 use crate::raw;
-use crate::{Flags, Refusal, Table};
+use crate::{Flags, Reason, Refusal, Table};
 
 /// What an accepted call leaves in front. An empty session gives zeros.
 #[derive(Clone, Copy, Debug, Default, PartialEq, Eq, Hash)]
@@ -37,8 +37,8 @@ pub struct Task<'a> {
 }
 
 /// A session under its table. Two are equal where table and session are; no
-/// list of calls tells equal ones apart. Threads may share a `&Session`: look
-/// and save lend the library a copy.
+/// list of calls tells equal ones apart. Threads may share a `&Session`: look,
+/// save and why lend the library a copy.
 ///
 /// It shows its tasks, front first, as `root:[top,..,bottom]`, and the main
 /// place: `3:[3] 0:[1,0], m 2`.
@@ -106,6 +106,19 @@ impl Session {
     pub fn finish_start(&mut self, screen: u8, flags: Flags) -> Result<Answer, Refusal> {
         let (table, word) = (self.table.bytes(), flags.bits());
         outcome(raw::finish_start(table, &mut self.stored, screen, word))
+    }
+
+    /// Why a [`start`](Session::start), or a
+    /// [`finish_start`](Session::finish_start), of this screen goes as it does:
+    /// the rule that it uses, and the task that is found for it. The session
+    /// stays.
+    ///
+    /// # Errors
+    ///
+    /// Those of the start.
+    pub fn why(&self, screen: u8, flags: Flags) -> Result<Reason, Refusal> {
+        let (table, word) = (self.table.bytes(), flags.bits());
+        Reason::told(raw::why(table, &self.stored, screen, word))
     }
 
     /// Back: the front screen goes, and its task too if that was its last.

@@ -1,12 +1,12 @@
 //! The C header and this crate declare what the library's source declares:
 //! the number of the interface and its row, each function, each struct that one
-//! of them names, the limits, the launch modes, the flags, and the refusals by
-//! the sentences that the definitions quote.
+//! of them names, the limits, the launch modes, the flags, the refusals by the
+//! sentences that the definitions quote, and the rules by their own.
 
 mod render;
 mod source;
 
-use milchkompass::{Flags, LaunchMode, Refusal};
+use milchkompass::{Flags, LaunchMode, Refusal, Rule};
 use source::read;
 
 /// Without white space and without a comma after the last of a list.
@@ -189,6 +189,26 @@ fn prefix() {
     for name in always.lines().filter_map(|l| l.strip_prefix("#define ")) {
         assert!(name.starts_with("MILCHKOMPASS_"), "{name}");
     }
+}
+
+/// The sentences of R1 to R18 are the definitions', in their order.
+#[test]
+fn rules() {
+    let sentences = read("crates/model/specs/Sentences.antt");
+    let (_, rest) = sentences
+        .split_once("ruleSentences =")
+        .expect("the sentences");
+    let (list, _) = rest.split_once("[]").expect("their end");
+    let defined: Vec<&str> = list.split('"').skip(1).step_by(2).collect();
+    let displayed: Vec<String> = Rule::ALL.iter().map(Rule::to_string).collect();
+    assert_eq!(defined[0], "");
+    assert_eq!(defined[1..], displayed);
+    for (i, rule) in Rule::ALL.iter().enumerate() {
+        assert_eq!(usize::from(rule.number()), i + 1);
+        assert_eq!(format!("{rule:?}"), format!("R{}", i + 1));
+        assert_eq!(Rule::try_from(rule.number()), Ok(*rule));
+    }
+    assert!(Rule::try_from(0).is_err() && Rule::try_from(19).is_err());
 }
 
 #[test]
