@@ -1,5 +1,5 @@
 // Why a start goes as it does: its refusal, or the rule that moves it and the task that was found for it. Nothing is decided
-// here: the search and the choice are those of a start.
+// here: what is sought and decided is what the start seeks and decides.
 
 ghost use mathlib.Core.Path.{_≡_};
 ghost use Rattle.model.specs.Reasons.{numberOf, howFound, noReason};
@@ -65,21 +65,19 @@ pub fn why(table: &[u8], s: Session, b: u8, word: u32, shared: u8) -> Reason
     ensures { λ r. ⌜ r ≡ whyStored (now (table .entry)) s b word ⌝ }
 {
     let sought = starts::seek(table, s, b, word, shared);
-    if sought.number != 0 {
-        return none(sought.number);
-    }
     let i = sought.index;
     let t = s.tasks[i];
-    let chosen = starts::choose(table, s, t, sought, b, flags::read(word));
-    if chosen.number != 0 {
-        return none(chosen.number);
+    let decided = starts::decide(table, s, t, sought, b, word, false);
+    let plan = decided.plan;
+    if plan.refusal != 0 {
+        return none(plan.refusal);
     }
-    let rule = chosen.rule;
+    let rule = decided.rule;
     let found = sought.found;
     Reason {
         refusal: 0,
         rule: number_of(rule),
-        place: chosen.place,
+        place: rules::place_of(found),
         found: how_found(found),
     }
 }

@@ -102,6 +102,11 @@ accepted (Mark.Stands zero i) false one′ t k n m = refl
 accepted (Mark.Stands (suc j) i) one true t k n m = refl
 accepted (Mark.Stands (suc j) i) one false t k n m = refl
 
+pub plan-accepts : (fin : Bool) (b : ℕ) (c : Session) (t : Task) (x : Chosen) → startPlan fin b c t x .refusal ≡ 0
+plan-accepts fin b c t x =
+    accepted (planMark fin b c t x) (leb (planNext fin b c t x .height) 1) (leb (taskBehind c 0 .height) 1) (planNext fin b c t x)
+    (planShift fin b c t x) (countAfter (x .effect) (c .n)) (mainAfter (x .effect) (x .place) (c .main))
+
 -- ---- a start for which there is room
 
 module _ {tb : List ℕ} {c : Session} {b : ℕ} {f : Flags} (z : Sized c) (h : Startable tb c b) {t : Task} {x : Chosen}
@@ -185,7 +190,7 @@ module _ {tb : List ℕ} {c : Session} {b : ℕ} {f : Flags} (z : Sized c) (h : 
   start-uncovers = uncovers mark _ _ next shift _ _ stands
 
   pub start-accepts : plan .refusal ≡ 0
-  start-accepts = accepted mark _ _ next shift _ _
+  start-accepts = plan-accepts fin b c t x
 
   pub start-opens : Opens mark next
   start-opens i e = screen-there put put-sized 0 i (closable put 0 i put-blank e put-marked)

@@ -4,22 +4,26 @@ use mathlib.Core.Path.{_≡_, refl, sym, _∙_, ap}
 use mathlib.Core.Bool.{Bool}
 use mathlib.Core.List.{List}
 use native.Mathlib.Omega.{arith}
+use Rattle.model.specs.declared.Rule.{Rule}
 use Rattle.model.specs.Refusals.{refusal}
 use Rattle.model.specs.Session.{mostTasks}
 use Rattle.model.specs.Flags.{flagsOf}
+use Rattle.model.specs.Rules.{choose}
 use Rattle.session.specs.declared.Session.{Session}
 use Rattle.session.specs.declared.Task.{Task}
-use Rattle.session.specs.Stored.{Ready, taskBehind}
+use Rattle.session.specs.Stored.{view, Ready, taskBehind}
 use Rattle.session.proofs.Known.{Sized}
+use Rattle.rules.specs.Shows.{indexOf}
 use Rattle.rules.specs.Startable.{Startable}
 use Rattle.rules.proofs.Tasks.{index-inside, index-stands}
 use Rattle.starts.specs.Checks.{startEntry, roomRefusal}
 use Rattle.starts.proofs.Entries.{start-entered}
+use Rattle.starts.proofs.Planning.{plan-accepts}
 use Rattle.plans.specs.declared.Plan.{Plan}
 use Rattle.plans.specs.Plans.{stillOf}
 use Rattle.starts.specs.declared.Sought.{Sought}
 use Rattle.starts.specs.declared.Chosen.{Chosen}
-use Rattle.starts.specs.Steps.{noneSought, Seeks, orElse, SoughtFrom, Chooses, Plannable, startPlan, chosenStored, planUnless, planStored, Planned}
+use Rattle.starts.specs.Steps.{noneSought, Seeks, orElse, SoughtFrom, Chooses, Plannable, startPlan, chosenStored, roomyPlan, planUnless, planStored, ruleStored, Planned}
 
 -- ---- the first of two refusals
 
@@ -114,3 +118,27 @@ module _ (tb : List ℕ) (c : Session) (b w k : ℕ) (passed : k ≡ 0) (fin : B
       planned-roomy =
           rw (chosen-is, task, chooses .index) (unless-passed (roomRefusal tb c b (flagsOf w)) c _ (sym (chooses .number) ∙ room))
           ∙ unless-passed k c _ passed
+
+-- ---- the refusal and the rule
+
+-- the refusal of a plan that two refusals may take the place of
+unless-number : (k n : ℕ) (c : Session) (p : Plan) → p .refusal ≡ 0 → planUnless k c (planUnless n c p) .refusal ≡ orElse k n
+unless-number zero zero c p e = e
+unless-number zero (suc n) c p e = refl
+unless-number (suc k) n c p e = refl
+
+module _ (tb : List ℕ) (c : Session) (b w k : ℕ) where
+  pub plan-number : (fin : Bool) → planStored k tb c b w fin .refusal ≡ orElse k (roomRefusal tb c b (flagsOf w))
+  plan-number fin =
+      unless-number k (roomRefusal tb c b (flagsOf w)) c (roomyPlan tb c b (flagsOf w) fin)
+      (plan-accepts fin b c (taskBehind c (indexOf (choose tb (view c) b (flagsOf w) .found))) (chosenStored tb c b (flagsOf w)))
+
+  pub rule-refused : (k ≡ 0 → ⊥) → Rule.R18 ≡ ruleStored k tb c b w
+  rule-refused some = go k some
+    where
+      go : (n : ℕ) → (n ≡ 0 → ⊥) → Rule.R18 ≡ ruleStored n tb c b w
+      go zero n = absurd (n refl)
+      go (suc n) _ = refl
+
+  pub rule-chosen : k ≡ 0 → {r : Rule} → r ≡ choose tb (view c) b (flagsOf w) .rule → r ≡ ruleStored k tb c b w
+  rule-chosen e r = rw e r

@@ -9,6 +9,7 @@ use Rattle.model.specs.declared.Flags.{Flags}
 use Rattle.model.specs.declared.Found.{Found}
 use Rattle.model.specs.declared.Group.{Group}
 use Rattle.model.specs.declared.Mark.{Mark}
+use Rattle.model.specs.declared.Rule.{Rule}
 use Rattle.model.specs.Refusals.{refusal}
 use Rattle.model.specs.Session.{State, top}
 use Rattle.model.specs.Flags.{flagsOf}
@@ -112,6 +113,11 @@ planUnless (suc k) c p = stillOf c (suc k)
 abbrev pub planStored : ℕ → List ℕ → Session → ℕ → ℕ → Bool → Plan
 planStored k tb c b w finishing =
     planUnless k c (planUnless (roomRefusal tb c b (flagsOf w)) c (roomyPlan tb c b (flagsOf w) finishing))
+
+-- the rule that it uses; R18 where it was refused by k before one was chosen
+abbrev pub ruleStored : ℕ → List ℕ → Session → ℕ → ℕ → Rule
+ruleStored zero tb c b w = choose tb (view c) b (flagsOf w) .rule
+ruleStored (suc k) tb c b w = Rule.R18
 
 -- what planning relies on: where nothing refused so far, x was sought, and t is the task at its index
 abbrev pub Planned : List ℕ → Session → ℕ → ℕ → Task → Sought → Type 0

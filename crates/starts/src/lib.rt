@@ -8,7 +8,7 @@ ghost use Rattle.model.specs.Refusals.{refusal as refusalOf};
 ghost use Rattle.session.specs.Stored.{Ready, taskBehind};
 ghost use Rattle.rules.specs.Startable.{Startable};
 ghost use Rattle.starts.specs.Checks.{startEntry};
-ghost use Rattle.starts.specs.Steps.{noneSought, Seeks, SoughtFrom, Chooses, markIf, Plannable, startPlan, Planned, planStored};
+ghost use Rattle.starts.specs.Steps.{noneSought, Seeks, SoughtFrom, Chooses, markIf, Plannable, startPlan, Planned, planStored, ruleStored};
 use model::Effect;
 use model::Flags;
 use model::Found;
@@ -100,7 +100,7 @@ pub struct Chosen {
 }
 
 // t is the task at the index.
-pub fn choose(table: &[u8], s: Session, t: Task, sought: Sought, b: u8, f: Flags) -> Chosen
+fn choose(table: &[u8], s: Session, t: Task, sought: Sought, b: u8, f: Flags) -> Chosen
     requires { ⌜ Startable (now table) s b × Seeks (now table) s b f sought × (t ≡ taskBehind s (sought .index)) ⌝ }
     ensures { λ r. ⌜ Chooses (now (table .entry)) s b f (sought .index) r ⌝ }
 {
@@ -151,7 +151,47 @@ fn start_plan(
     plans::closing_plan(mark, next, front.height, shift, n, main)
 }
 
-// The plan of a start of b, or of a finishing one; t is the task at the index.
+// What is decided of a start: its plan, and the rule that it uses (R18 where the start was refused before one was chosen).
+pub struct Decided {
+    pub plan: Plan,
+    pub rule: Rule,
+}
+
+// What is decided of a start of b, or of a finishing one; t is the task at the index.
+pub fn decide(
+    table: &[u8],
+    s: Session,
+    t: Task,
+    sought: Sought,
+    b: u8,
+    word: u32,
+    finishing: bool,
+) -> Decided
+    requires { ⌜ Planned (now table) s b word t sought ⌝ }
+    ensures plan { λ r. ⌜ r .plan ≡ planStored (sought .number) (now (table .entry)) s b word finishing ⌝ }
+    ensures rule { λ r. ⌜ r .rule ≡ ruleStored (sought .number) (now (table .entry)) s b word ⌝ }
+{
+    if sought.number != 0 {
+        return Decided {
+            plan: plans::still(s, sought.number),
+            rule: Rule::R18,
+        };
+    }
+    let chosen = choose(table, s, t, sought, b, flags::read(word));
+    let rule = chosen.rule;
+    if chosen.number != 0 {
+        return Decided {
+            plan: plans::still(s, chosen.number),
+            rule: rule,
+        };
+    }
+    Decided {
+        plan: start_plan(table, s, t, chosen, b, word, finishing),
+        rule: rule,
+    }
+}
+
+// Its plan alone.
 pub fn plan(
     table: &[u8],
     s: Session,
@@ -164,12 +204,5 @@ pub fn plan(
     requires { ⌜ Planned (now table) s b word t sought ⌝ }
     ensures { λ r. ⌜ r ≡ planStored (sought .number) (now (table .entry)) s b word finishing ⌝ }
 {
-    if sought.number != 0 {
-        return plans::still(s, sought.number);
-    }
-    let chosen = choose(table, s, t, sought, b, flags::read(word));
-    if chosen.number != 0 {
-        return plans::still(s, chosen.number);
-    }
-    start_plan(table, s, t, chosen, b, word, finishing)
+    decide(table, s, t, sought, b, word, finishing).plan
 }
