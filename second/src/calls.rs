@@ -2,7 +2,7 @@
 //! that may be anything, checks 1, 2 and 20 first, then those named for the
 //! call. A refused call changes nothing.
 
-use crate::{Answer, Refusal, Rule, Session, Table};
+use crate::{Answer, Reason, Refusal, Session, Table};
 
 /// The checks that come first in every call.
 fn check(table: &[u8], session: &Session) -> Result<Table, Refusal> {
@@ -75,11 +75,12 @@ pub fn restore(table: &[u8], session: &mut Session, image: &[u8]) -> Answer {
     answer(result, session)
 }
 
-/// The rule that a start or a finishing start would use now, or the number of
-/// its refusal. Changes nothing.
-pub fn rule(table: &[u8], session: &Session, screen: u8, flags: u32) -> Result<Rule, u8> {
-    check(table, session)
-        .and_then(|table| session.plan(&table, screen, flags))
-        .map(|(rule, _)| rule)
-        .map_err(|refusal| refusal as u8)
+/// Why: the reason of a start, or of a finishing start, of this screen with these
+/// flags. Changes nothing.
+pub fn why(table: &[u8], session: &Session, screen: u8, flags: u32) -> Reason {
+    let result = check(table, session).and_then(|table| session.plan(&table, screen, flags));
+    match result {
+        Ok(choice) => Reason::chosen(choice),
+        Err(refusal) => Reason::refused(refusal),
+    }
 }

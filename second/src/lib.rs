@@ -7,9 +7,11 @@
 //! - `table`: the screen table, the launch modes, the flag word
 //! - `session`: tasks and screens, soundness, the moves, the answer
 //! - `rules`: launch, Back, start by R1 to R18, finishing start
+//! - `reason`: the rule that a start uses and the task found, in four numbers
 //! - `image`: the image of a session and how it is read back
 //! - `calls`: every call with all its checks, from bytes to an answer
-//! - `play`: the player, from standard input's format to lines
+//! - `play`: the player, from standard input's format to lines, with or without
+//!   the reasons under starts
 //! - `random`, `hex`: random numbers and tables, bytes as text, for comparisons
 //!
 //! Two layers: the methods of `Session` want a good table and a sound session
@@ -20,10 +22,12 @@ pub mod hex;
 pub mod image;
 pub mod play;
 pub mod random;
+pub mod reason;
 pub mod rules;
 pub mod session;
 pub mod table;
 
+pub use reason::Reason;
 pub use rules::Rule;
 pub use session::{Answer, Screen, Session, Task};
 pub use table::{Mode, Table};

@@ -1,16 +1,45 @@
-//! The player: a table and records come in, one line for each record goes out.
+//! The player: a table and records come in, one line for each record goes out,
+//! and for those who ask why, one more under each start.
 //!
 //! The table is read once and the session is the player's own, so it is sound
 //! from the fresh session on and the player has no need to check it again.
 
 use std::io::{self, ErrorKind, Read, Write};
 
-use crate::{Answer, Refusal, Rule, Session, Table};
+use crate::rules::Choice;
+use crate::{Answer, Reason, Refusal, Session, Table};
 
 /// The length of a record: kind, screen, four bytes of flags.
 pub const RECORD: usize = 6;
 /// How much output is gathered before it is written.
 const BLOCK: usize = 64 * 1024;
+
+/// What a record comes to: its kind byte, the answer and, where the kind is a
+/// start or a finishing start, the reason.
+pub struct Played {
+    pub kind: u8,
+    pub answer: Answer,
+    pub reason: Option<Reason>,
+}
+
+impl Played {
+    /// What an input comes to on whose table the player stops.
+    pub fn stopped() -> Played {
+        Played::refused(0, Refusal::TableLength)
+    }
+
+    fn refused(kind: u8, refusal: Refusal) -> Played {
+        let is_start = matches!(kind, 2 | 3);
+        Played {
+            kind,
+            answer: Answer::refused(refusal),
+            reason: is_start.then(|| Reason::refused(refusal)),
+        }
+    }
+}
+
+/// How what a record comes to is written.
+pub type Writing = fn(&mut Vec<u8>, &Played);
 
 /// A table, good or refused for its content, and a session under it.
 pub struct Player {
@@ -39,16 +68,23 @@ impl Player {
         }))
     }
 
-    /// Plays one record, which is shorter than 6 bytes only if it is cut. Gives
-    /// the answer and, for a start that was not refused, the rule it used.
-    pub fn record(&mut self, record: &[u8]) -> (Answer, Option<Rule>) {
+    /// Plays one record, which is shorter than 6 bytes only if it is cut.
+    // Inline, so that where no reason is written none is made.
+    #[inline]
+    pub fn record(&mut self, record: &[u8]) -> Played {
+        let kind = record[0];
         match self.call(record) {
-            Ok(rule) => (self.session.answer(), rule),
-            Err(refusal) => (Answer::refused(refusal), None),
+            Ok(choice) => Played {
+                kind,
+                answer: self.session.answer(),
+                reason: choice.map(Reason::chosen),
+            },
+            Err(refusal) => Played::refused(kind, refusal),
         }
     }
 
-    fn call(&mut self, record: &[u8]) -> Result<Option<Rule>, Refusal> {
+    /// Makes the record's call; gives what a start chose.
+    fn call(&mut self, record: &[u8]) -> Result<Option<Choice>, Refusal> {
         let &[kind @ 1..=5, screen, f0, f1, f2, f3] = record else {
             return Err(Refusal::BadRecord);
         };
@@ -66,10 +102,23 @@ impl Player {
 }
 
 /// Plays a whole input.
-pub fn play(mut input: impl Read, mut output: impl Write) -> io::Result<()> {
+pub fn play(input: impl Read, output: impl Write) -> io::Result<()> {
+    write_records(input, output, push_line)
+}
+
+/// Plays a whole input, with the reason under each start.
+pub fn explain(input: impl Read, output: impl Write) -> io::Result<()> {
+    write_records(input, output, push_explained)
+}
+
+fn write_records(
+    mut input: impl Read,
+    mut output: impl Write,
+    push: impl Fn(&mut Vec<u8>, &Played),
+) -> io::Result<()> {
     let mut out = Vec::with_capacity(BLOCK + 64);
     match Player::open(&mut input)? {
-        None => push_line(&mut out, 0, Answer::refused(Refusal::TableLength)),
+        None => push(&mut out, &Played::stopped()),
         Some(mut player) => {
             let mut record = [0; RECORD];
             loop {
@@ -77,8 +126,7 @@ pub fn play(mut input: impl Read, mut output: impl Write) -> io::Result<()> {
                 if length == 0 {
                     break;
                 }
-                let (answer, _) = player.record(&record[..length]);
-                push_line(&mut out, record[0], answer);
+                push(&mut out, &player.record(&record[..length]));
                 if out.len() >= BLOCK {
                     output.write_all(&out)?;
                     out.clear();
@@ -104,10 +152,25 @@ fn read_full(input: &mut impl Read, buffer: &mut [u8]) -> io::Result<usize> {
     Ok(length)
 }
 
-/// Adds a line: the kind, then the answer's six numbers, spaces between.
-pub fn push_line(out: &mut Vec<u8>, kind: u8, answer: Answer) {
-    push_number(out, kind);
-    for number in answer.numbers() {
+/// Adds the player's line: the kind, then the answer's six numbers.
+pub fn push_line(out: &mut Vec<u8>, played: &Played) {
+    push_number(out, played.kind);
+    push_numbers(out, &played.answer.numbers());
+}
+
+/// Adds the player's line and, where there is a reason, a line with its four
+/// numbers behind two spaces.
+pub fn push_explained(out: &mut Vec<u8>, played: &Played) {
+    push_line(out, played);
+    if let Some(reason) = played.reason {
+        out.push(b' ');
+        push_numbers(out, &reason.numbers());
+    }
+}
+
+/// Adds the rest of a line: numbers, each behind a space.
+fn push_numbers(out: &mut Vec<u8>, numbers: &[u8]) {
+    for &number in numbers {
         out.push(b' ');
         push_number(out, number);
     }

@@ -1,5 +1,5 @@
 //! Launch, Back, start and finishing start, on a sound session under a good
-//! table. `decide` finds the first rule that fits, `check_space` says whether
+//! table. `decide` chooses the first rule that fits, `check_space` says whether
 //! there is room for it, `apply` carries it out.
 
 use crate::session::MAX_TASKS;
@@ -33,6 +33,46 @@ pub enum Rule {
 
 use Rule::*;
 
+/// By what a task is found.
+#[derive(Clone, Copy, Debug, PartialEq, Eq)]
+pub enum By {
+    Root = 1,
+    Affinity,
+}
+
+/// A task that is found: its place, from 1, before the start.
+#[derive(Clone, Copy, Debug, PartialEq, Eq)]
+pub struct Found {
+    pub place: u8,
+    pub by: By,
+}
+
+impl Found {
+    fn new(index: usize, by: By) -> Found {
+        let place = index as u8 + 1;
+        Found { place, by }
+    }
+
+    fn index(self) -> usize {
+        usize::from(self.place) - 1
+    }
+}
+
+/// The rule that a start uses, and the task found for it, where one is sought
+/// and found.
+#[derive(Clone, Copy, Debug, PartialEq, Eq)]
+pub struct Choice {
+    pub rule: Rule,
+    pub found: Option<Found>,
+}
+
+impl Choice {
+    /// The index of the task found, or 0, the front task's.
+    fn index(self) -> usize {
+        self.found.map_or(0, Found::index)
+    }
+}
+
 impl Session {
     /// Launch: one task of the main screen alone.
     pub fn launch(&mut self, table: &Table) -> Result<(), Refusal> {
@@ -51,27 +91,26 @@ impl Session {
         Ok(())
     }
 
-    /// Start of `b`; tells which rule was used.
-    pub fn start(&mut self, table: &Table, b: u8, flags: u32) -> Result<Rule, Refusal> {
-        let (rule, index) = self.plan(table, b, flags)?;
-        self.apply(rule, index, b);
-        Ok(rule)
+    /// Start of `b`; tells what was chosen.
+    pub fn start(&mut self, table: &Table, b: u8, flags: u32) -> Result<Choice, Refusal> {
+        let choice = self.plan(table, b, flags)?;
+        self.apply(choice, b);
+        Ok(choice)
     }
 
-    /// Start of `b` by a screen that closes itself; tells which rule was used.
-    pub fn finishing_start(&mut self, table: &Table, b: u8, flags: u32) -> Result<Rule, Refusal> {
-        let (rule, index) = self.plan(table, b, flags)?;
+    /// Start of `b` by a screen that closes itself; tells what was chosen.
+    pub fn finishing_start(&mut self, table: &Table, b: u8, flags: u32) -> Result<Choice, Refusal> {
+        let choice = self.plan(table, b, flags)?;
         if let Some(front) = self.tasks[0].screens.last_mut() {
             front.marked = true;
         }
-        self.apply(rule, index, b);
+        self.apply(choice, b);
         self.remove_marked();
-        Ok(rule)
+        Ok(choice)
     }
 
-    /// The rule that a start of `b` uses and the index of the task it works
-    /// on, or why the start is refused. Changes nothing.
-    pub fn plan(&self, table: &Table, b: u8, flags: u32) -> Result<(Rule, usize), Refusal> {
+    /// What a start of `b` chooses, or why it is refused. Changes nothing.
+    pub fn plan(&self, table: &Table, b: u8, flags: u32) -> Result<Choice, Refusal> {
         if !table.has(b) {
             return Err(Refusal::NoSuchScreen);
         }
@@ -81,19 +120,19 @@ impl Session {
         if self.is_empty() {
             return Err(Refusal::Empty);
         }
-        let (rule, index) = self.decide(table, b, flags);
-        self.check_space(rule, index)?;
-        Ok((rule, index))
+        let choice = self.decide(table, b, flags);
+        self.check_space(choice)?;
+        Ok(choice)
     }
 
-    /// The first rule that fits, and the index of the found task, or 0, the
-    /// front task's, where none is sought or found. The session is not empty.
-    pub fn decide(&self, table: &Table, b: u8, flags: u32) -> (Rule, usize) {
+    /// The first rule that fits, and the task found. The session is not empty.
+    pub fn decide(&self, table: &Table, b: u8, flags: u32) -> Choice {
         match table.mode(b) {
-            Mode::SingleInstance => match self.by_root(b) {
-                Some(index) => (R1, index),
-                None => (R2, 0),
-            },
+            Mode::SingleInstance => {
+                let found = self.by_root(b);
+                let rule = if found.is_some() { R1 } else { R2 };
+                Choice { rule, found }
+            }
             Mode::SingleTask => self.decide_single_task(table, b, flags),
             Mode::Standard | Mode::SingleTop => {
                 let caller_alone = self.tasks[0]
@@ -102,24 +141,22 @@ impl Session {
                 if flags & NEW_TASK != 0 || caller_alone {
                     self.decide_apart(table, b, flags)
                 } else {
-                    (self.decide_not_apart(table, b, flags), 0)
+                    let rule = self.decide_not_apart(table, b, flags);
+                    Choice { rule, found: None }
                 }
             }
         }
     }
 
-    fn decide_single_task(&self, table: &Table, b: u8, flags: u32) -> (Rule, usize) {
-        let Some(index) = self.by_root(b).or_else(|| self.by_affinity(table, b)) else {
-            return (R6, 0);
+    fn decide_single_task(&self, table: &Table, b: u8, flags: u32) -> Choice {
+        let found = self.by_root_or_affinity(table, b);
+        let rule = match found {
+            None => R6,
+            Some(_) if flags & CLEAR_TASK != 0 => R3,
+            Some(found) if self.tasks[found.index()].holds(b) => R4,
+            Some(_) => R5,
         };
-        let rule = if flags & CLEAR_TASK != 0 {
-            R3
-        } else if self.tasks[index].holds(b) {
-            R4
-        } else {
-            R5
-        };
-        (rule, index)
+        Choice { rule, found }
     }
 
     fn decide_not_apart(&self, table: &Table, b: u8, flags: u32) -> Rule {
@@ -137,58 +174,72 @@ impl Session {
         }
     }
 
-    fn decide_apart(&self, table: &Table, b: u8, flags: u32) -> (Rule, usize) {
+    fn decide_apart(&self, table: &Table, b: u8, flags: u32) -> Choice {
         if flags & MULTIPLE_TASK != 0 {
-            return (R11, 0);
+            let (rule, found) = (R11, None);
+            return Choice { rule, found };
         }
-        let by_root = self.by_root(b);
-        let Some(index) = by_root.or_else(|| self.by_affinity(table, b)) else {
-            return (R18, 0);
+        let found = self.by_root_or_affinity(table, b);
+        let rule = match found {
+            None => R18,
+            Some(found) => self.decide_found(table, b, flags, found),
         };
-        let found = &self.tasks[index];
+        Choice { rule, found }
+    }
+
+    /// The rule of a start apart, for which a task is found.
+    fn decide_found(&self, table: &Table, b: u8, flags: u32, found: Found) -> Rule {
+        let task = &self.tasks[found.index()];
         let clear_top = flags & CLEAR_TOP != 0;
-        let rule = if flags & CLEAR_TASK != 0 {
+        if flags & CLEAR_TASK != 0 {
             R12
-        } else if clear_top && found.holds(b) {
+        } else if clear_top && task.holds(b) {
             R13
         } else if clear_top {
             R14
-        } else if by_root.is_some() && index + 1 != self.main {
+        } else if found.by == By::Root && usize::from(found.place) != self.main {
             R15
-        } else if is_single(table, b, flags) && found.top() == Some(b) {
+        } else if is_single(table, b, flags) && task.top() == Some(b) {
             R16
         } else {
             R17
-        };
-        (rule, index)
+        }
+    }
+
+    /// Sought by root, then by affinity.
+    fn by_root_or_affinity(&self, table: &Table, b: u8) -> Option<Found> {
+        self.by_root(b).or_else(|| self.by_affinity(table, b))
     }
 
     /// The first task from the front whose root is `b`.
-    fn by_root(&self, b: u8) -> Option<usize> {
-        self.tasks.iter().position(|task| task.root == b)
+    fn by_root(&self, b: u8) -> Option<Found> {
+        let index = self.tasks.iter().position(|task| task.root == b)?;
+        Some(Found::new(index, By::Root))
     }
 
     /// The first task from the front whose root is not single-instance and has
     /// the affinity of `b`.
-    fn by_affinity(&self, table: &Table, b: u8) -> Option<usize> {
+    fn by_affinity(&self, table: &Table, b: u8) -> Option<Found> {
         let affinity = table.affinity(b);
-        self.tasks.iter().position(|task| {
+        let index = self.tasks.iter().position(|task| {
             !table.is_single_instance(task.root) && table.affinity(task.root) == affinity
-        })
+        })?;
+        Some(Found::new(index, By::Affinity))
     }
 
     /// Whether there is room for what the rule needs.
-    fn check_space(&self, rule: Rule, index: usize) -> Result<(), Refusal> {
-        match rule {
+    fn check_space(&self, choice: Choice) -> Result<(), Refusal> {
+        match choice.rule {
             R2 | R6 | R11 | R18 if self.tasks.len() >= MAX_TASKS => Err(Refusal::TasksFull),
-            R5 | R10 | R14 | R17 if self.tasks[index].is_full() => Err(Refusal::TaskFull),
+            R5 | R10 | R14 | R17 if self.tasks[choice.index()].is_full() => Err(Refusal::TaskFull),
             _ => Ok(()),
         }
     }
 
     /// Carries out a rule for which there is room.
-    fn apply(&mut self, rule: Rule, index: usize, b: u8) {
-        match rule {
+    fn apply(&mut self, choice: Choice, b: u8) {
+        let index = choice.index();
+        match choice.rule {
             R7 => {}
             R1 | R15 | R16 => self.move_to_front(index),
             R2 | R6 | R11 | R18 => self.new_task(b),

@@ -19,7 +19,7 @@ fn session(main: usize, tasks: &[(u8, &[u8])]) -> Session {
 /// Starts a screen under T and checks the rule, the session left and the answer.
 fn start(before: &Session, screen: u8, flags: u32, rule: Rule, after: &Session) {
     let mut now = before.clone();
-    assert_eq!(calls::rule(&T, &now, screen, flags), Ok(rule));
+    assert_eq!(calls::why(&T, &now, screen, flags).rule, rule as u8);
     let answer = calls::start(&T, &mut now, screen, flags);
     assert_eq!(&now, after);
     assert_eq!(answer, after.answer());
@@ -28,7 +28,7 @@ fn start(before: &Session, screen: u8, flags: u32, rule: Rule, after: &Session) 
 /// The same for a finishing start.
 fn finish(before: &Session, screen: u8, flags: u32, rule: Rule, after: &Session) {
     let mut now = before.clone();
-    assert_eq!(calls::rule(&T, &now, screen, flags), Ok(rule));
+    assert_eq!(calls::why(&T, &now, screen, flags).rule, rule as u8);
     let answer = calls::finishing_start(&T, &mut now, screen, flags);
     assert_eq!(&now, after);
     assert_eq!(answer, after.answer());

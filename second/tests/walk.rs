@@ -63,16 +63,20 @@ fn walks() {
                 4 => calls::back(&table, &mut session),
                 _ => calls::look(&table, &session),
             };
-            let (played, rule) = player.record(&record);
-            assert_eq!(answer, played, "round {round}");
+            let played = player.record(&record);
+            assert_eq!(answer, played.answer, "round {round}");
+            // The start tells what it did, why what it would do.
+            let is_start = kind == 2 || kind == 3;
+            let why = is_start.then(|| calls::why(&table, &before, screen, flags));
+            assert_eq!(played.reason, why);
             assert_eq!(session, player.session);
             assert!(session.is_sound(&good));
             if answer.refusal != 0 {
                 assert_eq!(session, before);
-                assert_eq!(rule, None);
+                assert!(why.is_none_or(|why| why.numbers() == [answer.refusal, 0, 0, 0]));
             } else {
                 assert_eq!(answer, calls::look(&table, &session));
-                assert_eq!(rule.is_some(), kind == 2 || kind == 3);
+                assert!(why.is_none_or(|why| why.refusal == 0 && why.rule >= 1));
             }
             // An image holds no marks, so equality with it shows there are none.
             let mut back = Session::fresh();

@@ -20,10 +20,11 @@ pub enum Kind {
     Look,
     Save,
     Restore,
+    Why,
 }
 
 impl Kind {
-    pub const ALL: [Kind; 7] = [
+    pub const ALL: [Kind; 8] = [
         Kind::Launch,
         Kind::Start,
         Kind::FinishingStart,
@@ -31,6 +32,7 @@ impl Kind {
         Kind::Look,
         Kind::Save,
         Kind::Restore,
+        Kind::Why,
     ];
 
     pub fn name(self) -> &'static str {
@@ -42,6 +44,7 @@ impl Kind {
             Kind::Look => "look",
             Kind::Save => "save",
             Kind::Restore => "restore",
+            Kind::Why => "why",
         }
     }
 }
@@ -67,6 +70,10 @@ pub enum Call<'a> {
     Restore {
         image: &'a [u8],
     },
+    Why {
+        screen: u8,
+        flags: u32,
+    },
 }
 
 impl Call<'_> {
@@ -79,6 +86,7 @@ impl Call<'_> {
             Call::Look => Kind::Look,
             Call::Save { .. } => Kind::Save,
             Call::Restore { .. } => Kind::Restore,
+            Call::Why { .. } => Kind::Why,
         }
     }
 
@@ -95,9 +103,9 @@ impl fmt::Display for Call<'_> {
     fn fmt(&self, f: &mut fmt::Formatter) -> fmt::Result {
         write!(f, "{}", self.kind().name())?;
         match self {
-            Call::Start { screen, flags } | Call::FinishingStart { screen, flags } => {
-                write!(f, " of {screen}, flags, hex: {flags:08x}")
-            }
+            Call::Start { screen, flags }
+            | Call::FinishingStart { screen, flags }
+            | Call::Why { screen, flags } => write!(f, " of {screen}, flags, hex: {flags:08x}"),
             Call::Save { length } => write!(f, ", buffer of {length} bytes"),
             Call::Restore { image } => write!(f, ", image, hex: {}", hex(image, usize::MAX)),
             Call::Launch | Call::Back | Call::Look => Ok(()),
@@ -105,33 +113,30 @@ impl fmt::Display for Call<'_> {
     }
 }
 
-/// What a call gives by itself: the answer's six numbers, and for save, whose
-/// answer is its refusal and zeros, the image's length.
+/// What a call gives by itself.
 #[derive(Clone, Copy, Debug, PartialEq)]
-pub struct Reply {
-    pub answer: [u8; 6],
-    pub length: usize,
+pub enum Reply {
+    /// The answer's six numbers.
+    Answer([u8; 6]),
+    /// Of save, the refusal's number, or 0, and the image's length.
+    Saved(u8, usize),
+    /// Of why, the reason's four numbers.
+    Reason([u8; 4]),
 }
 
 impl Reply {
-    fn answered(answer: [u8; 6]) -> Reply {
-        Reply { answer, length: 0 }
-    }
-
-    fn saved((refusal, length): (u8, usize)) -> Reply {
-        let mut answer = [0; 6];
-        answer[0] = refusal;
-        Reply { answer, length }
-    }
-
     pub fn refusal(&self) -> u8 {
-        self.answer[0]
+        match self {
+            Reply::Answer(numbers) => numbers[0],
+            Reply::Saved(refusal, _) => *refusal,
+            Reply::Reason(numbers) => numbers[0],
+        }
     }
 }
 
 /// The call by the static library, on the session and the buffer as lent.
 pub fn by_library(call: Call, table: &[u8], session: &mut Stored, buffer: &mut [u8]) -> Reply {
-    Reply::answered(match call {
+    Reply::Answer(match call {
         Call::Launch => library::launch(table, session),
         Call::Start { screen, flags } => library::start(table, session, screen, flags),
         Call::FinishingStart { screen, flags } => {
@@ -139,8 +144,14 @@ pub fn by_library(call: Call, table: &[u8], session: &mut Stored, buffer: &mut [
         }
         Call::Back => library::back(table, session),
         Call::Look => library::look(table, session),
-        Call::Save { .. } => return Reply::saved(library::save(table, session, buffer)),
+        Call::Save { .. } => {
+            let (refusal, length) = library::save(table, session, buffer);
+            return Reply::Saved(refusal, length);
+        }
         Call::Restore { image } => library::restore(table, session, image),
+        Call::Why { screen, flags } => {
+            return Reply::Reason(library::why(table, session, screen, flags))
+        }
     })
 }
 
@@ -154,10 +165,16 @@ pub fn on_session(call: Call, table: &[u8], session: &mut Session, buffer: &mut 
         }
         Call::Back => calls::back(table, session),
         Call::Look => calls::look(table, session),
-        Call::Save { .. } => return Reply::saved(calls::save(table, session, buffer)),
+        Call::Save { .. } => {
+            let (refusal, length) = calls::save(table, session, buffer);
+            return Reply::Saved(refusal, length);
+        }
         Call::Restore { image } => calls::restore(table, session, image),
+        Call::Why { screen, flags } => {
+            return Reply::Reason(calls::why(table, session, screen, flags).numbers())
+        }
     };
-    Reply::answered(answer.numbers())
+    Reply::Answer(answer.numbers())
 }
 
 /// The call by the second navigator, whose session after it is stored anew. A
@@ -181,8 +198,11 @@ pub struct Outcome {
 
 impl fmt::Display for Outcome {
     fn fmt(&self, f: &mut fmt::Formatter) -> fmt::Result {
-        let Reply { answer, length } = self.reply;
-        writeln!(f, "answer {answer:?}, length {length}")?;
+        match self.reply {
+            Reply::Answer(numbers) => writeln!(f, "answer {numbers:?}")?,
+            Reply::Saved(refusal, length) => writeln!(f, "refusal {refusal}, length {length}")?,
+            Reply::Reason(numbers) => writeln!(f, "reason {numbers:?}")?,
+        }
         write!(f, "  session, hex: {}", hex(&self.session.bytes(), TASK))?;
         if !self.buffer.is_empty() {
             write!(f, "\n  buffer, hex: {}", hex(&self.buffer, usize::MAX))?;

@@ -2,6 +2,8 @@
 //! all that the two give.
 
 use std::fmt;
+use std::hint::black_box;
+use std::ops::Range;
 
 use second::hex::hex;
 
@@ -20,7 +22,7 @@ pub struct Difference {
     session: Stored,
     call: String,
     library: Outcome,
-    /// Whether the library wrote outside of what it was lent.
+    /// Whether the library wrote outside of what it may write.
     outside: bool,
     second: Outcome,
 }
@@ -41,14 +43,14 @@ struct Guarded {
 }
 
 impl Checker {
-    /// Makes a call on the present session; gives the session after it.
+    /// Makes a call on the present session; gives what there is after it.
     pub fn check(
         &mut self,
         what: &'static str,
         table: &[u8],
         present: &Stored,
         call: Call,
-    ) -> Checked<Stored> {
+    ) -> Checked<Outcome> {
         let (library, outside) = outcome_by_library(table, present, call);
         self.judge(what, table, present, call, library, outside)
     }
@@ -63,11 +65,11 @@ impl Checker {
         call: Call,
         library: Outcome,
         outside: bool,
-    ) -> Checked<Stored> {
+    ) -> Checked<Outcome> {
         let second = outcome_by_second(table, present, call);
         self.counts.add(table, present, call, &second.reply);
         if library == second && !outside {
-            return Ok(second.session);
+            return Ok(second);
         }
         Err(Box::new(Difference {
             what,
@@ -87,26 +89,49 @@ pub fn buffer_before(call: Call) -> Vec<u8> {
     places.map(|i| (i * 37 + i / 256) as u8).collect()
 }
 
-/// What the library gives, and whether it wrote outside of what it was lent.
+/// What the library gives, and whether it wrote outside of what it may write.
 fn outcome_by_library(table: &[u8], present: &Stored, call: Call) -> (Outcome, bool) {
     let mut lent = Guarded {
         before: GUARDS,
         session: *present,
         after: GUARDS,
     };
-    let mut bytes = [&GUARDS[..], &buffer_before(call), &GUARDS].concat();
-    let end = bytes.len() - GUARD;
-    let reply = by_library(call, table, &mut lent.session, &mut bytes[GUARD..end]);
-    let kept = bytes[..GUARD] == GUARDS && bytes[end..] == GUARDS;
+    let listed = guarded(table);
+    let mut buffer = guarded(&buffer_before(call));
+    let room = inside(&buffer);
+    let reply = by_library(
+        call,
+        &listed[inside(&listed)],
+        &mut lent.session,
+        &mut buffer[room.clone()],
+    );
+    // What the library may only read is looked at anew.
+    let listed = black_box(&listed);
+    let kept = guards_stand(&buffer)
+        && guards_stand(listed)
+        && listed[inside(listed)] == *table
+        && lent.before == GUARDS
+        && lent.after == GUARDS;
     let given = Outcome {
         reply,
         session: lent.session,
-        buffer: bytes[GUARD..end].to_vec(),
+        buffer: buffer[room].to_vec(),
     };
-    (
-        given,
-        !kept || lent.before != GUARDS || lent.after != GUARDS,
-    )
+    (given, !kept)
+}
+
+/// Bytes with bytes around them that nobody may write.
+fn guarded(bytes: &[u8]) -> Vec<u8> {
+    [&GUARDS, bytes, &GUARDS].concat()
+}
+
+/// Where the bytes within the guards are.
+fn inside(guarded: &[u8]) -> Range<usize> {
+    GUARD..guarded.len() - GUARD
+}
+
+fn guards_stand(guarded: &[u8]) -> bool {
+    guarded.starts_with(&GUARDS) && guarded.ends_with(&GUARDS)
 }
 
 /// What the second navigator gives.

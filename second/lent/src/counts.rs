@@ -1,8 +1,9 @@
-//! How often each call was made and each refusal and rule came up, and how full
-//! the sessions were.
+//! How often each call was made and each refusal and rule came up, what the tasks
+//! were found by, and how full the sessions were.
 
 use std::fmt;
 
+use second::rules::Choice;
 use second::session::{MAX_HEIGHT, MAX_TASKS};
 use second::{Session, Table};
 
@@ -13,7 +14,7 @@ use crate::stored::Stored;
 fn possible(kind: Kind) -> &'static [u8] {
     match kind {
         Kind::Launch => &[0, 1, 2, 20, 22],
-        Kind::Start | Kind::FinishingStart => &[0, 1, 2, 20, 3, 4, 21, 23, 24],
+        Kind::Start | Kind::FinishingStart | Kind::Why => &[0, 1, 2, 20, 3, 4, 21, 23, 24],
         Kind::Back => &[0, 1, 2, 20, 21],
         Kind::Look => &[0, 1, 2, 20],
         Kind::Save => &[0, 1, 2, 20, 8],
@@ -24,10 +25,23 @@ fn possible(kind: Kind) -> &'static [u8] {
 /// The rules under which a start can be refused for want of space.
 const FULL: [usize; 8] = [2, 6, 11, 18, 5, 10, 14, 17];
 
-/// Starts by rule, R1 at index 1.
+/// What a task is found by, in the order of a reason's numbers.
+const FOUND: [&str; 3] = ["none", "root", "affinity"];
+
+/// What the task of a rule can be found by: these numbers.
+fn possible_found(rule: usize) -> &'static [usize] {
+    match rule {
+        1 | 15 => &[1],
+        3..=5 | 12..=14 | 16 | 17 => &[1, 2],
+        _ => &[0],
+    }
+}
+
+/// Starts, or asking why, by rule, R1 at index 1.
 #[derive(Default)]
 struct Rules {
-    accepted: [u64; 19],
+    /// Accepted, by what found the task too.
+    accepted: [[u64; 3]; 19],
     /// Refused by 23 or 24.
     full: [u64; 19],
 }
@@ -35,9 +49,10 @@ struct Rules {
 #[derive(Default)]
 pub struct Counts {
     /// Calls by kind and refusal.
-    calls: [[u64; 25]; 7],
+    calls: [[u64; 25]; 8],
     starts: Rules,
     finishing: Rules,
+    whys: Rules,
     /// Sessions saved and restored; those with no task; those with no space.
     sessions: u64,
     empty: u64,
@@ -51,16 +66,15 @@ impl Counts {
         let (rules, screen, flags) = match call {
             Call::Start { screen, flags } => (&mut self.starts, screen, flags),
             Call::FinishingStart { screen, flags } => (&mut self.finishing, screen, flags),
+            Call::Why { screen, flags } => (&mut self.whys, screen, flags),
             _ => return,
         };
-        let by_rule = match reply.refusal() {
-            0 => &mut rules.accepted,
-            23 | 24 => &mut rules.full,
-            _ => return,
-        };
+        if ![0, 23, 24].contains(&reply.refusal()) {
+            return;
+        }
         let table = Table::parse(table).expect("the call was past the table's check");
-        let (rule, _) = present.view().decide(&table, screen, flags);
-        by_rule[rule as usize] += 1;
+        let choice = present.view().decide(&table, screen, flags);
+        rules.add(choice, reply.refusal());
     }
 
     pub fn add_session(&mut self, session: &Session) {
@@ -81,8 +95,9 @@ impl Counts {
         Kind::ALL.iter().map(|&kind| self.calls(kind)).sum()
     }
 
-    /// The names of what never came up in calls of these kinds.
-    pub fn missing(&self, kinds: &[Kind]) -> Vec<String> {
+    /// The names of what never came up in calls of these kinds, and of the rules
+    /// that did not come up so many times.
+    pub fn missing(&self, kinds: &[Kind], each_rule: u64) -> Vec<String> {
         let mut names = Vec::new();
         for &kind in kinds {
             for &refusal in possible(kind) {
@@ -90,10 +105,8 @@ impl Counts {
                     names.push(format!("{refusal} by {}", kind.name()));
                 }
             }
-            match kind {
-                Kind::Start => names.extend(self.starts.missing(kind)),
-                Kind::FinishingStart => names.extend(self.finishing.missing(kind)),
-                _ => {}
+            if let Some(rules) = self.rules(kind) {
+                names.extend(rules.missing(kind, each_rule));
             }
         }
         if self.empty == 0 && !kinds.is_empty() {
@@ -107,15 +120,36 @@ impl Counts {
 }
 
 impl Rules {
-    fn missing(&self, kind: Kind) -> Vec<String> {
+    fn add(&mut self, choice: Choice, refusal: u8) {
+        let rule = choice.rule as usize;
+        match refusal {
+            0 => self.accepted[rule][choice.found.map_or(0, |found| found.by as usize)] += 1,
+            _ => self.full[rule] += 1,
+        }
+    }
+
+    fn accepted(&self, rule: usize) -> u64 {
+        self.accepted[rule].iter().sum()
+    }
+
+    fn missing(&self, kind: Kind, each_rule: u64) -> Vec<String> {
         let name = kind.name();
-        let rules = (1..=18)
-            .filter(|&rule| self.accepted[rule] == 0)
-            .map(|rule| format!("R{rule} by {name}"));
-        let full = (FULL.iter())
-            .filter(|&&rule| self.full[rule] == 0)
-            .map(|rule| format!("no space under R{rule} by {name}"));
-        rules.chain(full).collect()
+        let mut names = Vec::new();
+        for rule in 1..=18 {
+            let times = self.accepted(rule);
+            if times < each_rule {
+                names.push(format!("R{rule} by {name}, {times} of {each_rule} times"));
+            }
+            for &found in possible_found(rule) {
+                if self.accepted[rule][found] == 0 {
+                    names.push(format!("R{rule}, found by {}, by {name}", FOUND[found]));
+                }
+            }
+            if FULL.contains(&rule) && self.full[rule] == 0 {
+                names.push(format!("no space under R{rule} by {name}"));
+            }
+        }
+        names
     }
 }
 
@@ -142,6 +176,9 @@ impl fmt::Display for Counts {
         if kinds.contains(&Kind::Start) {
             self.write_rules(f)?;
         }
+        if kinds.contains(&Kind::Why) {
+            self.whys.write_found(f)?;
+        }
         writeln!(
             f,
             "{} sessions made, {} of them empty, {} of 16 tasks of 32",
@@ -151,6 +188,16 @@ impl fmt::Display for Counts {
 }
 
 impl Counts {
+    /// The counts by rule of a kind that has them.
+    fn rules(&self, kind: Kind) -> Option<&Rules> {
+        match kind {
+            Kind::Start => Some(&self.starts),
+            Kind::FinishingStart => Some(&self.finishing),
+            Kind::Why => Some(&self.whys),
+            _ => None,
+        }
+    }
+
     fn write_rules(&self, f: &mut fmt::Formatter) -> fmt::Result {
         writeln!(
             f,
@@ -158,14 +205,37 @@ impl Counts {
         )?;
         for rule in 1..=18 {
             let name = format!("R{rule}");
+            let (starts, finishing) = (&self.starts, &self.finishing);
             write!(
                 f,
                 "{name:<7} {:>14} {:>15}",
-                self.starts.accepted[rule], self.finishing.accepted[rule]
+                starts.accepted(rule),
+                finishing.accepted(rule)
             )?;
             if FULL.contains(&rule) {
-                let (starts, finishing) = (self.starts.full[rule], self.finishing.full[rule]);
+                let (starts, finishing) = (starts.full[rule], finishing.full[rule]);
                 write!(f, " {starts:>15} {finishing:>15}")?;
+            }
+            writeln!(f)?;
+        }
+        Ok(())
+    }
+}
+
+impl Rules {
+    /// The rules by what found the task.
+    fn write_found(&self, f: &mut fmt::Formatter) -> fmt::Result {
+        let [none, root, affinity] = FOUND;
+        writeln!(
+            f,
+            "why: rule, found by{none:>12} {root:>15} {affinity:>15}   refused (23, 24)"
+        )?;
+        for rule in 1..=18 {
+            let name = format!("R{rule}");
+            let [none, root, affinity] = self.accepted[rule];
+            write!(f, "{name:<19}{none:>12} {root:>15} {affinity:>15}")?;
+            if FULL.contains(&rule) {
+                write!(f, " {:>18}", self.full[rule])?;
             }
             writeln!(f)?;
         }

@@ -6,10 +6,12 @@
 //! - `check`: makes a call by both and compares all that they give
 //! - `counts`: how often each call was made, each refusal and rule came up
 //! - `sessions`, `damage`: random good and bad tables, sessions and images
+//! - `starts`: random screens and flag words
 //! - `run`: options and endings of the comparing programs
 //!
-//! The programs: `images` compares save and restore, `calls` all calls, `fuzz`
-//! makes calls on any bytes at the edges of memory, `calls_bench` measures.
+//! The programs: `images` compares save and restore, `calls` all calls, `reasons`
+//! why and start, `fuzz` makes calls on any bytes at the edges of memory,
+//! `calls_bench` measures.
 
 pub mod call;
 pub mod check;
@@ -18,4 +20,5 @@ pub mod damage;
 pub mod library;
 pub mod run;
 pub mod sessions;
+pub mod starts;
 pub mod stored;

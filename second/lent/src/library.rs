@@ -1,5 +1,5 @@
 //! The static library's calls, as it declares them to C: a slice is a pointer
-//! and a length; the session is lent, to save passed by value.
+//! and a length; the session is lent, to save and to why passed by value.
 
 use crate::stored::Stored;
 
@@ -21,6 +21,17 @@ pub struct Answer {
 pub struct SaveReply {
     refusal: u8,
     length: usize,
+}
+
+/// What why gives: the refusal's number, or 0, the rule, the place of the task
+/// found and what found it.
+#[repr(C)]
+#[derive(Clone, Copy)]
+pub struct Reason {
+    refusal: u8,
+    rule: u8,
+    place: u8,
+    found: u8,
 }
 
 extern "C" {
@@ -61,6 +72,14 @@ extern "C" {
         buffer: *mut u8,
         buffer_length: usize,
     ) -> SaveReply;
+
+    fn milchkompass_why(
+        table: *const u8,
+        table_length: usize,
+        session: Stored,
+        screen: u8,
+        flags: u32,
+    ) -> Reason;
 }
 
 impl Answer {
@@ -126,4 +145,10 @@ pub fn save(table: &[u8], session: &Stored, buffer: &mut [u8]) -> (u8, usize) {
         )
     };
     (reply.refusal, reply.length)
+}
+
+/// Why: the reason's four numbers.
+pub fn why(table: &[u8], session: &Stored, screen: u8, flags: u32) -> [u8; 4] {
+    let reason = unsafe { milchkompass_why(table.as_ptr(), table.len(), *session, screen, flags) };
+    [reason.refusal, reason.rule, reason.place, reason.found]
 }

@@ -3,7 +3,6 @@
 use std::process::ExitCode;
 use std::time::Instant;
 
-use crate::call::Kind;
 use crate::check::{Checked, Checker};
 
 /// The numbers given after these options, or what stands here. `None` if the
@@ -17,15 +16,15 @@ pub fn options<const N: usize>(mut known: [(&str, u64); N]) -> Option<[u64; N]> 
     Some(known.map(|(_, number)| number))
 }
 
-/// Tells what a comparison found; it fails by a difference, and by a refusal or
-/// rule that never came up in calls of these kinds.
+/// Tells what a comparison found; it fails by a difference, and by what did not
+/// come up and was to.
 pub fn end(
     program: &str,
     seed: u64,
     begun: Instant,
     checker: &Checker,
     found: Checked,
-    kinds: &[Kind],
+    missing: Vec<String>,
 ) -> ExitCode {
     if let Err(difference) = found {
         print!("{difference}");
@@ -33,9 +32,8 @@ pub fn end(
         return ExitCode::FAILURE;
     }
     print!("{}", checker.counts);
-    let missing = checker.counts.missing(kinds);
     if !missing.is_empty() {
-        println!("{program}: never came up: {}", missing.join(", "));
+        println!("{program}: did not come up: {}", missing.join("; "));
         return ExitCode::FAILURE;
     }
     println!(

@@ -3,8 +3,7 @@
 use std::path::PathBuf;
 use std::time::Instant;
 
-use second::play::{push_line, Player, RECORD};
-use second::{Answer, Refusal};
+use second::play::{Played, Player, Writing, RECORD};
 
 use crate::counts::Counts;
 use crate::outside;
@@ -26,12 +25,45 @@ impl Input {
 /// An input on which the two differ, and how.
 pub struct Difference {
     pub input: Input,
+    pub written: Written,
+}
+
+/// The outside program, and how the library here writes what that is to write.
+pub struct Pair {
+    pub program: PathBuf,
+    pub writing: Writing,
+}
+
+/// What the two write for one input.
+pub struct Written {
     pub outside: Result<Vec<u8>, String>,
     pub here: Vec<u8>,
+    /// How many records were played here.
+    pub records: u64,
+}
+
+impl Pair {
+    /// Plays an input through both.
+    pub fn play(&self, bytes: &[u8], counts: &mut Counts) -> Written {
+        let (outside, (here, records)) = outside::run(&self.program, bytes, || {
+            expected(bytes, self.writing, counts)
+        });
+        Written {
+            outside,
+            here,
+            records,
+        }
+    }
+}
+
+impl Written {
+    pub fn differ(&self) -> bool {
+        self.outside.as_ref() != Ok(&self.here)
+    }
 }
 
 pub struct Checker {
-    program: PathBuf,
+    pub pair: Pair,
     pub counts: Counts,
     pub records: u64,
     told: u64,
@@ -39,9 +71,9 @@ pub struct Checker {
 }
 
 impl Checker {
-    pub fn new(program: PathBuf) -> Checker {
+    pub fn new(pair: Pair) -> Checker {
         Checker {
-            program,
+            pair,
             counts: Counts::default(),
             records: 0,
             told: 0,
@@ -51,18 +83,12 @@ impl Checker {
 
     /// Plays the input through both.
     pub fn check(&mut self, input: &Input) -> Result<(), Box<Difference>> {
-        let bytes = input.bytes();
-        let counts = &mut self.counts;
-        let (outside, (here, records)) =
-            outside::run(&self.program, &bytes, || expected(&bytes, counts));
-        if outside.as_ref() != Ok(&here) {
-            return Err(Box::new(Difference {
-                input: input.clone(),
-                outside,
-                here,
-            }));
+        let written = self.pair.play(&input.bytes(), &mut self.counts);
+        if written.differ() {
+            let input = input.clone();
+            return Err(Box::new(Difference { input, written }));
         }
-        self.records += records;
+        self.records += written.records;
         self.runs += 1;
         Ok(())
     }
@@ -81,19 +107,19 @@ impl Checker {
 }
 
 /// What the library here writes for an input, and how many records that was.
-pub fn expected(mut bytes: &[u8], counts: &mut Counts) -> (Vec<u8>, u64) {
-    let mut out = Vec::with_capacity(bytes.len() * 3);
+fn expected(mut bytes: &[u8], writing: Writing, counts: &mut Counts) -> (Vec<u8>, u64) {
+    let mut out = Vec::with_capacity(bytes.len() * 4);
     let opened = Player::open(&mut bytes).expect("bytes in memory can be read");
     let Some(mut player) = opened else {
-        push_line(&mut out, 0, Answer::refused(Refusal::TableLength));
+        writing(&mut out, &Played::stopped());
         counts.add_bad_table();
         return (out, 0);
     };
     let mut records = 0;
     for record in bytes.chunks(RECORD) {
-        let (answer, rule) = player.record(record);
-        counts.add(&player, record, answer, rule);
-        push_line(&mut out, record[0], answer);
+        let played = player.record(record);
+        counts.add(&player, record, &played);
+        writing(&mut out, &played);
         records += 1;
     }
     (out, records)

@@ -1,9 +1,8 @@
-//! How often each rule and each refusal came up.
+//! How often each rule and each refusal came up, and how tasks were found.
 
 use std::fmt;
 
-use second::play::Player;
-use second::{Answer, Rule};
+use second::play::{Played, Player};
 
 /// The refusals that a player can give.
 const REFUSALS: [u8; 9] = [1, 2, 3, 4, 9, 21, 22, 23, 24];
@@ -20,12 +19,17 @@ const FULL: [(u8, u8); 8] = [
     (24, 17),
 ];
 
+/// What a task was found by, in the order of a reason's numbers.
+const FOUND: [&str; 3] = ["none", "root", "affinity"];
+
 #[derive(Default)]
 pub struct Counts {
     /// Accepted starts by rule, R1 at index 1.
     starts: [u64; 19],
     /// Accepted finishing starts by rule.
     finishing: [u64; 19],
+    /// Accepted starts of both kinds by what found their task.
+    found: [u64; 3],
     /// Lines by refusal.
     refusals: [u64; 25],
     /// Refusals 23 and 24 by the rule that needed the space.
@@ -34,22 +38,24 @@ pub struct Counts {
 
 impl Counts {
     /// Counts one record, after it was played.
-    pub fn add(&mut self, player: &Player, record: &[u8], answer: Answer, rule: Option<Rule>) {
-        self.refusals[usize::from(answer.refusal)] += 1;
-        if let Some(rule) = rule {
-            let by_kind = if record[0] == 2 {
+    pub fn add(&mut self, player: &Player, record: &[u8], played: &Played) {
+        let refusal = played.answer.refusal;
+        self.refusals[usize::from(refusal)] += 1;
+        if let (0, Some(reason)) = (refusal, played.reason) {
+            let by_kind = if played.kind == 2 {
                 &mut self.starts
             } else {
                 &mut self.finishing
             };
-            by_kind[rule as usize] += 1;
+            by_kind[usize::from(reason.rule)] += 1;
+            self.found[usize::from(reason.found)] += 1;
         }
-        if answer.refusal == 23 || answer.refusal == 24 {
+        if refusal == 23 || refusal == 24 {
             // The session is as it was, so the rule can still be asked for.
             if let Ok(table) = &player.table {
                 let flags = u32::from_be_bytes([record[2], record[3], record[4], record[5]]);
-                let (rule, _) = player.session.decide(table, record[1], flags);
-                self.full[rule as usize] += 1;
+                let choice = player.session.decide(table, record[1], flags);
+                self.full[choice.rule as usize] += 1;
             }
         }
     }
@@ -68,6 +74,11 @@ impl Counts {
             }
             if self.finishing[rule] == 0 {
                 names.push(format!("R{rule} by a finishing start"));
+            }
+        }
+        for (found, name) in FOUND.into_iter().enumerate() {
+            if self.found[found] == 0 {
+                names.push(format!("found by {name}"));
             }
         }
         for refusal in REFUSALS {
@@ -94,6 +105,10 @@ impl fmt::Display for Counts {
                 "{name:<4} {:>14} {:>12}",
                 self.starts[rule], self.finishing[rule]
             )?;
+        }
+        writeln!(f, "found by     starts")?;
+        for (name, starts) in FOUND.into_iter().zip(self.found) {
+            writeln!(f, "{name:<8} {starts:>10}")?;
         }
         writeln!(f, "refusal       lines")?;
         for refusal in REFUSALS {

@@ -1,9 +1,10 @@
 //! Compares an outside player program with this package's navigator.
 //!
-//!     compare [--player PATH] [--seed N] [--records N] [--sweep]
+//!     compare [--player PATH | --explain PATH] [--seed N] [--records N] [--sweep]
 //!
 //! Inputs are made from a seed, played through the outside program and through
-//! the library here, and compared line by line. At the first difference the
+//! the library here, and compared line by line. With `--explain` the program is
+//! one that writes the reason under each start. At the first difference the
 //! smallest example that can be found is printed and the exit code is 1. With
 //! `--sweep`, every call from every small session follows (see `sweep`). At the
 //! end it prints how often each rule and each refusal came up, and exits with 1
@@ -21,20 +22,31 @@ use std::path::PathBuf;
 use std::process::ExitCode;
 use std::time::Instant;
 
+use second::play::{push_explained, push_line, Writing};
 use second::random::Random;
 
-use check::{Checker, Difference};
+use check::{Checker, Difference, Pair};
 
 struct Options {
-    player: PathBuf,
+    /// Which program is compared, the player if none is named.
+    pair: Option<Pair>,
     seed: u64,
     records: u64,
     sweep: bool,
 }
 
+impl Options {
+    /// Names the program. `None` if one is named already.
+    fn name(&mut self, path: String, writing: Writing) -> Option<()> {
+        let program = PathBuf::from(path);
+        let before = self.pair.replace(Pair { program, writing });
+        before.is_none().then_some(())
+    }
+}
+
 fn options() -> Option<Options> {
     let mut options = Options {
-        player: PathBuf::from("target/bin/player"),
+        pair: None,
         seed: 1,
         records: 3_000_000,
         sweep: false,
@@ -42,7 +54,8 @@ fn options() -> Option<Options> {
     let mut arguments = std::env::args().skip(1);
     while let Some(argument) = arguments.next() {
         match argument.as_str() {
-            "--player" => options.player = PathBuf::from(arguments.next()?),
+            "--player" => options.name(arguments.next()?, push_line)?,
+            "--explain" => options.name(arguments.next()?, push_explained)?,
             "--seed" => options.seed = arguments.next()?.parse().ok()?,
             "--records" => options.records = arguments.next()?.parse().ok()?,
             "--sweep" => options.sweep = true,
@@ -81,20 +94,23 @@ fn run(options: &Options, checker: &mut Checker) -> Result<(), Box<Difference>> 
 }
 
 fn main() -> ExitCode {
-    let Some(options) = options() else {
-        eprintln!("usage: compare [--player PATH] [--seed N] [--records N] [--sweep]");
-        return ExitCode::from(2);
-    };
-    if !options.player.is_file() {
+    let Some(mut options) = options() else {
         eprintln!(
-            "compare: there is no player at {}",
-            options.player.display()
+            "usage: compare [--player PATH | --explain PATH] [--seed N] [--records N] [--sweep]"
         );
         return ExitCode::from(2);
+    };
+    let pair = options.pair.take().unwrap_or(Pair {
+        program: PathBuf::from("target/bin/player"),
+        writing: push_line,
+    });
+    if !pair.program.is_file() {
+        eprintln!("compare: there is no {}", pair.program.display());
+        return ExitCode::from(2);
     }
-    let mut checker = Checker::new(options.player.clone());
+    let mut checker = Checker::new(pair);
     if let Err(difference) = run(&options, &mut checker) {
-        let smallest = shrink::shrink(&options.player, *difference);
+        let smallest = shrink::shrink(&checker.pair, *difference);
         print!("{smallest}");
         println!("compare: seed {}, a difference", options.seed);
         return ExitCode::FAILURE;

@@ -3,20 +3,18 @@
 //! bits, each time only if a difference stays.
 
 use std::fmt;
-use std::path::Path;
 
 use second::hex::hex;
 use second::play::RECORD;
 
-use crate::check::{expected, Difference, Input};
+use crate::check::{Difference, Input, Pair, Written};
 use crate::counts::Counts;
-use crate::outside;
 
 /// How many times the outside program may be run in search of a smaller one.
 const RUNS: u32 = 4000;
 
 struct Search<'a> {
-    program: &'a Path,
+    pair: &'a Pair,
     best: Difference,
     runs: u32,
 }
@@ -32,25 +30,20 @@ impl Search<'_> {
             records,
             ..self.best.input.clone()
         };
-        let bytes = input.bytes();
-        let (outside, (here, _)) = outside::run(self.program, &bytes, || {
-            expected(&bytes, &mut Counts::default())
-        });
-        let differs = outside.as_ref() != Ok(&here);
+        let written = self.pair.play(&input.bytes(), &mut Counts::default());
+        let differs = written.differ();
         if differs {
-            self.best = Difference {
-                input,
-                outside,
-                here,
-            };
+            self.best = Difference { input, written };
         }
         differs
     }
 
     /// Drops the records after the one whose line differs first.
     fn cut(&mut self) {
+        let Written { outside, here, .. } = &self.best.written;
+        let Ok(outside) = outside else { return };
         let records = &self.best.input.records;
-        let end = (self.best.first_line() + 1) * RECORD;
+        let end = records_to(here, first_line(outside, here)) * RECORD;
         if end < records.len() {
             let kept = records[..end].to_vec();
             self.attempt(kept);
@@ -90,9 +83,9 @@ impl Search<'_> {
 }
 
 /// The smallest example that is found.
-pub fn shrink(program: &Path, difference: Difference) -> Difference {
+pub fn shrink(pair: &Pair, difference: Difference) -> Difference {
     let mut search = Search {
-        program,
+        pair,
         best: difference,
         runs: 0,
     };
@@ -108,23 +101,17 @@ pub fn shrink(program: &Path, difference: Difference) -> Difference {
     search.best
 }
 
-impl Difference {
-    /// The number, from 0, of the first line that differs.
-    fn first_line(&self) -> usize {
-        let outside = self.outside.as_deref().unwrap_or(&[]);
-        let same = outside
-            .iter()
-            .zip(&self.here)
-            .take_while(|(a, b)| a == b)
-            .count();
-        match &self.outside {
-            Ok(_) => self.here[..same]
-                .iter()
-                .filter(|&&byte| byte == b'\n')
-                .count(),
-            Err(_) => usize::MAX / RECORD - 1,
-        }
-    }
+/// The number, from 0, of the first line that differs.
+fn first_line(outside: &[u8], here: &[u8]) -> usize {
+    let alike = outside.iter().zip(here).take_while(|(a, b)| a == b);
+    alike.filter(|(&byte, _)| byte == b'\n').count()
+}
+
+/// How many records there are up to the one of this line. A record's line begins
+/// with a number, the reason under it with a space.
+fn records_to(here: &[u8], line: usize) -> usize {
+    let lines = here.split_inclusive(|&byte| byte == b'\n').take(line + 1);
+    lines.filter(|line| line[0] != b' ').count()
 }
 
 impl fmt::Display for Difference {
@@ -132,24 +119,26 @@ impl fmt::Display for Difference {
         writeln!(f, "difference, found in: {}", self.input.what)?;
         writeln!(f, "table, hex: {}", hex(&self.input.table, 1))?;
         writeln!(f, "records, hex: {}", hex(&self.input.records, RECORD))?;
-        let here = String::from_utf8_lossy(&self.here);
-        match &self.outside {
+        let here = &self.written.here;
+        let text = String::from_utf8_lossy(here);
+        match &self.written.outside {
             Err(message) => {
-                writeln!(f, "player: {message}")?;
-                writeln!(f, "here: {}", here.lines().last().unwrap_or("(no line)"))
+                writeln!(f, "outside: {message}")?;
+                writeln!(f, "here: {}", text.lines().last().unwrap_or("(no line)"))
             }
             Ok(outside) => {
+                let line = first_line(outside, here);
                 let outside = String::from_utf8_lossy(outside);
-                let line = self.first_line();
-                let player = outside
-                    .split_inclusive('\n')
-                    .nth(line)
-                    .unwrap_or("(no line)");
-                let here = here.split_inclusive('\n').nth(line).unwrap_or("(no line)");
                 writeln!(f, "line {}:", line + 1)?;
-                writeln!(f, "  player: {}", player.escape_debug())?;
-                writeln!(f, "  here:   {}", here.escape_debug())
+                writeln!(f, "  outside: {}", nth_line(&outside, line))?;
+                writeln!(f, "  here:    {}", nth_line(&text, line))
             }
         }
     }
+}
+
+/// A line, from 0, with its end shown.
+fn nth_line(text: &str, number: usize) -> impl fmt::Display + '_ {
+    let line = text.split_inclusive('\n').nth(number);
+    line.unwrap_or("(no line)").escape_debug()
 }

@@ -50,7 +50,7 @@ impl Field {
 
 /// Calls refused by 20, by field and kind of call.
 #[derive(Default)]
-pub struct Refused([[u64; 7]; 7]);
+pub struct Refused([[u64; 8]; 7]);
 
 impl Refused {
     pub fn add(&mut self, field: Field, kind: Kind) {

@@ -36,7 +36,7 @@ fn sound() -> [Session; 4] {
 }
 
 /// One call of each kind.
-fn one_of_each(image: &[u8]) -> [Call<'_>; 7] {
+fn one_of_each(image: &[u8]) -> [Call<'_>; 8] {
     let (screen, flags) = (1, 0);
     let length = image.len();
     [
@@ -47,6 +47,7 @@ fn one_of_each(image: &[u8]) -> [Call<'_>; 7] {
         Call::Look,
         Call::Save { length },
         Call::Restore { image },
+        Call::Why { screen, flags },
     ]
 }
 
@@ -114,7 +115,7 @@ pub fn tables(checker: &mut Checker) -> Checked {
 }
 
 /// Starts and finishing starts of every screen, with every flag bit and with
-/// every set of the six flags.
+/// every set of the six flags, and why of each.
 pub fn starts(checker: &mut Checker) -> Checked {
     for session in sound() {
         let present = held(&session);
@@ -123,6 +124,7 @@ pub fn starts(checker: &mut Checker) -> Checked {
             let finishing = Call::FinishingStart { screen, flags };
             checker.check(what, &T, &present, start)?;
             checker.check(what, &T, &present, finishing)?;
+            checker.check(what, &T, &present, Call::Why { screen, flags })?;
             Ok(())
         };
         for screen in 0..=255 {

@@ -7,10 +7,10 @@
 //! fields, tables bad in each of theirs and of each wrong length, every screen,
 //! flag bit and set of flags. Then calls on random sessions, made from the seed,
 //! until there are as many as asked for.
-//! After each call the whole lent session, the answer, the buffer and the bytes
-//! around them are compared. At the first difference it is printed, and the exit
-//! code is 1. At the end the program prints how often each call was made, each
-//! refusal and each rule came up, and exits with 1 if one never did.
+//! After each call the whole lent session, the answer, the table, the buffer and
+//! the bytes around them are compared. At the first difference it is printed, and
+//! the exit code is 1. At the end the program prints how often each call was
+//! made, each refusal and each rule came up, and exits with 1 if one never did.
 
 mod arguments;
 mod fields;
@@ -34,7 +34,8 @@ fn main() -> ExitCode {
     let begun = Instant::now();
     let mut checker = Checker::default();
     let found = compare(&mut checker, seed, calls);
-    run::end("calls", seed, begun, &checker, found, &Kind::ALL)
+    let missing = checker.counts.missing(&Kind::ALL, 1);
+    run::end("calls", seed, begun, &checker, found, missing)
 }
 
 fn compare(checker: &mut Checker, seed: u64, calls: u64) -> Checked {

@@ -30,7 +30,7 @@ pub fn walk(checker: &mut Checker, random: &mut Random) -> Checked {
             };
             checker.check("tables changed", &table, &present, call)?;
         }
-        session = after.view();
+        session = after.session.view();
     }
     Ok(())
 }

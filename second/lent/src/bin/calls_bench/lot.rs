@@ -6,14 +6,15 @@ use second::session::{MAX_HEIGHT, MAX_TASKS};
 use second::table::flag_word;
 use second::{calls, Session};
 
-use lent_calls::call::{by_library, on_session, Call, Kind};
+use lent_calls::call::{by_library, on_session, Call, Kind, Reply};
 use lent_calls::sessions::{held, T};
 use lent_calls::stored::Stored;
 
 use crate::by_value;
 use crate::sizes::Size;
 
-/// The calls that are measured. Launch is left out: it has but one session.
+/// The calls that are measured. Launch is left out: it has but one session. Why
+/// is left out: it is a start's choice.
 pub const KINDS: [Kind; 6] = [
     Kind::Start,
     Kind::FinishingStart,
@@ -62,6 +63,7 @@ impl Lot {
             Kind::Look => Call::Look,
             Kind::Save => Call::Save { length: BUFFER },
             Kind::Restore => Call::Restore { image: &self.image },
+            Kind::Why => Call::Why { screen, flags },
         }
     }
 
@@ -72,14 +74,14 @@ impl Lot {
             let (mut ours, mut theirs) = (held(&self.session), held(&self.session));
             let reply = by_library(self.call(place), &T, &mut ours, &mut buffer);
             let answer = made_by_value(self.call(place), &mut theirs);
-            let same = reply.answer == answer && ours.bytes() == theirs.bytes();
+            let same = reply == Reply::Answer(answer) && ours.bytes() == theirs.bytes();
             assert!(same, "by value: {} differs", self.call(place));
         }
     }
 
     /// Whether the call is there in plain Rust by value.
     pub fn is_by_value(&self) -> bool {
-        !matches!(self.kind, Kind::Save | Kind::Restore)
+        !matches!(self.kind, Kind::Save | Kind::Restore | Kind::Why)
     }
 
     /// The sessions of the library's calls.
@@ -105,7 +107,7 @@ impl Lot {
 fn accepted_starts(session: &Session) -> Vec<(u8, u32)> {
     let sets = (0..64).map(flag_word);
     sets.flat_map(|flags| (0..T[0]).map(move |screen| (screen, flags)))
-        .filter(|&(screen, flags)| calls::rule(&T, session, screen, flags).is_ok())
+        .filter(|&(screen, flags)| calls::why(&T, session, screen, flags).refusal == 0)
         .collect()
 }
 

@@ -43,7 +43,7 @@ fn main() -> ExitCode {
     let end = begun + Duration::from_secs(seconds);
     let mut checker = Checker::default();
     let found = fuzz(&mut checker, seed, end, calls);
-    run::end("fuzz", seed, begun, &checker, found, &[])
+    run::end("fuzz", seed, begun, &checker, found, Vec::new())
 }
 
 fn fuzz(checker: &mut Checker, seed: u64, end: Instant, calls: u64) -> Checked {
@@ -138,6 +138,7 @@ impl Made {
                 length: self.length,
             },
             Kind::Restore => Call::Restore { image },
+            Kind::Why => Call::Why { screen, flags },
         }
     }
 }

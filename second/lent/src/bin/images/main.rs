@@ -28,8 +28,8 @@ fn main() -> ExitCode {
     let begun = Instant::now();
     let mut checker = Checker::default();
     let found = compare(&mut checker, seed, images);
-    let kinds = [Kind::Save, Kind::Restore];
-    run::end("images", seed, begun, &checker, found, &kinds)
+    let missing = checker.counts.missing(&[Kind::Save, Kind::Restore], 1);
+    run::end("images", seed, begun, &checker, found, missing)
 }
 
 fn compare(checker: &mut Checker, seed: u64, images: u64) -> Checked {

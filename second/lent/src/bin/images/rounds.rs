@@ -4,7 +4,7 @@ use second::random::Random;
 use second::session::{MAX_HEIGHT, MAX_TASKS};
 use second::{Session, Task};
 
-use lent_calls::call::Call;
+use lent_calls::call::{Call, Outcome};
 use lent_calls::check::{Checked, Checker};
 use lent_calls::damage;
 use lent_calls::sessions::{self, held, Listed, T};
@@ -69,7 +69,7 @@ fn restore(
     table: &[u8],
     present: &Stored,
     image: &[u8],
-) -> Checked<Stored> {
+) -> Checked<Outcome> {
     checker.check(what, table, present, Call::Restore { image })
 }
 
@@ -79,7 +79,7 @@ fn save(
     table: &[u8],
     session: &Stored,
     length: usize,
-) -> Checked<Stored> {
+) -> Checked<Outcome> {
     checker.check(what, table, session, Call::Save { length })
 }
 
@@ -104,7 +104,7 @@ fn there_and_back(
     for present in [Stored::FRESH, stored, other] {
         let after = restore(checker, "sessions there and back", table, &present, &image)?;
         assert!(
-            after == stored,
+            after.session == stored,
             "the second navigator restores what it saved"
         );
     }
