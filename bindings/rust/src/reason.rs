@@ -74,13 +74,14 @@ impl fmt::Display for Rule {
     }
 }
 
-/// How a task is found for a start.
+/// How a task is found for a start, by its number.
 #[derive(Clone, Copy, Debug, PartialEq, Eq, Hash)]
+#[repr(u8)]
 pub enum FoundBy {
     /// The screen is its root.
-    Root,
+    Root = 1,
     /// Its root has the screen's affinity.
-    Affinity,
+    Affinity = 2,
 }
 
 /// The task that is found for a start.
