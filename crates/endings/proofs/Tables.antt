@@ -7,10 +7,11 @@ use borrow.Rule.Slice.PartMut.{midOf}
 use Rattle.model.specs.Table.{sizeOf, tableRefusal}
 use Rattle.model.specs.Player.{tableIn, recordBytes}
 use Rattle.session.specs.Stored.{hold}
+use Rattle.line.proofs.Copies.{part-rest}
 use Rattle.recording.specs.Replay.{ending, replayed}
 use Rattle.recording.specs.Ignored.{ignoredFrom}
 use Rattle.endings.specs.Endings.{ignoredIn}
-use Rattle.endings.proofs.Parts.{part-rest, take-taken, drop-taken}
+use Rattle.endings.proofs.Parts.{take-taken, drop-taken}
 
 module _ (l : List ℕ) (n : ℕ) (e : n ≡ length (tableIn l)) where
   pub table-part : take n l ≡ tableIn l

@@ -86,15 +86,6 @@ pub fn compare(first: &[u8], second: &[u8]) -> Difference
 
 // ---- text
 
-// Writes a text. Yields the place after it.
-fn write_text(out: &mut [u8], at: usize, text: &[u8]) -> usize
-    requires { ⌜ at + length (now text) ≤ length (now out) ⌝ }
-    ensures place { λ r. ⌜ r ≡ at + length (now (text .entry)) ⌝ }
-    ensures bytes { λ r. ⌜ now (out .exit) ≡ written (now (out .entry)) at (now (text .entry)) ⌝ }
-{
-    at + bytes::copy(text, &mut out[at..])
-}
-
 // Writes a number below 1000 in base ten. Yields the place after it.
 fn write_number(out: &mut [u8], at: usize, x: u16) -> usize
     requires { ⌜ (x < 1000) × (at + 4 ≤ length (now out)) ⌝ }
@@ -129,11 +120,11 @@ pub fn write_verdict(out: &mut [u8], d: Difference) -> usize
     ensures bound { λ r. ⌜ r ≤ longestVerdict ⌝ }
 {
     if !d.found {
-        return write_text(out, 0, b"alike\n");
+        return line::write_text(out, 0, b"alike\n");
     }
-    let number = write_text(out, 0, b"apart after ");
+    let number = line::write_text(out, 0, b"apart after ");
     let backs = write_number(out, number, d.backs);
-    let line = write_text(out, backs, b" Backs\n");
+    let line = line::write_text(out, backs, b" Backs\n");
     let kind = last_kind(d.backs);
     let first = d.first;
     let second = d.second;

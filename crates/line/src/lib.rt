@@ -1,4 +1,4 @@
-// The player's line of text, byte for byte, into a lent buffer.
+// Text, numbers and the player's line, byte for byte, into a lent buffer.
 
 ghost use Prim.Native.Nat.{_+_, _≤_};
 ghost use mathlib.Core.Path.{_≡_};
@@ -7,6 +7,15 @@ ghost use lib.ListN.{length};
 ghost use Rattle.model.specs.Player.{decimal, lineOf, longestLine};
 ghost use Rattle.model.specs.Written.{written};
 use model::Answer;
+
+// Writes a text. Yields the place after it.
+pub fn write_text(out: &mut [u8], at: usize, text: &[u8]) -> usize
+    requires { ⌜ at + length (now text) ≤ length (now out) ⌝ }
+    ensures place { λ r. ⌜ r ≡ at + length (now (text .entry)) ⌝ }
+    ensures bytes { λ r. ⌜ now (out .exit) ≡ written (now (out .entry)) at (now (text .entry)) ⌝ }
+{
+    at + bytes::copy(text, &mut out[at..])
+}
 
 // Writes a number in base ten, and then the byte `end`. Yields the place after it. Most numbers have one digit.
 pub fn put(out: &mut [u8], at: usize, x: u8, end: u8) -> usize

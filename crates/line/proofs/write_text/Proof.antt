@@ -2,9 +2,9 @@
 use Prim.Native.Nat.{_+_}
 use mathlib.Core.Path.{ap}
 use borrow.Author.Needs.{needs}
-use Rattle.endings.proofs.Copies.{copied}
-use Rattle.endings.proofs.write_text.Statement.{statement}
-use Rattle.endings.proofs.write_text.Tie as tie
+use Rattle.line.proofs.Copies.{copied}
+use Rattle.line.proofs.write_text.Statement.{statement}
+use Rattle.line.proofs.write_text.Tie as tie
 
 returns : tie.Need-returns
 returns c =
