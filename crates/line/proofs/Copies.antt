@@ -1,12 +1,13 @@
--- All of a list from a place on, as a part of a slice; and a text copied to its start is written at that place.
+-- All of a list from a place on, as a part of a slice; and what is written at its start is written at that place.
 use Prim.Native.Nat.{ℕ, _+_, _-_}
-use mathlib.Core.Path.{_≡_, sym}
+use mathlib.Core.Path.{_≡_, sym, _∙_}
 use mathlib.Core.List.{List, [], _++_, append-nil, append-assoc}
 use native.Mathlib.Omega.{arith}
 use lib.ListN.{length, take, drop, length-drop, drop-of-length-le}
 use lib.Seq.{take-all, take-length, drop-drop}
 use borrow.Rule.Slice.PartMut.{midOf, postOf, putMid}
 use Rattle.model.specs.Written.{written}
+use Rattle.model.proofs.WrittenLaws.{written-start}
 
 module _ {A : Type 0} where
   pub part-rest : (n : ℕ) (l : List A) → midOf n (length l - n) l ≡ drop n l
@@ -15,9 +16,19 @@ module _ {A : Type 0} where
   pub part-beyond : (n : ℕ) (l : List A) → postOf n (length l - n) l ≡ []
   part-beyond n l = drop-of-length-le (drop n l) {i = length l - n} (omega (arith, length-drop n l))
 
-pub copied : (out text part : List ℕ) (at n : ℕ) → n ≡ length text → part ≡ take n text ++ drop n (midOf at (length out - at) out)
-    → putMid at (length out - at) out part ≡ written out at text
-unfolding written
-copied out text part at n e f =
-    rw (f, part-beyond at out, append-nil, part-rest at out, e, take-length text, drop-drop (length text) at out)
-    (sym (append-assoc (take at out) text (drop (at + length text) out)))
+module _ (out text part : List ℕ) (at : ℕ) where
+  -- a text at the start of what lies behind a place stands at that place
+  placed : part ≡ text ++ drop (length text) (midOf at (length out - at) out) → putMid at (length out - at) out part ≡ written out at text
+  unfolding written
+  placed f =
+      rw (f, part-beyond at out, append-nil, part-rest at out, drop-drop (length text) at out)
+      (sym (append-assoc (take at out) text (drop (at + length text) out)))
+
+  -- it was written there
+  pub written-part : part ≡ written (midOf at (length out - at) out) 0 text → putMid at (length out - at) out part ≡ written out at text
+  written-part f = placed (f ∙ written-start (midOf at (length out - at) out) text)
+
+  -- or copied
+  pub copied : (n : ℕ) → n ≡ length text → part ≡ take n text ++ drop n (midOf at (length out - at) out)
+      → putMid at (length out - at) out part ≡ written out at text
+  copied n e f = placed (rw (f, e, take-length text))

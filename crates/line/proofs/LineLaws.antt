@@ -1,7 +1,7 @@
 -- The text of a line, number by number: each is one to three digits and the byte behind it.
 use Prim.Native.Nat.{ℕ, _+_, _*_, _/_, _%_, _≤_, _<_}
 use mathlib.Core.Path.{_≡_}
-use mathlib.Core.List.{List, [], _∷_, _++_}
+use mathlib.Core.List.{List, [], _∷_, _++_, append-assoc}
 use native.Mathlib.Omega.{arith}
 use lib.Dec.{ltb}
 use lib.ListN.{length, length-append}
@@ -34,6 +34,11 @@ unfolding decimal
 decimal-length n =
     if-elim Short (ltb n 10) _ _ (λ e. omega arith)
     (λ e. if-elim Short (ltb n 100) _ _ (λ f. omega arith) (λ f. omega arith))
+
+-- a number and one byte behind what was written before
+pub number-behind : (n x : ℕ) {a d d′ d″ : List ℕ} {at m r : ℕ}
+    → Wrote d at a d′ m → m ≤ length d → Wrote d′ m (decimal n ++ x ∷ []) d″ r → Wrote d at (a ++ decimal n ++ x ∷ []) d″ r
+number-behind n x {a} v fits w = rw (append-assoc a (decimal n) (x ∷ [])) (wrote-append v fits w)
 
 -- ---- a line
 

@@ -8,7 +8,7 @@ use Rattle.model.specs.Texts.{ascii}
 use Rattle.model.specs.Session.{State, fresh}
 use Rattle.model.specs.Answers.{refused}
 use Rattle.model.specs.Calls.{launch, start, finishingStart, back, look, restore}
-use Rattle.model.specs.Player.{space, newline, decimal, longestLine, Record, Request, unplayable, asks, isStart, lineOf, outcomeOf, recordsIn, tableIn, recordBytes, startsWithTable}
+use Rattle.model.specs.Player.{decimal, longestLine, Record, Request, unplayable, asks, isStart, lineOf, outcomeOf, recordsIn, tableIn, recordBytes, startsWithTable}
 use Rattle.model.specs.Reasons.{noReason, why}
 use Rattle.model.specs.Sentences.{sentenceOf, longestSentence}
 
@@ -22,16 +22,15 @@ reasonFor tb s (asks back) = noReason 0
 reasonFor tb s (asks look) = noReason 0
 reasonFor tb s (asks (restore bytes)) = noReason 0
 
--- what ends the line: with words, the sentence before the newline
-abbrev pub lineEnd : Bool → Reason → List ℕ
-lineEnd false r = newline ∷ []
-lineEnd true r = space ∷ sentenceOf r ++ newline ∷ []
+-- "two spaces before the four numbers"
+abbrev pub fourNumbers : Reason → List ℕ
+fourNumbers r =
+    ascii "  " ++ decimal (r .refusal) ++ ascii " " ++ decimal (r .rule) ++ ascii " " ++ decimal (r .place) ++ ascii " " ++ decimal (r .found)
 
--- "one line with two spaces before the four numbers"
+-- "one line"; "`--words` adds the sentence"
 unfoldable pub reasonLine : Bool → Reason → List ℕ
-reasonLine words r =
-    ascii "  " ++ decimal (r .refusal) ++ space ∷ decimal (r .rule) ++ space ∷ decimal (r .place) ++ space ∷ decimal (r .found)
-    ++ lineEnd words r
+reasonLine false r = fourNumbers r ++ ascii "\n"
+reasonLine true r = fourNumbers r ++ ascii " " ++ sentenceOf r ++ ascii "\n"
 
 -- no line under a start is longer
 abbrev pub longestReason : ℕ

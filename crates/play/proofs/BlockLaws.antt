@@ -36,6 +36,16 @@ records-few (k ∷ s ∷ w₃ ∷ w₂ ∷ []) = omega arith
 records-few (k ∷ s ∷ w₃ ∷ w₂ ∷ w₁ ∷ []) = omega arith
 records-few (k ∷ s ∷ w₃ ∷ w₂ ∷ w₁ ∷ w₀ ∷ rest) = let ih = records-few rest in omega arith
 
+pub records-many : (l : List ℕ) → length l ≤ 6 * length (recordsIn l)
+unfolding recordsIn
+records-many [] = omega arith
+records-many (k ∷ []) = omega arith
+records-many (k ∷ s ∷ []) = omega arith
+records-many (k ∷ s ∷ w₃ ∷ []) = omega arith
+records-many (k ∷ s ∷ w₃ ∷ w₂ ∷ []) = omega arith
+records-many (k ∷ s ∷ w₃ ∷ w₂ ∷ w₁ ∷ []) = omega arith
+records-many (k ∷ s ∷ w₃ ∷ w₂ ∷ w₁ ∷ w₀ ∷ rest) = let ih = records-many rest in omega arith
+
 pub fitting-all : (l out : List ℕ) → longestLine * length (recordsIn l) ≤ length out → fitting l out ≡ recordsIn l
 fitting-all l out h = take-all (length out / longestLine) (recordsIn l) (omega arith)
 

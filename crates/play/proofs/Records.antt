@@ -23,7 +23,7 @@ wholes (suc i) l = wholes i l ++ (recordAt l (6 * i) ∷ [])
 
 -- ---- one record
 
-records-step : (l : List ℕ) → 6 ≤ length l → recordsIn l ≡ recordAt l 0 ∷ recordsIn (drop 6 l)
+pub records-step : (l : List ℕ) → 6 ≤ length l → recordsIn l ≡ recordAt l 0 ∷ recordsIn (drop 6 l)
 unfolding recordsIn
 records-step [] h = absurd (omega arith)
 records-step (k ∷ []) h = absurd (omega arith)
@@ -33,7 +33,7 @@ records-step (k ∷ b ∷ w₃ ∷ w₂ ∷ []) h = absurd (omega arith)
 records-step (k ∷ b ∷ w₃ ∷ w₂ ∷ w₁ ∷ []) h = absurd (omega arith)
 records-step (k ∷ b ∷ w₃ ∷ w₂ ∷ w₁ ∷ w₀ ∷ rest) h = refl
 
-records-cut : (l : List ℕ) → 1 ≤ length l → length l < 6 → recordsIn l ≡ cutAt l 0 ∷ []
+pub records-cut : (l : List ℕ) → 1 ≤ length l → length l < 6 → recordsIn l ≡ cutAt l 0 ∷ []
 unfolding recordsIn
 records-cut [] h b = absurd (omega arith)
 records-cut (k ∷ []) h b = refl

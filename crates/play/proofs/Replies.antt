@@ -44,6 +44,14 @@ fresh-playable tb = rw fresh-held at (sound-playable tb fresh (fresh-sound tb))
 pub playable-ready : (tb : List ℕ) (c : Session) → Playable tb c → tableRefusal tb ≡ 0 → Ready tb c
 playable-ready tb c p e = record { good = e; sound = p .sound e }
 
+-- the table's refusal is the one that all calls share: the session is sound
+pub table-shared : (tb : List ℕ) (c : Session) → Playable tb c → tableRefusal tb ≡ sharedRefusal tb c
+table-shared tb c p = go (tableRefusal tb) refl
+  where
+    go : (n : ℕ) → tableRefusal tb ≡ n → n ≡ sharedRefusal tb c
+    go zero e = sym (shared-passed tb c e (p .sound e))
+    go (suc n) e = sym (shared-bad-table tb c (suc n) e (λ o. omega arith))
+
 -- ---- what is sought
 
 module _ (tb : List ℕ) (c : Session) (b w k : ℕ) (x : Sought) where
@@ -61,14 +69,6 @@ module _ (tb : List ℕ) (c : Session) (b w k : ℕ) (x : Sought) where
 -- ---- the plan
 
 module _ (tb : List ℕ) (c : Session) (z : Sized c) (p : Playable tb c) where
-  -- the table's refusal is the one that all calls share: the session is sound
-  table-shared : tableRefusal tb ≡ sharedRefusal tb c
-  table-shared = go (tableRefusal tb) refl
-    where
-      go : (n : ℕ) → tableRefusal tb ≡ n → n ≡ sharedRefusal tb c
-      go zero e = sym (shared-passed tb c e (p .sound e))
-      go (suc n) e = sym (shared-bad-table tb c (suc n) e (λ o. omega arith))
-
   pub plan-gives : (kind b w : ℕ) (x : Sought) → SoughtFor (isStart kind) tb c b w (tableRefusal tb) x
       → Gives c (planFor (x .number) tb c (requestOf kind b w)) (replyStored tb c (requestOf kind b w))
   unfolding planFor
@@ -76,12 +76,12 @@ module _ (tb : List ℕ) (c : Session) (z : Sized c) (p : Playable tb c) where
     where
       -- nothing was sought
       number : isStart kind ≡ false → x .number ≡ sharedRefusal tb c
-      number e = ap (λ (y : Sought). y .number) (rw e at s) ∙ table-shared
+      number e = ap (λ (y : Sought). y .number) (rw e at s) ∙ table-shared tb c p
 
       go : Kind kind → Gives c (planFor (x .number) tb c (requestOf kind b w)) (replyStored tb c (requestOf kind b w))
       go (launches e) = rw (request-1 kind b w e) (launch-gives tb c z (x .number) (number (rw e)))
-      go (starts e) = rw (request-2 kind b w e) (start-gives tb c z b w false (tableRefusal tb) table-shared ((rw e at s) .number))
-      go (finishes e) = rw (request-3 kind b w e) (start-gives tb c z b w true (tableRefusal tb) table-shared ((rw e at s) .number))
+      go (starts e) = rw (request-2 kind b w e) (start-gives tb c z b w false (tableRefusal tb) (table-shared tb c p) ((rw e at s) .number))
+      go (finishes e) = rw (request-3 kind b w e) (start-gives tb c z b w true (tableRefusal tb) (table-shared tb c p) ((rw e at s) .number))
       go (backs e) = rw (request-4 kind b w e) (back-gives tb c z (x .number) (number (rw e)))
       go (looks e) = rw (request-5 kind b w e) (look-gives tb c z (x .number) (number (rw e)))
       go (unknown e n) = rw (e b w) (still-gives c z 8)

@@ -7,6 +7,9 @@ ghost use Rattle.model.specs.Sentences.{ruleSentence, refusalSentence, sentence
 ghost use Rattle.model.specs.Written.{written};
 use model::Reason;
 
+// No sentence is longer.
+pub const LONGEST: usize = 120;
+
 // ---- the rules
 
 const RULE_1: [u8; 69] = *b"the single-instance screen has its task: that task comes to the front";

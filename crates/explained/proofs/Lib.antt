@@ -1,0 +1,5 @@
+pub mod Texts
+pub mod Reasoned
+pub mod Prefixes
+pub mod Explaining
+pub mod BlockLaws
