@@ -10,13 +10,23 @@ use Rattle.session.specs.Stored.{view, hold}
 use Rattle.notes.specs.Places.{Tells}
 use Rattle.play.specs.Steps.{Playable}
 use Rattle.playing.specs.Restores.{restoresFrom}
+use Rattle.playing.specs.declared.Said.{Said}
 use Rattle.playing.specs.declared.Turned.{Turned}
+
+-- a block has so many records at most
+abbrev pub mostRecords : ℕ
+mostRecords = 10000
+
+-- what saying a block leaves, in whatever manner
+pub record Says (tb : List ℕ) (c : Session) (block : List ℕ) (r : Said) : Type 0 where
+  pub played : r .session ≡ hold (sessionAfter tb (view c) (recordsIn block))
+  pub keeps : Playable tb (r .session)
 
 -- where the input goes on behind it, the block holds whole records (`WholeBlocks` in `play/specs/Blocks.antt`)
 pub record Turns (tb : List ℕ) (c : Session) (r : Turned) : Type 0 where
   pub block : List ℕ
   pub played : r .session ≡ hold (sessionAfter tb (view c) (recordsIn block))
   pub met : Tells (restoresFrom 1 (recordsIn block)) (r .restores)
-  pub few : (r .restores .count ≤ 10000) × (r .restores .first ≤ 10000)
+  pub few : (r .restores .count ≤ mostRecords) × (r .restores .first ≤ mostRecords)
   pub whole : r .more ≡ true → length block % 6 ≡ 0
   pub keeps : Playable tb (r .session)

@@ -1,5 +1,6 @@
-// The player: a table and then records from a file, a line of text for each record on standard output.
-// It only reads, calls and writes, in blocks; what it writes is the business of `play` and `input`. Memory does not grow.
+// The player and `explain`: a table and then records from a file, a line of text for each record on standard output.
+// It only reads, calls and writes, in blocks; what it writes is the business of `play`, `explained` and `input`. Memory does
+// not grow.
 // What cannot be read or written is told on standard error; a line there that begins with `warning: ` changes nothing.
 
 ghost use Prim.Native.Nat.{ℕ, _+_, _≤_};
@@ -12,7 +13,7 @@ ghost use Rattle.model.specs.Player.{recordsIn};
 ghost use Rattle.notes.specs.Places.{Tells};
 ghost use Rattle.play.specs.Steps.{Playable};
 ghost use Rattle.playing.specs.Restores.{restoresFrom, behind};
-ghost use Rattle.playing.specs.Turns.{Turns};
+ghost use Rattle.playing.specs.Turns.{mostRecords, Says, Turns};
 use libc::STDERR_FILENO;
 use libc::STDOUT_FILENO;
 use notes::Notes;
@@ -114,6 +115,66 @@ fn warn(met: Notes) {
 
 // ---- blocks
 
+// What is said of each record: the player's line alone; or the reason too, under that of a start; or that with its sentence.
+pub enum Manner {
+    Lines,
+    Reasons,
+    Sentences,
+}
+
+// What saying a block leaves: the session, and whether all of it was written.
+struct Said {
+    session: Session,
+    went: bool,
+}
+
+// Says the player's lines of a block.
+fn say_lines(table: &[u8], s: Session, block: &[u8]) -> Said
+    requires { ⌜ Playable (now table) s ⌝ }
+    requires { ⌜ length (recordsIn (now block)) ≤ mostRecords ⌝ }
+    ensures { λ r. ⌜ Says (now (table .entry)) s (now (block .entry)) r ⌝ }
+{
+    let mut output = [0u8; line::LONGEST * RECORDS];
+    let played = play::play(table, s, block, &mut output);
+    let written = played.written;
+    let went = print(&output[..written]);
+    let after = played.session;
+    Said {
+        session: after,
+        went: went,
+    }
+}
+
+// Says them and the reasons of starts.
+fn say_reasons(table: &[u8], s: Session, block: &[u8], words: bool) -> Said
+    requires { ⌜ Playable (now table) s ⌝ }
+    requires { ⌜ length (recordsIn (now block)) ≤ mostRecords ⌝ }
+    ensures { λ r. ⌜ Says (now (table .entry)) s (now (block .entry)) r ⌝ }
+{
+    let mut output = [0u8; explained::LONGEST * RECORDS];
+    let played = explained::explain(table, s, block, words, &mut output);
+    let written = played.written;
+    let went = print(&output[..written]);
+    let after = played.session;
+    Said {
+        session: after,
+        went: went,
+    }
+}
+
+// Says a block in this manner.
+fn say(table: &[u8], s: Session, block: &[u8], manner: Manner) -> Said
+    requires { ⌜ Playable (now table) s ⌝ }
+    requires { ⌜ length (recordsIn (now block)) ≤ mostRecords ⌝ }
+    ensures { λ r. ⌜ Says (now (table .entry)) s (now (block .entry)) r ⌝ }
+{
+    match manner {
+        Manner::Lines => say_lines(table, s, block),
+        Manner::Reasons => say_reasons(table, s, block, false),
+        Manner::Sentences => say_reasons(table, s, block, true),
+    }
+}
+
 // What is left after a block: the session, its records of kind 6, and whether to go on.
 struct Turned {
     session: Session,
@@ -122,33 +183,30 @@ struct Turned {
 }
 
 // Plays one block of records. It goes on unless the input ended in it or what it says cannot be written.
-fn turn(fd: i32, table: &[u8], s: Session) -> Turned
+fn turn(fd: i32, table: &[u8], s: Session, manner: Manner) -> Turned
     requires { ⌜ Playable (now table) s ⌝ }
     ensures { λ r. ⌜ Turns (now (table .entry)) s r ⌝ }
 {
     let mut input = [0u8; BLOCK];
-    let mut output = [0u8; line::LONGEST * RECORDS];
     let got = read_block(fd, &mut input);
     let met = restores(&input[..got]);
-    let played = play::play(table, s, &input[..got], &mut output);
-    let written = played.written;
-    let went = print(&output[..written]);
-    let after = played.session;
+    let said = say(table, s, &input[..got], manner);
+    let after = said.session;
     Turned {
         session: after,
         restores: met,
-        more: went & (got == BLOCK),
+        more: said.went & (got == BLOCK),
     }
 }
 
 // Plays block after block from a fresh session. No input reaches the number of blocks that is counted down from.
-fn run(fd: i32, table: &[u8]) {
+fn run(fd: i32, table: &[u8], manner: Manner) {
     let mut s = Session::fresh();
     let mut met = Notes::none();
     let mut others: usize = 0;
     let mut left: u64 = 1000000000000000;
     while left > 0 {
-        let t = turn(fd, table, s);
+        let t = turn(fd, table, s, manner);
         s = t.session;
         let here = t.restores;
         met = joined(met, others, here);
@@ -180,14 +238,14 @@ fn stop() {
     print(&line[..long]);
 }
 
-// Plays what a file descriptor gives: the table, then the records. What is read and written no contract can say; what the
-// player's text is stands in `input`, what a block gives in `play`.
-pub fn play_from(fd: i32) {
+// Plays what a file descriptor gives, in this manner: the table, then the records. What is read and written no contract can
+// say; what the player's text is stands in `input`, what a block gives in `play` and `explained`.
+pub fn play_from(fd: i32, manner: Manner) {
     let mut buffer = [0u8; table::LONGEST];
     let got = read_table(fd, &mut buffer);
     let Beginning::Table(long) = table::beginning_of(&buffer[..got]) else {
         stop();
         return;
     };
-    run(fd, &buffer[..long]);
+    run(fd, &buffer[..long], manner);
 }

@@ -9,11 +9,11 @@ use Rattle.playing.proofs.run.Statement.{statement}
 use Rattle.playing.proofs.run.Tie as tie
 
 abbrev Inv-loop : tie.InvT-loop
-Inv-loop fd table s₀ met₀ others₀ left₀ s met others left =
+Inv-loop fd table manner s₀ met₀ others₀ left₀ s met others left =
     Playable table s × ((met .count ≤ others) × (others + 10000 * left ≤ 10000000000000000000))
 
 abbrev μ-loop : tie.MeasureT-loop
-μ-loop fd table s₀ met₀ others₀ left₀ s met others left = left
+μ-loop fd table manner s₀ met₀ others₀ left₀ s met others left = left
 
 loop-holds : tie.Need-loop-holds Inv-loop μ-loop
 loop-holds c =
