@@ -1,4 +1,5 @@
-// The player on each stored input that an argument names: the name on a line, then the player's lines.
+// The player and `explain` on each stored input that an argument names: the name on a line, then the text. Behind `--reasons`
+// and behind `--words` the inputs are explained.
 //
 // Where the expected lines come from:
 //   trace_launch_modes      the traces of four launch modes printed in documents 003 and 004
@@ -14,10 +15,14 @@
 //   bad_arguments           screens not below N and flag bits outside the six
 //   limits                  both limits reached, passed and left: 32 screens in a task, 16 tasks
 //   cut_after_1 to _5       a last record that is cut after so many bytes
+//   every_rule              each of R1 to R18, and each refusal of a start under a good table
+// The reasons in every_rule were written by hand from 01's rules, step by step with the stacks, and those in the other inputs
+// are from the second navigator.
 use libc::STDOUT_FILENO;
+use playing::Manner;
 
 // Plays the file with this path.
-fn play_file(path: &[u8]) {
+fn play_file(path: &[u8], manner: Manner) {
     let fd = os::open_read(path);
     if fd < 0 {
         os::fail(path);
@@ -25,24 +30,32 @@ fn play_file(path: &[u8]) {
     }
     io::write_all(STDOUT_FILENO, path);
     io::write_all(STDOUT_FILENO, b"\n");
-    playing::play_from(fd);
+    playing::play_from(fd, manner);
     libc::close(fd);
 }
 
-// Plays the file that the argument at this place names.
-fn play_at(place: usize) {
-    let mut path = io::buffer();
-    let n = os::arg(place, &mut path);
+// Takes the argument at this place: a manner, or a file to play in the one so far. Yields the manner for what follows.
+fn take(place: usize, manner: Manner) -> Manner {
+    let mut word = io::buffer();
+    let n = os::arg(place, &mut word);
     if os::errno() != 0 {
         os::fail(b"argument");
-        return;
+        return manner;
     }
-    play_file(&path[..n]);
+    if check::same(&word[..n], b"--reasons") {
+        return Manner::Reasons;
+    }
+    if check::same(&word[..n], b"--words") {
+        return Manner::Sentences;
+    }
+    play_file(&word[..n], manner);
+    manner
 }
 
 fn main() {
     let count = os::arg_count();
+    let mut manner = Manner::Lines;
     for i in 1..count {
-        play_at(i);
+        manner = take(i, manner);
     }
 }
