@@ -84,9 +84,9 @@ fn explain_record(
     let played = play::play(table, s, bytes, out);
     let kind = bytes[0];
     if (kind == 2) | (kind == 3) {
+        let after = played.session;
         let reason = reason_of(table, s, bytes, number);
         let written = write_reason(out, played.written, reason, words);
-        let after = played.session;
         return Played {
             session: after,
             used: played.used,

@@ -25,24 +25,25 @@ plays c =
 
 reason-of-requires : tie.Need-reason-of-requires
 reason-of-requires c κs =
-    let start = begun (c .before .before .before .before) in
+    let start = begun (c .before .before .before .before .before) in
     start .pre .0 .0 ∙ table-shared (start .args .table .now) (start .args .s) (start .pre .0 .1)
 
 write-reason-requires : tie.Need-write-reason-requires
 write-reason-requires c κs =
-    let p = c .before .before .before .before .before .before in
+    let p = c .before .before .before .before .before .before .before in
     omega (arith, plays p .bound, begun p .pre .1 .1, p .play .kept .1 .1 .1 .0)
 
 returns : tie.Need-returns
 returns c =
-    let write = c .before .before .before in
+    let write = c .before .before in
     let reason = write .before .before in
-    let p = reason .before .before .before .before .before in
+    let taken = reason .before .before .if1 .taken in
+    let p = reason .before .before .before .before .before .before in
     let start = begun p in
     let a = start .args in
-    let told = reason-told (a .table .now) (a .s) (start .pre .0 .1 .blank) (a .bytes .now) (reason .before .if1 .taken) in
+    let told = reason-told (a .table .now) (a .s) (start .pre .0 .1 .blank) (a .bytes .now) taken in
     rw (only-one (a .bytes .now) (start .pre .1 .0 .0) (start .pre .1 .0 .1))
-    (explains-start (a .words) (plays p) (reason .before .if1 .taken) (reason .reason-of .result) (told ∙ sym (reason .reason-of .ensures))
+    (explains-start (a .words) (plays p) taken (reason .reason-of .result) (told ∙ sym (reason .reason-of .ensures))
     (omega (arith, plays p .bound, start .pre .1 .1)) (wrote longestReason (write .write-reason .ensures)) (write .write-reason .ensures .1 .1)
     (p .play .result .used))
 
