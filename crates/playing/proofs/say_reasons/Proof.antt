@@ -9,7 +9,7 @@ use Rattle.playing.proofs.say_reasons.Statement.{statement}
 use Rattle.playing.proofs.say_reasons.Tie as tie
 
 slice-aggregate-explain : tie.Need-slice-aggregate-explain
-slice-aggregate-explain c = sym (length-replicate {A = ℕ} 1670000 0)
+slice-aggregate-explain c = sym (length-replicate {A = ℕ} _ 0)
 
 explain-requires : tie.Need-explain-requires
 explain-requires c κs =
