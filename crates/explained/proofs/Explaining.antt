@@ -1,6 +1,6 @@
 -- Records explained one after the other: the text and the session of one record, and of some more behind others.
 use Prim.Native.Nat.{ℕ, _+_, _*_, _-_, _≤_, _<_}
-use mathlib.Core.Path.{_≡_, refl, sym, _∙_, ap}
+use mathlib.Core.Path.{_≡_, sym, _∙_, ap}
 use mathlib.Core.Bool.{Bool, true, false}
 use mathlib.Core.List.{List, [], _∷_, _++_, append-nil}
 use native.Mathlib.Nat.{zero-add}
@@ -11,7 +11,7 @@ use Rattle.model.specs.declared.Reason.{Reason}
 use Rattle.model.specs.Answers.{numbersOf}
 use Rattle.model.specs.Session.{State}
 use Rattle.model.specs.Player.{Record, outcomeOf, isStart, lineOf, textOf, sessionAfter, longestLine}
-use Rattle.model.specs.Explained.{reasonFor, reasonLine, underRecord, explainedText, longestReason, longestExplained}
+use Rattle.model.specs.Explained.{reasonFor, reasonLine, explainedText, longestReason, longestExplained}
 use Rattle.model.specs.Written.{written}
 use Rattle.model.proofs.WrittenLaws.{Wrote, wrote-nil, wrote-append}
 use Rattle.session.specs.declared.Session.{Session}

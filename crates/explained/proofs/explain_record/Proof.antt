@@ -1,8 +1,7 @@
 -- The player's line, and the reason under that of a start.
-use mathlib.Core.Path.{_≡_, sym, _∙_}
-use mathlib.Core.List.{List, [], _∷_}
+use mathlib.Core.Path.{sym, _∙_}
+use mathlib.Core.List.{[], _∷_}
 use native.Mathlib.Omega.{arith}
-use lib.ListN.{length}
 use borrow.Author.Needs.{needs}
 use Rattle.model.specs.Explained.{longestReason}
 use Rattle.model.proofs.WrittenLaws.{wrote}

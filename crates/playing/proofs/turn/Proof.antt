@@ -1,15 +1,14 @@
 -- A block has 10,000 records at most, and all of it is said.
-use Prim.Native.Nat.{ℕ, _/_, _%_, _≤_, _*_}
-use mathlib.Core.Path.{_≡_, refl, sym, _∙_, ap}
+use Prim.Native.Nat.{ℕ, _%_, _≤_, _*_}
+use mathlib.Core.Path.{_≡_, refl}
 use mathlib.Core.List.{List}
 use native.Mathlib.Omega.{arith}
 use lib.ListN.{length, take}
-use lib.Seq.{length-take-le, take-all}
+use lib.Seq.{length-take-le}
 use borrow.Author.Needs.{needs}
 use borrow.Author.Tests.{leb-true, eqb-true}
-use Rattle.model.specs.Player.{Record, recordsIn, sessionAfter, longestLine}
+use Rattle.model.specs.Player.{recordsIn}
 use Rattle.model.proofs.Logic.{and-right}
-use Rattle.session.specs.Stored.{view, hold}
 use Rattle.play.proofs.BlockLaws.{records-few}
 use Rattle.playing.specs.Turns.{mostRecords}
 use Rattle.playing.proofs.Restoring.{met-few}
