@@ -25,7 +25,7 @@ extern "C" {
 #endif
 
 /* The number of this interface, which is raised with each change of a struct or of a signature. */
-#define MILCHKOMPASS_ABI 1
+#define MILCHKOMPASS_ABI 2
 
 /* The library's own number. Where it is not MILCHKOMPASS_ABI, header and library do not fit: make no other call. */
 uint32_t milchkompass_abi(void);
@@ -107,8 +107,9 @@ typedef struct milchkompass_session {
 /* A fresh session: no task. Every byte is 0. */
 #define MILCHKOMPASS_SESSION_FRESH {{{0, 0, {0}}}, 0, 0}
 
-/* An answer: the refusal (0 if none), and after the call the front screen, the root and the height of the front task,
- * the number of tasks and the main place. An empty session gives six zeros. */
+/* An answer: the refusal (0 if none), after the call the front screen, the root and the height of the front task, the
+ * number of tasks and the main place, all 0 where the session is empty; and how many screens the call closed, which is
+ * 0 for launch, look and restore. */
 typedef struct milchkompass_answer {
     uint8_t refusal;
     uint8_t screen;
@@ -116,6 +117,7 @@ typedef struct milchkompass_answer {
     uint8_t height;
     uint8_t tasks;
     uint8_t main;
+    uint8_t closed;
 } milchkompass_answer;
 
 /* What a save gives: the refusal (0 if none), and the length of the image (0 if refused). */

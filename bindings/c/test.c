@@ -54,7 +54,7 @@ static bool same(session s, session t) {
     return memcmp(&s, &t, sizeof s) == 0;
 }
 
-/* The call answers these six numbers. */
+/* The call answers these seven numbers. */
 #define ANSWERS(call, ...)                                                                                             \
     do {                                                                                                               \
         answer got = call, wanted = {__VA_ARGS__};                                                                     \
@@ -65,7 +65,7 @@ static bool same(session s, session t) {
 #define REFUSED(number, before, call)                                                                                  \
     do {                                                                                                               \
         session s = before;                                                                                            \
-        ANSWERS(call, number, 0, 0, 0, 0, 0);                                                                          \
+        ANSWERS(call, number, 0, 0, 0, 0, 0, 0);                                                                       \
         expect(same(s, before), #call ": the session");                                                                \
     } while (0)
 
@@ -100,18 +100,18 @@ static void fresh_and_texts(void) {
 /* The player's example, call by call. */
 static void example(void) {
     session s = MILCHKOMPASS_SESSION_FRESH;
-    ANSWERS(milchkompass_look(T, &s), 0, 0, 0, 0, 0, 0);
-    ANSWERS(milchkompass_launch(T, &s), 0, 0, 0, 1, 1, 1);
-    ANSWERS(milchkompass_start(T, &s, 1, 0), 0, 1, 0, 2, 1, 1);
-    ANSWERS(milchkompass_start(T, &s, 3, 0), 0, 3, 3, 1, 2, 2);
+    ANSWERS(milchkompass_look(T, &s), 0, 0, 0, 0, 0, 0, 0);
+    ANSWERS(milchkompass_launch(T, &s), 0, 0, 0, 1, 1, 1, 0);
+    ANSWERS(milchkompass_start(T, &s, 1, 0), 0, 1, 0, 2, 1, 1, 0);
+    ANSWERS(milchkompass_start(T, &s, 3, 0), 0, 3, 3, 1, 2, 2, 0);
     expect(same(s, p10), "the session of P10");
-    ANSWERS(milchkompass_look(T, &s), 0, 3, 3, 1, 2, 2);
+    ANSWERS(milchkompass_look(T, &s), 0, 3, 3, 1, 2, 2, 0);
     expect(same(s, p10), "a look changes nothing");
-    ANSWERS(milchkompass_finish_start(T, &s, 0, NTK), 0, 0, 0, 3, 1, 1);
-    ANSWERS(milchkompass_back(T, &s), 0, 1, 0, 2, 1, 1);
-    ANSWERS(milchkompass_back(T, &s), 0, 0, 0, 1, 1, 1);
-    ANSWERS(milchkompass_back(T, &s), 0, 0, 0, 0, 0, 0);
-    ANSWERS(milchkompass_back(T, &s), 21, 0, 0, 0, 0, 0);
+    ANSWERS(milchkompass_finish_start(T, &s, 0, NTK), 0, 0, 0, 3, 1, 1, 1);
+    ANSWERS(milchkompass_back(T, &s), 0, 1, 0, 2, 1, 1, 1);
+    ANSWERS(milchkompass_back(T, &s), 0, 0, 0, 1, 1, 1, 1);
+    ANSWERS(milchkompass_back(T, &s), 0, 0, 0, 0, 0, 0, 1);
+    ANSWERS(milchkompass_back(T, &s), 21, 0, 0, 0, 0, 0, 0);
     expect(same(s, (session){0}), "the end of the example is a fresh session");
 }
 
@@ -123,22 +123,23 @@ typedef struct stack {
     uint8_t b;
     uint32_t word;
     session after;
+    uint8_t closed;
 } stack;
 
 /* Screens stand bottom first. */
 static const stack stacks[] = {
-    {"P1", {{{0, 3, {0, 1, 2}}}, 1, 1}, false, 1, RTF, {{{0, 3, {0, 2, 1}}}, 1, 1}},
-    {"P2", {{{0, 3, {0, 1, 2}}}, 1, 1}, false, 1, CTP, {{{0, 2, {0, 1}}}, 1, 1}},
-    {"P2, both", {{{0, 3, {0, 1, 2}}}, 1, 1}, false, 1, CTP | RTF, {{{0, 2, {0, 1}}}, 1, 1}},
-    {"P3", {{{0, 3, {0, 1, 2}}}, 1, 1}, false, 2, 0, {{{0, 3, {0, 1, 2}}}, 1, 1}},
+    {"P1", {{{0, 3, {0, 1, 2}}}, 1, 1}, false, 1, RTF, {{{0, 3, {0, 2, 1}}}, 1, 1}, 0},
+    {"P2", {{{0, 3, {0, 1, 2}}}, 1, 1}, false, 1, CTP, {{{0, 2, {0, 1}}}, 1, 1}, 1},
+    {"P2, both", {{{0, 3, {0, 1, 2}}}, 1, 1}, false, 1, CTP | RTF, {{{0, 2, {0, 1}}}, 1, 1}, 1},
+    {"P3", {{{0, 3, {0, 1, 2}}}, 1, 1}, false, 2, 0, {{{0, 3, {0, 1, 2}}}, 1, 1}, 0},
     {"P4", {{{4, 1, {4}}, {3, 1, {3}}, {0, 2, {0, 1}}}, 3, 3}, false, 1, 0,
-           {{{0, 3, {0, 1, 1}}, {4, 1, {4}}, {3, 1, {3}}}, 3, 1}},
+           {{{0, 3, {0, 1, 1}}, {4, 1, {4}}, {3, 1, {3}}}, 3, 1}, 0},
     {"P5", {{{4, 1, {4}}, {3, 1, {3}}, {0, 2, {0, 1}}}, 3, 3}, false, 1, STP,
-           {{{0, 2, {0, 1}}, {4, 1, {4}}, {3, 1, {3}}}, 3, 1}},
-    {"P6", {{{5, 2, {5, 1}}, {0, 1, {0}}}, 2, 2}, false, 5, NTK, {{{5, 2, {5, 1}}, {0, 1, {0}}}, 2, 2}},
-    {"P7", {{{3, 1, {3}}, {0, 1, {0}}}, 2, 2}, false, 3, NTK | MTK, {{{3, 1, {3}}, {0, 1, {0}}}, 2, 2}},
-    {"P8", {{{0, 1, {0}}}, 1, 1}, true, 0, NTK | CTK, {{{0, 1, {0}}}, 1, 1}},
-    {"P9", {{{0, 1, {0}}}, 1, 1}, true, 0, NTK | STP, {{{0}}, 0, 0}},
+           {{{0, 2, {0, 1}}, {4, 1, {4}}, {3, 1, {3}}}, 3, 1}, 0},
+    {"P6", {{{5, 2, {5, 1}}, {0, 1, {0}}}, 2, 2}, false, 5, NTK, {{{5, 2, {5, 1}}, {0, 1, {0}}}, 2, 2}, 0},
+    {"P7", {{{3, 1, {3}}, {0, 1, {0}}}, 2, 2}, false, 3, NTK | MTK, {{{3, 1, {3}}, {0, 1, {0}}}, 2, 2}, 0},
+    {"P8", {{{0, 1, {0}}}, 1, 1}, true, 0, NTK | CTK, {{{0, 1, {0}}}, 1, 1}, 1},
+    {"P9", {{{0, 1, {0}}}, 1, 1}, true, 0, NTK | STP, {{{0}}, 0, 0}, 1},
 };
 
 static void play_stacks(void) {
@@ -147,7 +148,7 @@ static void play_stacks(void) {
         session s = p->before;
         answer a = p->finishing ? milchkompass_finish_start(T, &s, p->b, p->word)
                                 : milchkompass_start(T, &s, p->b, p->word);
-        expect(a.refusal == MILCHKOMPASS_ACCEPTED && same(s, p->after), p->name);
+        expect(a.refusal == MILCHKOMPASS_ACCEPTED && same(s, p->after) && a.closed == p->closed, p->name);
     }
 }
 
@@ -194,7 +195,7 @@ static void save_and_restore(void) {
     expect(memcmp(out, p10_image, sizeof p10_image) == 0, "the image of P10");
     expect(out[sizeof p10_image] == 0xee, "the rest of the buffer");
     session s = {0};
-    ANSWERS(milchkompass_restore(T, &s, out, reply.length), 0, 3, 3, 1, 2, 2);
+    ANSWERS(milchkompass_restore(T, &s, out, reply.length), 0, 3, 3, 1, 2, 2, 0);
     expect(same(s, p10), "restore of P10");
 }
 
@@ -246,18 +247,18 @@ static void full(void) {
     session s = {0};
     milchkompass_launch(T, &s);
     for (int i = 2; i <= MILCHKOMPASS_TASKS; i++)
-        ANSWERS(milchkompass_start(T, &s, 0, NTK | MTK), 0, 0, 0, 1, i, i);
+        ANSWERS(milchkompass_start(T, &s, 0, NTK | MTK), 0, 0, 0, 1, i, i, 0);
     const session tasks = s;
     REFUSED(MILCHKOMPASS_TASKS_FULL, tasks, milchkompass_start(T, &s, 0, NTK | MTK));
     REFUSED(MILCHKOMPASS_TASKS_FULL, tasks, milchkompass_finish_start(T, &s, 0, NTK | MTK));
     s = (session){0};
     milchkompass_launch(T, &s);
     for (int i = 2; i <= MILCHKOMPASS_SCREENS; i++)
-        ANSWERS(milchkompass_start(T, &s, 1, 0), 0, 1, 0, i, 1, 1);
+        ANSWERS(milchkompass_start(T, &s, 1, 0), 0, 1, 0, i, 1, 1, 0);
     const session screens = s;
     REFUSED(MILCHKOMPASS_TASK_FULL, screens, milchkompass_start(T, &s, 1, 0));
     REFUSED(MILCHKOMPASS_TASK_FULL, screens, milchkompass_finish_start(T, &s, 1, 0));
-    ANSWERS(milchkompass_start(T, &s, 0, RTF), 0, 0, 0, 32, 1, 1);
+    ANSWERS(milchkompass_start(T, &s, 0, RTF), 0, 0, 0, 32, 1, 1, 0);
 }
 
 int main(void) {

@@ -2,7 +2,7 @@
 //! length.
 
 /// The number of the interface that this file declares.
-const ABI: u32 = 1;
+const ABI: u32 = 2;
 
 /// The limits of a session: its tasks, and the screens of a task.
 const TASKS: usize = 16;
@@ -41,7 +41,7 @@ impl Session {
     };
 }
 
-/// An answer: six numbers.
+/// An answer: seven numbers.
 #[repr(C)]
 pub struct Answer {
     pub refusal: u8,
@@ -50,6 +50,7 @@ pub struct Answer {
     pub height: u8,
     pub tasks: u8,
     pub main: u8,
+    pub closed: u8,
 }
 
 /// What a save gives.

@@ -5,7 +5,8 @@ use std::fmt;
 use crate::raw;
 use crate::{Flags, Reason, Refusal, Table};
 
-/// What an accepted call leaves in front. An empty session gives zeros.
+/// What an accepted call leaves in front, all zeros where the session is empty,
+/// and how many screens it closed.
 #[derive(Clone, Copy, Debug, Default, PartialEq, Eq, Hash)]
 pub struct Answer {
     /// The front screen.
@@ -18,6 +19,8 @@ pub struct Answer {
     pub tasks: u8,
     /// The place (from 1) of the task made by launch, 0 if it is gone.
     pub main: u8,
+    /// How many screens the call closed; 0 for launch, look and restore.
+    pub closed: u8,
 }
 
 impl Answer {
@@ -178,6 +181,7 @@ fn outcome(answer: raw::Answer) -> Result<Answer, Refusal> {
         height: answer.height,
         tasks: answer.tasks,
         main: answer.main,
+        closed: answer.closed,
     })
 }
 

@@ -15,28 +15,34 @@ const CTP: Flags = Flags::CLEAR_TOP;
 const RTF: Flags = Flags::REORDER_TO_FRONT;
 const CTK: Flags = Flags::CLEAR_TASK;
 
-fn answer(screen: u8, root: u8, height: u8, tasks: u8, main: u8) -> Answer {
+fn answer(screen: u8, root: u8, height: u8, tasks: u8, main: u8, closed: u8) -> Answer {
     Answer {
         screen,
         root,
         height,
         tasks,
         main,
+        closed,
     }
+}
+
+/// The session's look, as the answer of a call that closed so many screens.
+fn seen(s: &Session, closed: u8) -> Answer {
+    Answer { closed, ..s.look() }
 }
 
 #[test]
 fn the_players_example() {
     let mut s = Session::new(table_t());
     assert!(s.look().is_empty());
-    assert_eq!(s.launch(), Ok(answer(0, 0, 1, 1, 1)));
-    assert_eq!(s.start(1, Flags::NONE), Ok(answer(1, 0, 2, 1, 1)));
-    assert_eq!(s.start(3, Flags::NONE), Ok(answer(3, 3, 1, 2, 2)));
-    assert_eq!(s.look(), answer(3, 3, 1, 2, 2));
-    assert_eq!(s.finish_start(0, NTK), Ok(answer(0, 0, 3, 1, 1)));
-    assert_eq!(s.back(), Ok(answer(1, 0, 2, 1, 1)));
-    assert_eq!(s.back(), Ok(answer(0, 0, 1, 1, 1)));
-    assert_eq!(s.back(), Ok(answer(0, 0, 0, 0, 0)));
+    assert_eq!(s.launch(), Ok(answer(0, 0, 1, 1, 1, 0)));
+    assert_eq!(s.start(1, Flags::NONE), Ok(answer(1, 0, 2, 1, 1, 0)));
+    assert_eq!(s.start(3, Flags::NONE), Ok(answer(3, 3, 1, 2, 2, 0)));
+    assert_eq!(s.look(), answer(3, 3, 1, 2, 2, 0));
+    assert_eq!(s.finish_start(0, NTK), Ok(answer(0, 0, 3, 1, 1, 1)));
+    assert_eq!(s.back(), Ok(answer(1, 0, 2, 1, 1, 1)));
+    assert_eq!(s.back(), Ok(answer(0, 0, 1, 1, 1, 1)));
+    assert_eq!(s.back(), Ok(answer(0, 0, 0, 0, 0, 1)));
     assert_eq!(s.back(), Err(Refusal::Empty));
     assert_eq!(s, Session::new(table_t()));
 }
@@ -47,18 +53,19 @@ fn stacks_of_starts() {
     let p4 = session(&[(4, &[4]), (3, &[3]), (0, &[1, 0])], 3);
     let p6 = session(&[(5, &[1, 5]), (0, &[0])], 2);
     let p7 = session(&[(3, &[3]), (0, &[0])], 2);
-    for (before, screen, flags, after) in [
-        (&p1, 1, RTF, "0:[1,2,0], m 1"),
-        (&p1, 1, CTP, "0:[1,0], m 1"),
-        (&p1, 1, CTP | RTF, "0:[1,0], m 1"),
-        (&p1, 2, Flags::NONE, "0:[2,1,0], m 1"),
-        (&p4, 1, Flags::NONE, "0:[1,1,0] 4:[4] 3:[3], m 1"),
-        (&p4, 1, STP, "0:[1,0] 4:[4] 3:[3], m 1"),
-        (&p6, 5, NTK, "5:[1,5] 0:[0], m 2"),
-        (&p7, 3, NTK | MTK, "3:[3] 0:[0], m 2"),
+    for (before, screen, flags, after, closed) in [
+        (&p1, 1, RTF, "0:[1,2,0], m 1", 0),
+        (&p1, 1, CTP, "0:[1,0], m 1", 1),
+        (&p1, 1, CTP | RTF, "0:[1,0], m 1", 1),
+        (&p1, 2, Flags::NONE, "0:[2,1,0], m 1", 0),
+        (&p1, 1, NTK | CTK, "0:[1], m 1", 3),
+        (&p4, 1, Flags::NONE, "0:[1,1,0] 4:[4] 3:[3], m 1", 0),
+        (&p4, 1, STP, "0:[1,0] 4:[4] 3:[3], m 1", 0),
+        (&p6, 5, NTK, "5:[1,5] 0:[0], m 2", 0),
+        (&p7, 3, NTK | MTK, "3:[3] 0:[0], m 2", 0),
     ] {
         let mut s = before.clone();
-        assert_eq!(s.start(screen, flags), Ok(s.look()));
+        assert_eq!(s.start(screen, flags), Ok(seen(&s, closed)));
         assert_eq!(s.to_string(), after, "start {screen} of {before}");
     }
 }
@@ -67,9 +74,15 @@ fn stacks_of_starts() {
 fn stacks_of_finishing_starts() {
     for (flags, after) in [(NTK | CTK, "0:[0], m 1"), (NTK | STP, "m 0")] {
         let mut s = session(&[(0, &[0])], 1);
-        assert_eq!(s.finish_start(0, flags), Ok(s.look()));
+        assert_eq!(s.finish_start(0, flags), Ok(seen(&s, 1)));
         assert_eq!(s.to_string(), after);
     }
+    let mut lifted = session(&[(0, &[2, 1, 0])], 1);
+    assert_eq!(lifted.finish_start(1, RTF), Ok(seen(&lifted, 1)));
+    assert_eq!(lifted.to_string(), "0:[1,0], m 1");
+    let mut most = session(&[(3, &[3]), (0, &[0; 32])], 2);
+    assert_eq!(most.finish_start(0, NTK | CTK), Ok(seen(&most, 33)));
+    assert_eq!(most.to_string(), "0:[0], m 1");
 }
 
 #[test]
@@ -82,7 +95,7 @@ fn save_and_restore() {
     assert_eq!(p10.save_into(&mut buffer), Ok(13));
     assert_eq!((&buffer[..13], buffer[13]), (&saved[..], 0xee));
     let mut s = session(&[(0, &[2, 1, 0])], 1);
-    assert_eq!(s.restore(&saved), Ok(answer(3, 3, 1, 2, 2)));
+    assert_eq!(s.restore(&saved), Ok(answer(3, 3, 1, 2, 2, 0)));
     assert_eq!(s, p10);
 }
 
