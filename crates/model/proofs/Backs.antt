@@ -10,10 +10,12 @@ use Rattle.model.specs.declared.Answer.{Answer}
 use Rattle.model.specs.Lists.{All}
 use Rattle.model.specs.Refusals.{refusal}
 use Rattle.model.specs.Table.{tableRefusal}
-use Rattle.model.specs.Session.{Stack, State, stack, count, screensIn, fresh, mostTasks, mostHeight}
+use Rattle.model.specs.Session.{Stack, State, stack, height, count, screensIn, fresh, mostTasks, mostHeight}
 use Rattle.model.specs.Effects.{close}
 use Rattle.model.specs.Answers.{outcome, settle, lookAt}
 use Rattle.model.specs.Calls.{back, look, backed, ownChecks, done, call}
+use Rattle.model.proofs.Logic.{All-map}
+use Rattle.model.proofs.SumLaws.{sum-most}
 use Rattle.model.proofs.Sessions.{withTasks, same-fields}
 use Rattle.model.proofs.Sound.{TaskSound, Sound}
 use Rattle.model.proofs.Keeps.{settled}
@@ -59,8 +61,7 @@ front-screens s r x (y ∷ ys) ts = omega arith
 
 tasks-most : (tb : List ℕ) (ts : List (Stack ℕ)) → All (TaskSound tb) ts → screensIn ts ≤ length ts * mostHeight
 unfolding screensIn
-tasks-most tb [] h = omega arith
-tasks-most tb (t ∷ ts) h = omega (arith, h .0 .low, tasks-most tb ts (h .1))
+tasks-most tb ts h = sum-most height mostHeight ts (All-map (λ t k. k .low) ts h)
 
 module _ (tb : List ℕ) (s : State ℕ) (h : Sound tb s) where
   pub back-screens : 1 ≤ count s → suc (screensIn (backed s .tasks)) ≡ screensIn (s .tasks)

@@ -1,5 +1,5 @@
--- Document 01, "Stacks to prove", in one table with one theorem; and the player's example, byte for byte.
--- Both are proved by computing: every definition is unfolded.
+-- Document 01, "Stacks to prove", in one table with one theorem; the player's example, byte for byte; and a restore that counts
+-- no screen. All are proved by computing: every definition is unfolded.
 use Prim.Native.Nat.{ℕ, _+_}
 use mathlib.Core.Path.{_≡_, refl}
 use mathlib.Core.List.{List, [], _∷_, _++_, map}
@@ -7,18 +7,20 @@ use lib.ListN.{replicate}
 use Rattle.model.specs.Texts.{ascii}
 use Rattle.model.specs.Refusals.{refusal}
 use Rattle.model.specs.Table.{modeOf, affinityOf, isSingleTop, isSingleTask, isSingleInstance, rootsOnce, tableShaped, tableFilled}
-use Rattle.model.specs.Session.{State, stack, state, fresh, heightFits, screensKnown, instanceAlone, taskSound, rootsDiffer, mainSound, sound}
+use Rattle.model.specs.Session.{State, stack, state, fresh, screensIn, heightFits, screensKnown, instanceAlone, taskSound, rootsDiffer, mainSound, sound}
 use Rattle.model.specs.Flags.{NTK, STP, MTK, CTP, RTF, CTK, flagsOf, hasOtherBit}
 use Rattle.model.specs.Search.{hasRoot, hasAffinity, seekRoot, seekAffinity, seek, holds}
 use Rattle.model.specs.Rules.{rulesOf, isSingle, isApart, groupOf, soughtBy, fits, chooseIn, choose}
 use Rattle.model.specs.Effects.{effectOf, mainMoved, mainWithout, move, changed, changeFront, putNew, carryOut, close}
 use Rattle.model.specs.Answers.{lookAt}
 use Rattle.model.specs.Image.{image, imageShaped, readTasks, imageReadable, sessionIn}
-use Rattle.model.specs.Calls.{Call, start, finishingStart, started, mapState, markFront, closeMarked, finished, launched, backed, ownChecks, done, refusalOf, call, save}
+use Rattle.model.specs.Calls.{Call, start, finishingStart, restore, started, mapState, markFront, closeMarked, finished, launched, backed, ownChecks, createdOf, closedOf, done, refusalOf, call, save}
+use Rattle.model.specs.Histories.{after, along}
+use Rattle.model.specs.Balance.{createdAlong, closedAlong, standingAfter}
 use Rattle.model.specs.Player.{decimal, lineText, lineOf, requestOf, recordsIn, outcomeOf, textOf, startsWithTable, playerText}
 
 unfoldable computing : Unit {0}
-unfolding refusal modeOf affinityOf isSingleTop isSingleTask isSingleInstance rootsOnce tableShaped tableFilled heightFits screensKnown instanceAlone taskSound rootsDiffer mainSound sound flagsOf hasOtherBit hasRoot hasAffinity seekRoot seekAffinity seek holds rulesOf isSingle isApart groupOf soughtBy fits chooseIn choose effectOf mainMoved mainWithout move changed changeFront putNew carryOut close lookAt image imageShaped readTasks imageReadable sessionIn started mapState markFront closeMarked finished launched backed ownChecks done refusalOf call save decimal lineText lineOf requestOf recordsIn outcomeOf textOf startsWithTable playerText
+unfolding refusal modeOf affinityOf isSingleTop isSingleTask isSingleInstance rootsOnce tableShaped tableFilled heightFits screensKnown instanceAlone taskSound rootsDiffer mainSound sound flagsOf hasOtherBit hasRoot hasAffinity seekRoot seekAffinity seek holds rulesOf isSingle isApart groupOf soughtBy fits chooseIn choose effectOf mainMoved mainWithout move changed changeFront putNew carryOut close lookAt image imageShaped readTasks imageReadable sessionIn started mapState markFront closeMarked finished launched backed ownChecks done refusalOf call save screensIn createdOf closedOf after along decimal lineText lineOf requestOf recordsIn outcomeOf textOf startsWithTable playerText
 computing = tt
 
 -- "Table T, hex: 06 00 00 01 00 01 01 01 02 02 03 01 00 02"
@@ -123,3 +125,13 @@ played : playerText example
     ≡ ascii "1 0 0 0 1 1 1\n2 0 1 0 2 1 1\n2 0 3 3 1 2 2\n3 0 0 0 3 1 1\n4 0 1 0 2 1 1\n4 0 0 0 1 1 1\n4 0 0 0 0 0 0\n4 21 0 0 0 0 0\n"
 unfolding computing
 played = refl
+
+-- ---- screens created, closed and standing, where a restore is accepted
+
+-- P10's image, restored over a fresh session
+abbrev restored : List Call
+restored = restore (0x03 ∷ 0x01 ∷ 0x03 ∷ 0x00 ∷ 0x02 ∷ 0x01 ∷ 0x00 ∷ 0x00 ∷ 0x07 ∷ 0x02 ∷ 0x02 ∷ 0x08 ∷ 0x42 ∷ []) ∷ []
+
+uncounted : createdAlong T restored ∷ closedAlong T restored ∷ standingAfter T restored ∷ [] ≡ 0 ∷ 0 ∷ 3 ∷ []
+unfolding computing
+uncounted = refl

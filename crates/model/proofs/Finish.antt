@@ -18,13 +18,13 @@ use Rattle.model.specs.Flags.{flagsOf}
 use Rattle.model.specs.Search.{placeOf}
 use Rattle.model.specs.Effects.{effectOf}
 use Rattle.model.specs.Rules.{choose}
-use Rattle.model.specs.Calls.{chosen, startedBy, started, finishedBy, finished, startChecks}
-use Rattle.model.specs.Marks.{markAfter, closeAt, Stands}
+use Rattle.model.specs.Calls.{chosen, startedBy, started, markFront, startMarked, finishedBy, finished, startChecks, closedMarked}
+use Rattle.model.specs.Marks.{markAfter, closeAt, closedAt, Stands}
 use Rattle.model.proofs.Sessions.{withTasks}
 use Rattle.model.proofs.Sound.{Sound}
 use Rattle.model.proofs.Close.{close-sound}
 use Rattle.model.proofs.Effects.{Suits, Ready}
-use Rattle.model.proofs.Marks.{AbleIn, Able, finished-carry}
+use Rattle.model.proofs.Marks.{AbleIn, Able, finished-carry, closed-carry}
 use Rattle.model.proofs.MarkStands.{mark-stands}
 use Rattle.model.proofs.Start.{choose-ready, start-accepted, started-sound}
 
@@ -75,6 +75,13 @@ module _ (tb : List ℕ) (b : ℕ) (f : Flags) where
   finished-by s h l =
       in-session (λ s. finishedBy (choose tb s b f) b s ≡ closeAt (markOf (choose tb s b f) b s) (startedBy (choose tb s b f) b s))
       (λ o r x xs ts a. finished-carry o b r x xs ts _ _ a) s (s .tasks) h l
+
+  -- which is one screen, if it stands
+  pub finished-closes : (s : State ℕ) → Sound tb s → 1 ≤ count s
+      → closedMarked (startMarked (choose tb s b f) b (markFront s)) ≡ closedAt (markOf (choose tb s b f) b s)
+  finished-closes s h l =
+      in-session (λ s. closedMarked (startMarked (choose tb s b f) b (markFront s)) ≡ closedAt (markOf (choose tb s b f) b s))
+      (λ o r x xs ts a. closed-carry o b r x xs ts _ _ a) s (s .tasks) h l
 
   -- at which a screen stands
   pub marked-stands : (s : State ℕ) → Sound tb s → 1 ≤ count s → Stands (markOf (choose tb s b f) b s) (startedBy (choose tb s b f) b s)

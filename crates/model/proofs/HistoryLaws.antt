@@ -1,7 +1,10 @@
--- A list of calls behind another, on any machine.
+-- Lists of calls on any machine: one behind another, and what each call adds to a measure of the session, along a list.
+use Prim.Native.Nat.{ℕ, _+_}
 use mathlib.Core.Path.{_≡_, refl, ap}
 use mathlib.Core.List.{List, [], _∷_, _++_}
-use Rattle.model.specs.Histories.{Machine, after, answers}
+use native.Mathlib.Omega.{arith}
+use Rattle.model.specs.Lists.{All}
+use Rattle.model.specs.Histories.{Machine, after, answers, along}
 
 module _ {S C A : Type 0} (m : Machine S C A) where
   pub after-append : (cs ds : List C) (s : S) → after m s (cs ++ ds) ≡ after m (after m s cs) ds
@@ -13,3 +16,14 @@ module _ {S C A : Type 0} (m : Machine S C A) where
   unfolding after answers
   answers-append [] ds s = refl
   answers-append (c ∷ cs) ds s = ap (λ (l : List A). m .answer s c ∷ l) (answers-append cs ds (m .next s c))
+
+  -- where each call changes the measure by what it gains and loses, a list changes it by the sums along it
+  module _ (measure : S → ℕ) (gains loses : S → C → ℕ) (Kept : S → Type 0) (Made : C → Type 0)
+      (keeps : (s : S) → Kept s → (c : C) → Made c → Kept (m .next s c))
+      (steps : (s : S) → Kept s → (c : C) → Made c → measure (m .next s c) + loses s c ≡ measure s + gains s c) where
+    pub along-measure : (s : S) → Kept s → (cs : List C) → All Made cs
+        → measure (after m s cs) + along m loses s cs ≡ measure s + along m gains s cs
+    unfolding after along
+    along-measure s h [] made = refl
+    along-measure s h (c ∷ cs) made =
+        omega (arith, steps s h c (made .0), along-measure (m .next s c) (keeps s h c (made .0)) cs (made .1))

@@ -1,5 +1,6 @@
 pub mod Logic
 pub mod ListLaws
+pub mod SumLaws
 pub mod WrittenLaws
 pub mod Walks
 pub mod RefusalLaws
@@ -12,12 +13,14 @@ pub mod ReasonLaws
 pub mod RoomLaws
 pub mod Close
 pub mod Effects
+pub mod Measures
 pub mod Marks
 pub mod MarkStands
 pub mod Start
 pub mod Finish
 pub mod Keeps
 pub mod HistoryLaws
+pub mod Balance
 pub mod Backs
 pub mod ImageLaws
 pub mod Same

@@ -17,8 +17,8 @@ use Rattle.model.specs.Lists.{if_then_else_, isEmpty, isPlace, further, 
 use Rattle.model.specs.Session.{Stack, State, stack, noStack, onScreens, onTasks, taskAt, front, count}
 use Rattle.model.specs.Search.{holds}
 use Rattle.model.specs.Effects.{move, changed, changeFront, putNew, carryOut, withoutTask, taskLeft, close}
-use Rattle.model.specs.Calls.{Marked, unmarked, mapScreens, mapState, markFront, placeOfMark, closeMarked}
-use Rattle.model.specs.Marks.{markIn, markAfter, closeAt}
+use Rattle.model.specs.Calls.{Marked, unmarked, mapScreens, mapState, markFront, placeOfMark, closeMarked, closedMarked}
+use Rattle.model.specs.Marks.{markIn, markAfter, closeAt, closedAt}
 use Rattle.model.proofs.Logic.{All-of}
 use Rattle.model.proofs.Sessions.{withTasks}
 use Rattle.model.proofs.ListLaws.{toFront-length, All-drop, All-toFront, All-to-map, map-omit, map-set, map-toFront, map-drop, map-onFirst, find-map, isEmpty-map}
@@ -95,23 +95,33 @@ unheld-none : (ts : List (Stack Marked)) → Unheld ts → find (λ t. isPlace (
 unheld-none [] h = refl
 unheld-none (t ∷ ts) h = rw (find-all-false isMarked (t .screens) (h .0), unheld-none ts (h .1))
 
+-- the marked screen stands at the position, or is gone: closing it closes what stands there, and so many screens
+record MarkedAt (s : State Marked) (k : Mark) : Type 0 where
+  closes : closeMarked s ≡ closeAt k s
+  counts : closedMarked s ≡ closedAt k
+
 module _ (s : State Marked) (r : ℕ) (ys : List Marked) (us : List (Stack Marked)) where
   -- the mark is in the front task
-  marked-first : (i : ℕ) → find isMarked ys ≡ suc i → closeMarked (withTasks s (stack r ys ∷ us)) ≡ close 1 i (withTasks s (stack r ys ∷ us))
+  marked-first : (i : ℕ) → find isMarked ys ≡ suc i → MarkedAt (withTasks s (stack r ys ∷ us)) (Mark.Stands 0 i)
   unfolding closeMarked
-  marked-first i e = rw (e, e)
+  marked-first i e = record { closes = rw (e, e); counts = rw e }
 
   -- it is nowhere
-  marked-none : Unmarked ys → Unheld us → closeMarked (withTasks s (stack r ys ∷ us)) ≡ withTasks s (stack r ys ∷ us)
+  marked-none : Unmarked ys → Unheld us → MarkedAt (withTasks s (stack r ys ∷ us)) Mark.Gone
   unfolding closeMarked
-  marked-none h k = rw (find-all-false isMarked ys h, unheld-none us k)
+  marked-none h k =
+      let e = find-all-false isMarked ys h in
+      let f = unheld-none us k in
+      record { closes = rw (e, f); counts = rw (e, f) }
 
 -- it is on top of the second task
 marked-second : (s : State Marked) (t u : Stack Marked) (y : Marked) (ys : List Marked) (us : List (Stack Marked))
     → Unmarked (t .screens) → u .screens ≡ y ∷ ys → isMarked y ≡ true
-    → closeMarked (withTasks s (t ∷ u ∷ us)) ≡ close 2 0 (withTasks s (t ∷ u ∷ us))
+    → MarkedAt (withTasks s (t ∷ u ∷ us)) (Mark.Stands 1 0)
 unfolding closeMarked
-marked-second s t u y ys us h e g = rw (find-all-false isMarked (t .screens) h, e, g)
+marked-second s t u y ys us h e g =
+    let f = find-all-false isMarked (t .screens) h in
+    record { closes = rw (f, e, g); counts = rw (f, e, g) }
 
 -- ---- the start carried out on marked screens
 
@@ -170,8 +180,7 @@ module _ (s : State ℕ) (b r x : ℕ) (xs : List ℕ) (ts : List (Stack ℕ)) w
 
   -- the mark after a change of the front task
   front-mark : (o : State Marked) (c : Change) (same : Bool) → eqb b x ≡ same → AbleIn c b (x ∷ xs)
-      → closeMarked (withTasks o (stack r (changed isBmarked (unmarked b) c (markedX ∷ below)) ∷ others))
-      ≡ closeAt (markIn c same) (withTasks o (stack r (changed isBmarked (unmarked b) c (markedX ∷ below)) ∷ others))
+      → MarkedAt (withTasks o (stack r (changed isBmarked (unmarked b) c (markedX ∷ below)) ∷ others)) (markIn c same)
   unfolding changed
   front-mark o Change.Keep same e h = marked-first o r (markedX ∷ below) others 0 refl
   front-mark o Change.Renew same e h = marked-none o r (unmarked b ∷ []) others (refl, tt) (unheld-all ts)
@@ -179,8 +188,7 @@ module _ (s : State ℕ) (b r x : ℕ) (xs : List ℕ) (ts : List (Stack ℕ)) w
   front-mark o Change.Clear false e h = rw e (go (find isBmarked below) (stands-below e h))
     where
       go : (n : ℕ) → isPlace n ≡ true
-          → closeMarked (withTasks o (stack r (drop (pred (further n)) (markedX ∷ below)) ∷ others))
-          ≡ withTasks o (stack r (drop (pred (further n)) (markedX ∷ below)) ∷ others)
+          → MarkedAt (withTasks o (stack r (drop (pred (further n)) (markedX ∷ below)) ∷ others)) Mark.Gone
       go zero g = absurd (false≢true g)
       go (suc n) g = marked-none o r (drop n below) others (All-drop (λ y. isMarked y ≡ false) n below (unmarked-all xs)) (unheld-all ts)
   front-mark o Change.Lift true e h = rw e (marked-first o r (markedX ∷ below) others 0 refl)
@@ -191,8 +199,7 @@ module _ (s : State ℕ) (b r x : ℕ) (xs : List ℕ) (ts : List (Stack ℕ)) w
       some (y ∷ ys) g = omega arith
 
       go : (n : ℕ) → find isBmarked below ≡ n → isPlace (find isBmarked below) ≡ true
-          → closeMarked (withTasks o (stack r (toFront (pred (further n)) (markedX ∷ below)) ∷ others))
-          ≡ close 1 1 (withTasks o (stack r (toFront (pred (further n)) (markedX ∷ below)) ∷ others))
+          → MarkedAt (withTasks o (stack r (toFront (pred (further n)) (markedX ∷ below)) ∷ others)) (Mark.Stands 0 1)
       go zero f g = absurd (false≢true (rw f at g))
       go (suc n) f g =
           marked-first o r (putSecond markedX (toFront n below)) others 1
@@ -202,16 +209,14 @@ module _ (s : State ℕ) (b r x : ℕ) (xs : List ℕ) (ts : List (Stack ℕ)) w
 
   -- a task comes before the marked one
   moved-mark : (o : State Marked) (c : Change) (us : List (Stack Marked)) → 1 ≤ length us → Unheld us
-      → closeMarked (changeFront (changed isBmarked (unmarked b) c) (withTasks o (putSecond (stack r (markedX ∷ below)) us)))
-      ≡ close 2 0 (changeFront (changed isBmarked (unmarked b) c) (withTasks o (putSecond (stack r (markedX ∷ below)) us)))
+      → MarkedAt (changeFront (changed isBmarked (unmarked b) c) (withTasks o (putSecond (stack r (markedX ∷ below)) us))) (Mark.Stands 1 0)
   unfolding changeFront
   moved-mark o c [] l h = absurd (not-suc-le-zero l)
   moved-mark o c (u ∷ us) l h =
       marked-second o _ (stack r (markedX ∷ below)) markedX below us (changed-unmarked c (u .screens) (h .0)) refl refl
 
   carry-mark : (d : Effect) (p : ℕ) (same : Bool) → eqb b x ≡ same → Able d p b before
-      → closeMarked (carryOut isBmarked b (unmarked b) d p (markFront before))
-      ≡ closeAt (markAfter d p same) (carryOut isBmarked b (unmarked b) d p (markFront before))
+      → MarkedAt (carryOut isBmarked b (unmarked b) d p (markFront before)) (markAfter d p same)
   unfolding carryOut markFront mapState putNew changeFront move
   carry-mark Effect.New p same e h = marked-second (putNew b (unmarked b) (mapState unmarked s)) (stack b (unmarked b ∷ [])) (stack r (markedX ∷ below)) markedX below others (refl, tt) refl refl
   carry-mark (Effect.InFront c) p same e h = front-mark (mapState unmarked s) c same e h
@@ -241,7 +246,12 @@ module _ (s : State ℕ) (b r x : ℕ) (xs : List ℕ) (ts : List (Stack ℕ)) w
       → mapState (λ y. y .screen) (closeMarked (carryOut isBmarked b (unmarked b) d p (markFront before)))
       ≡ closeAt (markAfter d p (eqb b x)) (carryOut (eqb b) b b d p before)
   finished-carry d p h =
-      ap (mapState (λ y. y .screen)) (carry-mark d p (eqb b x) refl h)
+      ap (mapState (λ y. y .screen)) (carry-mark d p (eqb b x) refl h .closes)
       ∙ map-close-at (λ y. y .screen) (markAfter d p (eqb b x)) (carryOut isBmarked b (unmarked b) d p (markFront before))
       ∙ ap (closeAt (markAfter d p (eqb b x)))
       (map-carry (λ y. y .screen) (eqb b) b (unmarked b) d p (markFront before) ∙ ap (carryOut (eqb b) b b d p) forget-mark)
+
+  -- and that closes one screen more, if it stands
+  pub closed-carry : (d : Effect) (p : ℕ) → Able d p b before
+      → closedMarked (carryOut isBmarked b (unmarked b) d p (markFront before)) ≡ closedAt (markAfter d p (eqb b x))
+  closed-carry d p h = carry-mark d p (eqb b x) refl h .counts

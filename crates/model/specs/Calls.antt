@@ -1,5 +1,5 @@
 -- Document 01, "Calls" and "Refusals": each call, its checks, the session and the answer that it gives.
-use Prim.Native.Nat.{ℕ, zero, suc, pred}
+use Prim.Native.Nat.{ℕ, zero, suc, pred, _+_}
 use mathlib.Core.Bool.{Bool, true, false, not, _&&_}
 use mathlib.Core.List.{List, [], _∷_, _++_, map}
 use lib.Dec.{ltb, eqb}
@@ -16,6 +16,7 @@ use Rattle.model.specs.Flags.{flagsOf, hasOtherBit}
 use Rattle.model.specs.Search.{placeOf}
 use Rattle.model.specs.Rules.{choose}
 use Rattle.model.specs.Effects.{effectOf, changeFront, carryOut, close}
+use Rattle.model.specs.Counts.{createdBy, closedBy}
 use Rattle.model.specs.Answers.{Outcome, outcome, lookAt, settle}
 use Rattle.model.specs.Image.{image, imageChecks, sessionIn}
 
@@ -81,13 +82,17 @@ placeOfMark t = find (λ x. x .mark) (t .screens)
 abbrev pub markedTask : State Marked → ℕ
 markedTask s = find (λ t. isPlace (placeOfMark t)) (s .tasks)
 
+-- the marked screen still stands
+abbrev pub markStands : State Marked → Bool
+markStands s = isPlace (markedTask s)
+
 -- how many screens stand above the marked one in that task
 abbrev pub aboveMarked : State Marked → ℕ
 aboveMarked s = pred (placeOfMark (taskAt (s .tasks) (markedTask s)))
 
 -- "then remove the marked screen if it still stands, as Back would in its task"
 unfoldable pub closeMarked : State Marked → State Marked
-closeMarked s = if isPlace (markedTask s) then close (markedTask s) (aboveMarked s) s else s
+closeMarked s = if markStands s then close (markedTask s) (aboveMarked s) s else s
 
 -- "Finishing start: mark the front screen, start B, then remove the marked screen if it still stands, as Back would
 -- in its task. A mark travels with its screen; an emptied screen is gone, and the pushed B is unmarked."
@@ -153,6 +158,40 @@ ownChecks tb s (restore bytes) = imageChecks tb bytes
 -- "The checks go in the order 1, 2, 20, then those named for the call." "20: the session is not sound under the table"
 abbrev pub checksIn : List ℕ → Bool → List Check → List Check
 checksIn tb isSound own = tableChecks tb ++ check 20 (not isSound) ∷ own
+
+-- ---- screens created and closed (document 02, request 2)
+
+-- of a start by the rule chosen
+abbrev pub createdByChoice : Choice → ℕ
+createdByChoice c = createdBy (effectOf (c .rule))
+
+abbrev pub closedByChoice : Choice → ℕ → State ℕ → ℕ
+closedByChoice c b s = closedBy (eqb b) (effectOf (c .rule)) (placeOf (c .found)) s
+
+-- the marked screen, "if it still stands"
+abbrev pub closedMarked : State Marked → ℕ
+closedMarked s = if markStands s then 1 else 0
+
+abbrev pub closedByFinish : Choice → ℕ → State ℕ → ℕ
+closedByFinish c b s = closedByChoice c b s + closedMarked (startMarked c b (markFront s))
+
+-- the screens that a call creates where it is not refused: "one for launch, each new task and each push"
+unfoldable pub createdOf : List ℕ → State ℕ → Call → ℕ
+createdOf tb s launch = 1
+createdOf tb s (start b w) = createdByChoice (chosen tb s b w)
+createdOf tb s (finishingStart b w) = createdByChoice (chosen tb s b w)
+createdOf tb s back = 0
+createdOf tb s look = 0
+createdOf tb s (restore bytes) = 0
+
+-- the screens that it closes: "screens removed by this call, 0 when refused and for a restore"
+unfoldable pub closedOf : List ℕ → State ℕ → Call → ℕ
+closedOf tb s launch = 0
+closedOf tb s (start b w) = closedByChoice (chosen tb s b w) b s
+closedOf tb s (finishingStart b w) = closedByFinish (chosen tb s b w) b s
+closedOf tb s back = 1
+closedOf tb s look = 0
+closedOf tb s (restore bytes) = 0
 
 -- ---- calls
 

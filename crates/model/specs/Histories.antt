@@ -1,5 +1,5 @@
 -- Document 01, "Lists in demand 3": lists of calls made one after the other, on whatever answers them.
-use Prim.Native.Nat.{ℕ, _<_}
+use Prim.Native.Nat.{ℕ, _+_, _<_}
 use mathlib.Core.Path.{_≡_}
 use mathlib.Core.List.{List, [], _∷_}
 use Rattle.model.specs.declared.Answer.{Answer}
@@ -25,6 +25,11 @@ module _ {S C A : Type 0} (m : Machine S C A) where
   unfoldable pub answers : S → List C → List A
   answers s [] = []
   answers s (c ∷ cs) = m .answer s c ∷ answers (m .next s c) cs
+
+  -- the sum along a list of what each call weighs in the session that it gets
+  unfoldable pub along : (S → C → ℕ) → S → List C → ℕ
+  along weight s [] = 0
+  along weight s (c ∷ cs) = weight s c + along weight (m .next s c) cs
 
   -- "A list of later calls is run twice .. with the same arguments, once from each of the two sessions. Answers are
   -- equal when at each place of that list the two answers agree in every number." Later says which calls it may hold.
@@ -60,6 +65,15 @@ IsLater (finishingStart b w) = IsByte b × IsWord w
 IsLater back = Unit {0}
 IsLater look = Unit {0}
 IsLater (restore bytes) = ⊥
+
+-- "calls without restores"
+abbrev pub IsNoRestore : Call → Type 0
+IsNoRestore launch = Unit {0}
+IsNoRestore (start b w) = Unit {0}
+IsNoRestore (finishingStart b w) = Unit {0}
+IsNoRestore back = Unit {0}
+IsNoRestore look = Unit {0}
+IsNoRestore (restore bytes) = ⊥
 
 -- "every list of later launches, starts, finishing starts, Backs and looks, refused ones included, gets equal answers
 -- from both"

@@ -8,6 +8,7 @@ pub mod Flags
 pub mod Search
 pub mod Rules
 pub mod Effects
+pub mod Counts
 pub mod Answers
 pub mod Image
 pub mod Calls
@@ -18,3 +19,4 @@ pub mod Reasons
 pub mod Sentences
 pub mod Explained
 pub mod Promises
+pub mod Balance

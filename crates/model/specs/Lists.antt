@@ -1,5 +1,5 @@
 -- Words about tests and lists that the other definitions are written in. Nothing here is about navigation.
-use Prim.Native.Nat.{ℕ, zero, suc}
+use Prim.Native.Nat.{ℕ, zero, suc, _+_}
 use mathlib.Core.Path.{_≡_}
 use mathlib.Core.Bool.{Bool, true, false, _&&_}
 use mathlib.Core.List.{List, [], _∷_, _++_}
@@ -70,6 +70,11 @@ module _ {A : Type 0} where
   abbrev pub onFirst : (A → A) → List A → List A
   onFirst f [] = []
   onFirst f (x ∷ xs) = f x ∷ xs
+
+  -- the sum of what the elements weigh
+  abbrev pub sumOf : (A → ℕ) → List A → ℕ
+  sumOf weight [] = 0
+  sumOf weight (x ∷ xs) = weight x + sumOf weight xs
 
   -- the statement holds of each element
   abbrev pub All : (A → Type 0) → List A → Type 0

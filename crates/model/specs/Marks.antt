@@ -30,6 +30,11 @@ abbrev pub closeAt : {A : Type 0} → Mark → State A → State A
 closeAt Mark.Gone s = s
 closeAt (Mark.Stands k i) s = close (suc k) i s
 
+-- how many screens that closes
+abbrev pub closedAt : Mark → ℕ
+closedAt Mark.Gone = 0
+closedAt (Mark.Stands k i) = 1
+
 -- a screen stands at the position
 abbrev pub Stands : Mark → State ℕ → Type 0
 Stands Mark.Gone s = Unit {0}

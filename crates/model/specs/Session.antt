@@ -1,12 +1,12 @@
 -- Document 01, "Session": tasks, limits, soundness.
 -- A task is here a `Stack` and a session a `State`; `Task` and `Session` are the structs that store them.
 -- What stands in a task may be of any kind A: screens are numbers, and a finishing start puts marked ones there.
-use Prim.Native.Nat.{ℕ, pred, _+_}
+use Prim.Native.Nat.{ℕ, pred}
 use mathlib.Core.Bool.{Bool, false, not, _&&_, _||_}
 use mathlib.Core.List.{List, [], _∷_}
 use lib.Dec.{leb, ltb, eqb}
 use lib.ListN.{length, getD}
-use Rattle.model.specs.Lists.{all, pairwise, if_then_else_}
+use Rattle.model.specs.Lists.{all, pairwise, sumOf, if_then_else_}
 use Rattle.model.specs.Table.{sizeOf, mainScreen, isSingleInstance, rootsOnce}
 
 -- "The limits belong to the session: 16 tasks, 32 screens in a task."
@@ -77,8 +77,7 @@ frontScreen s = top (front s)
 
 -- how many screens stand in these tasks
 unfoldable pub screensIn : List (Stack ℕ) → ℕ
-screensIn [] = 0
-screensIn (t ∷ ts) = height t + screensIn ts
+screensIn ts = sumOf height ts
 
 -- "Fresh means empty and sound: n = 0, m = 0."
 abbrev pub fresh : State ℕ

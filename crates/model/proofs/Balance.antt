@@ -1,0 +1,134 @@
+-- Screens created less those closed are the screens standing, along every list of calls without restores from a fresh session:
+-- of an effect, of the marked screen, of a call, of a list.
+use Prim.Native.Nat.{ℕ, zero, suc, pred, _+_, _≤_}
+use mathlib.Core.Path.{_≡_, refl}
+use mathlib.Core.Bool.{true, not}
+use mathlib.Core.List.{List, [], _∷_}
+use native.Mathlib.Omega.{arith}
+use lib.Dec.{eqb}
+use lib.ListN.{length, length-drop}
+use borrow.Author.Tests.{not-false}
+use Rattle.model.specs.declared.Change.{Change}
+use Rattle.model.specs.declared.Effect.{Effect}
+use Rattle.model.specs.declared.Mark.{Mark}
+use Rattle.model.specs.Lists.{if_then_else_, isEmpty, find, omit, sumOf, All}
+use Rattle.model.specs.Refusals.{refusal}
+use Rattle.model.specs.Table.{tableRefusal}
+use Rattle.model.specs.Session.{Stack, State, noStack, taskAt, front, height, count, screensIn, fresh}
+use Rattle.model.specs.Flags.{flagsOf}
+use Rattle.model.specs.Search.{placeOf, holds}
+use Rattle.model.specs.Effects.{effectOf, changed, carryOut}
+use Rattle.model.specs.Counts.{createdIn, createdBy, closedIn, closedBy}
+use Rattle.model.specs.Answers.{outcome, settle}
+use Rattle.model.specs.Calls.{Call, launch, start, finishingStart, back, look, restore, chosen, startedBy, started, finishedBy, finished, launched, backed, ownChecks, createdByChoice, closedByChoice, closedByFinish, createdOf, closedOf, done, answerTo, call}
+use Rattle.model.specs.Marks.{closeAt, closedAt, Stands}
+use Rattle.model.specs.Histories.{byRules, IsNoRestore}
+use Rattle.model.specs.Balance.{countBy, created, closed, ScreensBalance}
+use Rattle.model.proofs.Logic.{All-at, contradiction}
+use Rattle.model.proofs.ListLaws.{isEmpty-length, omit-length, toFront-length, found-at}
+use Rattle.model.proofs.RefusalLaws.{refusal-skip}
+use Rattle.model.proofs.Measures.{measure, carry-measure, close-measure}
+use Rattle.model.proofs.Sound.{TaskSound, Sound}
+use Rattle.model.proofs.Effects.{Suits, Ready}
+use Rattle.model.proofs.Start.{choose-ready, start-accepted}
+use Rattle.model.proofs.Finish.{markOf, finished-by, finished-closes, marked-stands}
+use Rattle.model.proofs.Keeps.{refusal-own, settled, fresh-sound, call-sound}
+use Rattle.model.proofs.HistoryLaws.{along-measure}
+
+-- the screens standing: the measure whose weight of a task is its height
+abbrev standing : State ℕ → ℕ
+standing s = measure height s
+
+-- ---- an effect
+
+module _ (tb : List ℕ) (b : ℕ) where
+  -- the screens of a task that suits the change
+  changed-height : (c : Change) (t : Stack ℕ) → Suits tb b c t
+      → length (changed (eqb b) b c (t .screens)) + closedIn (eqb b) c (t .screens) ≡ height t + createdIn c
+  unfolding changed closedIn createdIn holds
+  changed-height Change.Keep t h = refl
+  changed-height Change.Renew t h = omega arith
+  changed-height Change.Clear t h =
+      let i = pred (find (eqb b) (t .screens)) in
+      omega (arith, length-drop i (t .screens), found-at (eqb b) 0 (t .screens) (h .1) .inside)
+  changed-height Change.Lift t h = omega (arith, toFront-length (pred (find (eqb b) (t .screens))) (t .screens))
+  changed-height Change.Push t h = omega arith
+
+  carry-standing : (d : Effect) (p : ℕ) (s : State ℕ) → Ready tb b s d p
+      → standing (carryOut (eqb b) b b d p s) + closedBy (eqb b) d p s ≡ standing s + createdBy d
+  unfolding closedBy createdBy
+  carry-standing Effect.New p s h = omega (arith, carry-measure height (eqb b) b b Effect.New p s tt)
+  carry-standing (Effect.InFront c) p s h =
+      omega (arith, carry-measure height (eqb b) b b (Effect.InFront c) p s (h .0), changed-height c (front s) (h .1))
+  carry-standing (Effect.MoveAnd c) p s h =
+      omega (arith, carry-measure height (eqb b) b b (Effect.MoveAnd c) p s (h .0), changed-height c (taskAt (s .tasks) p) (h .1))
+
+-- ---- a screen at a position
+
+-- a task left empty has no height
+left-height : (xs : List ℕ) → (if isEmpty xs then 0 else length xs) ≡ length xs
+left-height [] = refl
+left-height (x ∷ xs) = refl
+
+closed-standing : (k : Mark) (s : State ℕ) → Stands k s → standing (closeAt k s) + closedAt k ≡ standing s
+closed-standing Mark.Gone s h = omega arith
+closed-standing (Mark.Stands k i) s h =
+    let xs = taskAt (s .tasks) (suc k) .screens in
+    omega (arith, close-measure height k i s (h .0), left-height (omit i xs), omit-length i xs (h .1))
+
+-- ---- a call
+
+no-screens : (ts : List (Stack ℕ)) → isEmpty ts ≡ true → sumOf height ts ≡ 0
+no-screens [] e = refl
+no-screens (t ∷ ts) e = contradiction e refl
+
+module _ (tb : List ℕ) (s : State ℕ) (h : Sound tb s) where
+  start-standing : (b w : ℕ) → 1 ≤ count s
+      → standing (startedBy (chosen tb s b w) b s) + closedByChoice (chosen tb s b w) b s ≡ standing s + createdByChoice (chosen tb s b w)
+  start-standing b w some =
+      let c = chosen tb s b w in
+      carry-standing tb b (effectOf (c .rule)) (placeOf (c .found)) s (choose-ready tb s b (flagsOf w) h some)
+
+  finish-standing : (b w : ℕ) → 1 ≤ count s
+      → standing (finishedBy (chosen tb s b w) b s) + closedByFinish (chosen tb s b w) b s ≡ standing s + createdByChoice (chosen tb s b w)
+  finish-standing b w some =
+      let c = chosen tb s b w in
+      let k = closed-standing (markOf c b s) (startedBy c b s) (marked-stands tb b (flagsOf w) s h some) in
+      rw (finished-by tb b (flagsOf w) s h some, finished-closes tb b (flagsOf w) s h some)
+      (omega (arith, k, start-standing b w some))
+
+  done-standing : (c : Call) → IsNoRestore c → refusal (ownChecks tb s c) ≡ 0
+      → standing (done tb s c) + closedOf tb s c ≡ standing s + createdOf tb s c
+  unfolding done ownChecks createdOf closedOf launched started finished backed
+  done-standing launch made e =
+      let z = no-screens (s .tasks) (not-false _ (refusal-skip 21 (not (isEmpty (s .tasks))) [] e .0)) in
+      omega (arith, z)
+  done-standing (start b w) made e = start-standing b w (start-accepted tb s b w e .some)
+  done-standing (finishingStart b w) made e = finish-standing b w (start-accepted tb s b w e .some)
+  done-standing back made e =
+      let some = isEmpty-length (s .tasks) (refusal-skip 20 (isEmpty (s .tasks)) [] e .0) in
+      let k = closed-standing (Mark.Stands 0 0) s (some, All-at (TaskSound tb) (s .tasks) 0 noStack some (h .each) .filled) in
+      omega (arith, k)
+  done-standing look made e = refl
+  done-standing (restore bytes) made e = absurd made
+
+module _ (tb : List ℕ) (ok : tableRefusal tb ≡ 0) where
+  -- a refused call adds nothing to either
+  call-standing : (s : State ℕ) → Sound tb s → (c : Call) → IsNoRestore c
+      → standing (call tb s c .session) + closed tb s c ≡ standing s + created tb s c
+  call-standing s h c made = rw (settled tb ok s h c, refusal-own tb ok s h c) (go (refusal (ownChecks tb s c)) refl)
+    where
+      go : (n : ℕ) → refusal (ownChecks tb s c) ≡ n
+          → standing (settle outcome n s (done tb s c) (answerTo tb s c) .session) + countBy n (closedOf tb s c)
+          ≡ standing s + countBy n (createdOf tb s c)
+      go zero e = done-standing tb s h c made e
+      go (suc k) e = refl
+
+  -- ---- a list
+
+  pub screens-balance : (cs : List Call) → All IsNoRestore cs → ScreensBalance tb cs
+  unfolding screensIn
+  screens-balance cs made =
+      let e = along-measure (byRules tb) standing (created tb) (closed tb) (Sound tb) IsNoRestore
+      (λ s h c m. call-sound tb ok s h c) call-standing fresh (fresh-sound tb) cs made in
+      record { most = omega (arith, e); balance = omega (arith, e) }
