@@ -1,4 +1,4 @@
--- What a look shows by the front task and the numbers, and what it relies on.
+-- An answer by the front task and the numbers, and what a look relies on.
 use Prim.Native.Nat.{ℕ, zero, suc, _≤_}
 use lib.ListN.{getD}
 use Rattle.model.specs.declared.Answer.{Answer}
@@ -7,10 +7,19 @@ use Rattle.session.specs.declared.Task.{Task}
 use Rattle.session.specs.declared.Session.{Session}
 use Rattle.session.specs.Stored.{viewTask, noTask}
 
--- the answer where n tasks stand, t is the front one, and m the main place
-abbrev pub answerOf : Task → ℕ → ℕ → Answer
-answerOf t zero m = record { refusal = 0; screen = 0; root = 0; height = 0; tasks = 0; main = m }
-answerOf t (suc n) m = record { refusal = 0; screen = top (viewTask t); root = t .root; height = t .height; tasks = suc n; main = m }
+-- the answer of a call that closed x screens, where n tasks stand after it, t is the front one, and m the main place
+abbrev pub answerOf : Task → ℕ → ℕ → ℕ → Answer
+answerOf t zero m x = record { refusal = 0; screen = 0; root = 0; height = 0; tasks = 0; main = m; closed = x }
+answerOf t (suc n) m x =
+    record {
+      refusal = 0;
+      screen = top (viewTask t);
+      root = t .root;
+      height = t .height;
+      tasks = suc n;
+      main = m;
+      closed = x;
+    }
 
 -- there are at most 16 tasks, and the front task, where there is one, has 1 to 32 screens
 pub record Seen (c : Session) : Type 0 where

@@ -10,10 +10,11 @@ use model::Answer;
 use session::Session;
 use session::Task;
 
-// What a look shows where n tasks stand, t is the front one, and the main place is so: zeros where none stands.
-pub fn of_front(t: Task, n: u8, main: u8) -> Answer
+// The answer of a call that closed so many screens, where n tasks stand after it, t is the front one, and the main place is so:
+// zeros where none stands.
+pub fn of_front(t: Task, n: u8, main: u8, closed: u8) -> Answer
     requires { ⌜ (1 ≤ n → (1 ≤ t .height) × (t .height ≤ mostHeight)) ⌝ }
-    ensures { λ r. ⌜ r ≡ answerOf t n main ⌝ }
+    ensures { λ r. ⌜ r ≡ answerOf t n main closed ⌝ }
 {
     if n == 0 {
         return Answer {
@@ -23,6 +24,7 @@ pub fn of_front(t: Task, n: u8, main: u8) -> Answer
             height: 0,
             tasks: 0,
             main: main,
+            closed: closed,
         };
     }
     Answer {
@@ -32,6 +34,7 @@ pub fn of_front(t: Task, n: u8, main: u8) -> Answer
         height: t.height,
         tasks: n,
         main: main,
+        closed: closed,
     }
 }
 
@@ -41,7 +44,7 @@ pub fn look_at(s: Session) -> Answer
     ensures { λ r. ⌜ r ≡ lookAt (view s) ⌝ }
 {
     let t = s.tasks[0];
-    of_front(t, s.n, s.main)
+    of_front(t, s.n, s.main, 0)
 }
 
 // The answer of a refused call: its number and zeros.
@@ -55,5 +58,6 @@ pub fn refused(number: u8) -> Answer
         height: 0,
         tasks: 0,
         main: 0,
+        closed: 0,
     }
 }

@@ -11,7 +11,7 @@ use Rattle.model.specs.Refusals.{refusal}
 use Rattle.model.specs.Session.{mostTasks}
 use Rattle.model.specs.Flags.{flagsOf}
 use Rattle.model.specs.Answers.{refused}
-use Rattle.model.specs.Calls.{Call, chosen, launch, back, look, launched, started, finished, startChecks, roomChecks, ownChecks, done}
+use Rattle.model.specs.Calls.{Call, chosen, launch, back, look, launched, started, finished, startChecks, roomChecks, ownChecks, closedOf, done}
 use Rattle.model.proofs.RefusalLaws.{refusal-append-refused, refusal-append-passed}
 use Rattle.session.specs.declared.Session.{Session}
 use Rattle.session.specs.Stored.{view, hold, holdTask, pad, blankTask, Ready, taskBehind}
@@ -25,10 +25,10 @@ use Rattle.plans.specs.declared.Plan.{Plan}
 use Rattle.plans.specs.Puts.{putOf, Puttable}
 use Rattle.plans.specs.Plans.{stillOf, keeps, closes, Opens}
 use Rattle.plans.specs.Shown.{answerFor, Showable, Uncovers}
-use Rattle.plans.proofs.Closes.{still-put, still-puttable, back-put, back-puttable, back-opens}
+use Rattle.plans.proofs.Closes.{closed-puttable, still-put, still-puttable, back-put, back-puttable, back-opens}
 use Rattle.plans.proofs.Answered.{showable, answers-look, refused-showable}
-use Rattle.starts.specs.Steps.{orElse, made, Plannable, chosenStored, roomyPlan, planUnless, planStored}
-use Rattle.starts.proofs.Planning.{start-put, start-puttable, start-uncovers, start-accepts}
+use Rattle.starts.specs.Steps.{orElse, made, madeClosed, Plannable, chosenStored, roomyPlan, planUnless, planStored}
+use Rattle.starts.proofs.Planning.{start-put, start-puttable, start-uncovers, start-closes, start-accepts}
 use Rattle.starts.proofs.Seeking.{entered-startable}
 use Rattle.calls.specs.declared.Reply.{Reply}
 use Rattle.calls.specs.StoredCalls.{reply, refusalStored, sharedRefusal, callStored, startCall}
@@ -56,6 +56,7 @@ pub record Makes-by (tb : List ℕ) (c : Session) (k : Call) (p : Plan) : Type 0
   pub puttable : Puttable c p
   pub uncovers : Uncovers p
   pub makes : putOf c p ≡ hold (done tb (view c) k)
+  pub closes : p .closed ≡ closedOf tb (view c) k
 
 module _ (tb : List ℕ) (c : Session) (z : Sized c) (k : Call) where
   gives-refused : (n : ℕ) → callStored tb c k ≡ reply c (refused (suc n)) → Gives c (stillOf c (suc n)) (callStored tb c k)
@@ -70,7 +71,7 @@ module _ (tb : List ℕ) (c : Session) (z : Sized c) (k : Call) where
           puttable = m .puttable;
           showable = showable c z p (m .accepted) (m .uncovers) sizes seen;
           gives = ap (reply (putOf c p)) (answers-look c z p (m .accepted) (m .uncovers) sizes seen)
-              ∙ rw (m .makes) (sym (own-accepted tb c k h own));
+              ∙ rw (m .makes, m .closes) (sym (own-accepted tb c k h own));
         }
 
   -- m is the refusal of the shared checks, j that of the call's own
@@ -92,13 +93,14 @@ module _ (tb : List ℕ) (c : Session) (z : Sized c) (k : Call) where
 
 module _ (tb : List ℕ) (c : Session) (z : Sized c) where
   look-makes : Ready tb c → Makes-by tb c look (stillOf c 0)
-  unfolding done
+  unfolding closedOf done
   look-makes h =
       record {
         accepted = refl;
         puttable = still-puttable c 0;
         uncovers = λ e. absurd (omega (arith, e));
         makes = still-put c z 0 ∙ sym (held c z (sound-blank tb c (h .sound)));
+        closes = refl;
       }
 
   look-number : refusal (ownChecks tb (view c) look) ≡ 0
@@ -136,7 +138,7 @@ module _ (tb : List ℕ) (c : Session) (z : Sized c) where
       rw none
 
   pub launch-gives : (m : ℕ) → m ≡ sharedRefusal tb c → Gives c (launchPlan m tb c) (callStored tb c launch)
-  unfolding done
+  unfolding closedOf done
   launch-gives m shared =
       gives-plan tb c z launch m (launchRefusal c) shared launch-number (keeps (mainTask tb) 0 1 1) (λ h e.
       record {
@@ -144,6 +146,7 @@ module _ (tb : List ℕ) (c : Session) (z : Sized c) where
         puttable = record { few = omega arith; second = λ p. absurd (false≢true p) };
         uncovers = λ g. absurd (omega (arith, g));
         makes = launch-put h (launch-empty (c .n) e);
+        closes = refl;
       })
 
 -- ---- Back
@@ -171,16 +174,17 @@ module _ (tb : List ℕ) (c : Session) (z : Sized c) where
 
   module _ (m : ℕ) (shared : m ≡ sharedRefusal tb c) where
     pub back-gives : Gives c (backPlan m c) (callStored tb c back)
-    unfolding done
+    unfolding closedOf done
     back-gives =
         gives-plan tb c z back m _ shared back-number _ (λ h e.
         let some = back-some (c .n) e in
         let one = leb (taskBehind c 0 .height) 1 in
         record {
           accepted = back-accepted c one;
-          puttable = back-puttable tb c z h some (leb 0 1);
+          puttable = closed-puttable c 1 (back-puttable tb c z h some (leb 0 1));
           uncovers = back-uncovers c one;
           makes = back-put tb c z h some (leb 0 1);
+          closes = refl;
         })
 
     -- what its plan requires
@@ -235,6 +239,12 @@ module _ (tb : List ℕ) (c : Session) (z : Sized c) (b w : ℕ) (fin : Bool) wh
   made-done true = refl
   made-done false = refl
 
+  -- the screens that it closes
+  made-closed : (f : Bool) → madeClosed f tb c b (flagsOf w) ≡ closedOf tb (view c) (startCall f b w)
+  unfolding closedOf
+  made-closed true = refl
+  made-closed false = refl
+
   start-makes : Ready tb c → orElse entry roomOf ≡ 0 → Makes-by tb c does (roomyPlan tb c b (flagsOf w) fin)
   start-makes h e = go entry refl e
     where
@@ -249,6 +259,7 @@ module _ (tb : List ℕ) (c : Session) (z : Sized c) (b w : ℕ) (fin : Bool) wh
             puttable = start-puttable z s ok fin;
             uncovers = start-uncovers z s ok fin;
             makes = start-put z s ok fin ∙ made-done fin;
+            closes = start-closes z s ok fin ∙ made-closed fin;
           }
 
   pub start-gives : (m : ℕ) → m ≡ sharedRefusal tb c → {n : ℕ} → n ≡ orElse m entry → Gives c (planStored n tb c b w fin) (callStored tb c does)

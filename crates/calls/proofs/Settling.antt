@@ -11,8 +11,8 @@ use Rattle.model.specs.Lists.{isEmpty}
 use Rattle.model.specs.Refusals.{Check, refusal}
 use Rattle.model.specs.Table.{tableRefusal, tableShaped, tableFilled}
 use Rattle.model.specs.Session.{Stack, State}
-use Rattle.model.specs.Answers.{lookAt, refused, answerBy}
-use Rattle.model.specs.Calls.{Call, launch, back, look, checksIn, ownChecks, done}
+use Rattle.model.specs.Answers.{lookAt, withClosed, refused, answerBy}
+use Rattle.model.specs.Calls.{Call, launch, back, look, checksIn, ownChecks, closedOf, done}
 use Rattle.model.proofs.RefusalLaws.{refusal-skip, refusal-passes, refusal-append-refused, checks-bad-table, checks-unsound, checks-own}
 use Rattle.model.proofs.Keeps.{done-sound}
 use Rattle.session.specs.declared.Session.{Session}
@@ -24,10 +24,15 @@ use Rattle.answer.proofs.LookLaws.{answer-refused, answer-accepted, sound-seen}
 use Rattle.calls.specs.declared.Reply.{Reply}
 use Rattle.calls.specs.StoredCalls.{reply, givenBy, refusalStored, sharedRefusal, callStored, KeepsSound}
 
--- the call k on c left the session s, with the refusal n
+-- the call k on c, which closes no screen, left the session s, with the refusal n
 pub record Left (tb : List ℕ) (c : Session) (k : Call) (n : ℕ) (s : Session) : Type 0 where
   pub settles : reply s (answerBy n (lookAt (view s))) ≡ callStored tb c k
   pub seen : n ≡ 0 → Seen s
+
+-- a look closes none
+closed-none : (v : State ℕ) → withClosed 0 (lookAt v) ≡ lookAt v
+unfolding lookAt
+closed-none v = refl
 
 -- ---- the shared checks
 
@@ -107,12 +112,12 @@ module _ (tb : List ℕ) (c : Session) where
     own-refused h zero e z = absurd (z refl)
     own-refused h (suc n) e z = call-settled h ∙ ap (givenBy tb c k) e
 
-    -- accepted: the session that it makes, and a look at it
+    -- accepted: the session that it makes, a look at it, and the screens that it closed
     pub own-accepted : Ready tb c → refusal (ownChecks tb (view c) k) ≡ 0
-        → callStored tb c k ≡ reply (hold (done tb (view c) k)) (lookAt (view (hold (done tb (view c) k))))
+        → callStored tb c k ≡ reply (hold (done tb (view c) k)) (withClosed (closedOf tb (view c) k) (lookAt (view (hold (done tb (view c) k)))))
     own-accepted h e =
         call-settled h ∙ ap (givenBy tb c k) e
-        ∙ ap (λ (v : State ℕ). reply (hold (done tb (view c) k)) (lookAt v)) (sym (view-hold (done tb (view c) k)))
+        ∙ ap (λ (v : State ℕ). reply (hold (done tb (view c) k)) (withClosed (closedOf tb (view c) k) (lookAt v))) (sym (view-hold (done tb (view c) k)))
 
     -- which can be looked at
     pub own-seen : Ready tb c → refusal (ownChecks tb (view c) k) ≡ 0 → Seen (hold (done tb (view c) k))
@@ -123,24 +128,27 @@ module _ (tb : List ℕ) (c : Session) where
         hold-sized (done tb (view c) k)
         (sound-fits tb (done tb (view c) k) (done-sound tb (h .good) (view c) (sound-view tb c (h .sound)) k e))
 
-    -- ---- what a call left
+    -- ---- what a call that closes no screen left
 
     -- refused, the session as it was
     pub left-refused : (n : ℕ) → callStored tb c k ≡ reply c (refused n) → (n ≡ 0 → ⊥) → Left tb c k n c
     left-refused n e z = record { settles = ap (reply c) (sym (answer-refused _ n z)) ∙ sym e; seen = λ q. absurd (z q) }
 
     -- accepted, the session that it makes
-    pub left-made : Ready tb c → refusal (ownChecks tb (view c) k) ≡ 0 → {n : ℕ} {d : Session} → n ≡ 0 → d ≡ hold (done tb (view c) k) → Left tb c k n d
-    left-made h e {n} {d} z m =
+    pub left-made : Ready tb c → refusal (ownChecks tb (view c) k) ≡ 0 → closedOf tb (view c) k ≡ 0
+        → {n : ℕ} {d : Session} → n ≡ 0 → d ≡ hold (done tb (view c) k) → Left tb c k n d
+    left-made h e none {n} {d} z m =
+        let made = hold (done tb (view c) k) in
         record {
-          settles = ap (reply d) (sym (answer-accepted _ n z)) ∙ rw m (sym (own-accepted h e));
+          settles = ap (reply d) (sym (answer-accepted _ n z))
+              ∙ rw m (ap (reply made) (sym (closed-none (view made))) ∙ rw (← none) (sym (own-accepted h e)));
           seen = λ q. rw m (own-seen h e);
         }
 
   -- ---- look
 
   pub look-settled : Sized c → Ready tb c → callStored tb c look ≡ reply c (lookAt (view c))
-  unfolding ownChecks done refusal
+  unfolding ownChecks closedOf done refusal lookAt
   look-settled z h = call-settled look h ∙ ap (λ (s : Session). reply s (lookAt (view c))) (held c z (sound-blank tb c (h .sound)))
 
   -- ---- launch and Back

@@ -11,7 +11,7 @@ use Rattle.session.specs.declared.Session.{Session}
 use Rattle.session.specs.declared.Task.{Task}
 use Rattle.session.specs.Stored.{holdTask, taskBehind}
 use Rattle.plans.specs.declared.Plan.{Plan}
-use Rattle.plans.specs.Plans.{keeps, closes}
+use Rattle.plans.specs.Plans.{keeps, closesWith}
 use Rattle.starts.specs.Steps.{orElse, planUnless}
 
 -- ---- launch
@@ -40,4 +40,4 @@ backMark = Mark.Stands 0 0
 abbrev pub backPlan : ℕ → Session → Plan
 backPlan k c =
     planUnless (orElse k (backRefusal c)) c
-    (closes backMark (leb (taskBehind c 0 .height) 1) (leb 0 1) (taskBehind c 0) 0 (c .n) (c .main))
+    (closesWith backMark (leb (taskBehind c 0 .height) 1) (leb 0 1) (taskBehind c 0) 0 (c .n) (c .main) 0)

@@ -76,8 +76,8 @@ pub fn launch_plan(table: &[u8], s: Session, shared: u8) -> Plan
     }
     let b = table::main_screen(table);
     let blank = s.tasks[0];
-    let front = effects::front_after(blank, b, Effect::New);
-    plans::closing_plan(Mark::Gone, front, 0, 0, 1, 1)
+    let front = effects::front_after(blank, b, Effect::New, 0);
+    plans::closing_plan(Mark::Gone, front, 0, 0, 1, 1, 0)
 }
 
 // The plan of a Back: the top screen of the front task closes, as a marked one does.
@@ -90,7 +90,7 @@ pub fn back_plan(s: Session, shared: u8) -> Plan
         return plans::still(s, number);
     }
     let front = s.tasks[0];
-    plans::closing_plan(Mark::Stands(0, 0), front, 0, 0, s.n, s.main)
+    plans::closing_plan(Mark::Stands(0, 0), front, 0, 0, s.n, s.main, 0)
 }
 
 // Launch, on an empty session.

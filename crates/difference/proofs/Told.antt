@@ -19,7 +19,7 @@ use Rattle.session.specs.declared.Session.{Session}
 use Rattle.session.specs.Stored.{view}
 use Rattle.difference.specs.declared.Difference.{Difference}
 use Rattle.difference.specs.Apart.{lookThenBacks, mostBacks, FirstApart}
-use Rattle.difference.proofs.Reached.{Both, reached-count}
+use Rattle.difference.proofs.Reached.{Both, reached-count, both-look}
 
 backs-later : (k : ℕ) → All IsLater (replicate k back)
 backs-later zero = tt
@@ -34,34 +34,28 @@ abbrev pub Told : List ℕ → State ℕ → State ℕ → Difference → Type 0
 Told tb s t d =
     FirstApart tb s t d × (((d .found ≡ false) ↔ (s ≡ t)) × (((d .found ≡ false) ↔ AnswerAlike (byRules tb) s t) × (d .backs ≤ mostBacks)))
 
-module _ {tb : List ℕ} {s t : State ℕ} {k : ℕ} {c d : Session} (r : Both tb s t k c d) where
+module _ {tb : List ℕ} {s t : State ℕ} {k : ℕ} {c d : Session} {a b : Answer} (r : Both tb s t k c d a b) where
   pub backs-most : Sound tb s → k ≤ mostBacks
   backs-most h = let e = r .screens in let l = screens-most tb s h in omega arith
 
-  module _ (h : Sound tb s) (a b : Answer) (p : a ≡ lookAt (view c)) (q : b ≡ lookAt (view d)) where
+  module _ (h : Sound tb s) where
     -- the difference found here, by whether the answers agree
     abbrev pub here : Bool → Difference
     here agreed = record { found = not agreed; backs = k; first = a; second = b }
 
-    reached-first : answers (byRules tb) s (lookThenBacks k) ≡ r .before ++ a ∷ []
-    reached-first = rw p (r .one .answered)
-
-    reached-second : answers (byRules tb) t (lookThenBacks k) ≡ r .before ++ b ∷ []
-    reached-second = rw q (r .other .answered)
-
     told-same : a ≡ b → c .n ≡ 0 → Told tb s t (here true)
     unfolding screensIn
     told-same e n =
-        let f = empty-both tb (view c) (view d) (r .one .sound) (r .other .sound) (sym p ∙ e ∙ q) (sym (reached-count (r .one)) ∙ n) in
+        let f = empty-both tb (view c) (view d) (r .one .sound) (r .other .sound) (both-look r e) (sym (reached-count (r .one)) ∙ n) in
         let same = r .same (f .0 ∙ sym (f .1)) in
         let z : screensIn (view c .tasks) ≡ 0 = ap (λ (u : State ℕ). screensIn (u .tasks)) (f .0) in
         let g = r .screens in (
           record {
             before = r .before;
-            first = reached-first;
-            second = reached-second;
+            first = r .one .answered;
+            second = r .other .answered;
             differ = λ x. absurd (false≢true x);
-            emptied = λ x. (omega arith, (p ∙ ap lookAt (f .0), q ∙ ap lookAt (f .1)));
+            emptied = λ x. (omega arith, (r .one .shows ∙ ap lookAt (f .0), r .other .shows ∙ ap lookAt (f .1)));
           },
           ((λ x. same, λ x. refl), ((λ x cs l. ap (λ (u : State ℕ). answers (byRules tb) u cs) same, λ x. refl), backs-most h)),
         )
@@ -69,11 +63,11 @@ module _ {tb : List ℕ} {s t : State ℕ} {k : ℕ} {c d : Session} (r : Both t
     told-apart : (a ≡ b → ⊥) → Told tb s t (here false)
     told-apart n =
         let other : answers (byRules tb) s (lookThenBacks k) ≡ answers (byRules tb) t (lookThenBacks k) → ⊥ =
-        λ e. n (last-same (r .before) a b (sym reached-first ∙ e ∙ reached-second)) in (
+        λ e. n (last-same (r .before) a b (sym (r .one .answered) ∙ e ∙ r .other .answered)) in (
           record {
             before = r .before;
-            first = reached-first;
-            second = reached-second;
+            first = r .one .answered;
+            second = r .other .answered;
             differ = λ x. n;
             emptied = λ x. absurd (true≢false x);
           },

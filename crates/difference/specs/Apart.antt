@@ -6,7 +6,7 @@ use mathlib.Core.List.{List, [], _∷_, _++_}
 use lib.ListN.{replicate}
 use Rattle.model.specs.declared.Answer.{Answer}
 use Rattle.model.specs.Session.{State, mostTasks, mostHeight, screensIn, fresh}
-use Rattle.model.specs.Answers.{lookAt}
+use Rattle.model.specs.Answers.{lookAt, withClosed}
 use Rattle.model.specs.Calls.{Call, back, look}
 use Rattle.model.specs.Histories.{answers, byRules}
 use Rattle.difference.specs.declared.Difference.{Difference}
@@ -27,5 +27,6 @@ pub record FirstApart (tb : List ℕ) (s t : State ℕ) (d : Difference) : Type 
   pub second : answers (byRules tb) t (lookThenBacks (d .backs)) ≡ before ++ d .second ∷ []
   -- these differ
   pub differ : d .found ≡ true → d .first ≡ d .second → ⊥
-  -- or every screen is gone from both: "An empty session gives six zeros."
-  pub emptied : d .found ≡ false → (d .backs ≡ screensIn (s .tasks)) × ((d .first ≡ lookAt fresh) × (d .second ≡ lookAt fresh))
+  -- or every screen is gone from both: "An empty session gives six zeros", but for the screen that the last Back closed
+  pub emptied : d .found ≡ false
+      → (d .backs ≡ screensIn (s .tasks)) × ((withClosed 0 (d .first) ≡ lookAt fresh) × (withClosed 0 (d .second) ≡ lookAt fresh))

@@ -28,6 +28,7 @@ fn agree(a: Answer, b: Answer) -> bool
         & (a.height == b.height)
         & (a.tasks == b.tasks)
         & (a.main == b.main)
+        & (a.closed == b.closed)
 }
 
 // Looks at both sessions, then does Back in both, until the answers differ or both sessions are empty.
@@ -40,10 +41,10 @@ pub fn first_difference(table: &[u8], first: Session, second: Session) -> Differ
 {
     let mut s = first;
     let mut t = second;
+    let mut a = answer::look_at(s);
+    let mut b = answer::look_at(t);
     let mut backs: u16 = 0;
     loop {
-        let a = answer::look_at(s);
-        let b = answer::look_at(t);
         let found = !agree(a, b);
         if found | (s.n == 0) {
             break Difference {
@@ -57,6 +58,8 @@ pub fn first_difference(table: &[u8], first: Session, second: Session) -> Differ
         let other = calls::back(table, t, 0);
         s = one.session;
         t = other.session;
+        a = one.answer;
+        b = other.answer;
         backs += 1;
     }
 }

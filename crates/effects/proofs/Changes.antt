@@ -1,6 +1,6 @@
 -- A change of a stored task's screens, by what stands in the array: clear to b, lift and push. What is needed of the task
 -- is that its storage holds 0 above the height.
-use Prim.Native.Nat.{ℕ, suc, _+_, _-_, _≤_, _<_, pred}
+use Prim.Native.Nat.{ℕ, zero, suc, _+_, _-_, _≤_, _<_, pred}
 use mathlib.Core.Path.{_≡_, sym, _∙_, ap}
 use mathlib.Core.Bool.{true}
 use mathlib.Core.List.{List, reverse}
@@ -20,6 +20,7 @@ use Rattle.session.proofs.Known.{Screens32}
 use Rattle.session.proofs.Padding.{drop-pad}
 use Rattle.session.proofs.StoredLaws.{hold-viewTask}
 use Rattle.session.proofs.TaskLaws.{view-height, view-screen, hold-cleared, hold-lifted, lifted, hold-pushed}
+use Rattle.effects.specs.Fronted.{clearedTask, changedTask}
 use Rattle.effects.specs.Rows.{closedUp, lowest}
 
 pub blank-low : (t : Task) → blankAbove t ≡ true → t .height ≤ mostHeight
@@ -41,16 +42,40 @@ module _ (t : Task) (l : Screens32 t) (e : blankAbove t ≡ true) where
   unfolding viewTask
   kept ys f = ap (λ (zs : List ℕ). holdTask (stack (t .root) zs)) f ∙ hold-viewTask t l e
 
+  -- ---- clear to the screen at the place p from the top, or to none
+
+  pub clear-none : {p : ℕ} → p ≡ 0 → clearedTask p t ≡ t
+  clear-none {p} none = kept (drop (pred p) (viewTask t .screens)) (rw none)
+
+  pub clear-place : (p : ℕ) → (p ≡ 0 → ⊥) → p ≤ t .height → clearedTask p t ≡ lowest (t .height + 1 - p) t
+  unfolding viewTask
+  clear-place p some low =
+      let h = blank-height in
+      let same : pred p ≡ p - 1 = omega arith in
+      ap (λ (k : ℕ). holdTask (stack (t .root) (drop k (viewTask t .screens)))) same
+      ∙ hold-cleared (t .root) (t .height + 1 - p) (p - 1) (viewTask t .screens) (omega arith)
+      ∙ ap (lowest (t .height + 1 - p)) (hold-viewTask t l e)
+
+  -- ---- b
+
   module _ (b : ℕ) where
     abbrev xs : List ℕ
     xs = viewTask t .screens
 
+    pub clear-is : {p : ℕ} → p ≡ find (eqb b) xs → clearedTask p t ≡ changedTask b Change.Clear t
+    unfolding changed
+    clear-is f = ap (λ (k : ℕ). clearedTask k t) f
+
+    -- the place of the topmost b, or 0
+    pub place-inside : {p : ℕ} → p ≡ find (eqb b) xs → p ≤ t .height
+    place-inside {p} f = go p f
+      where
+        go : (k : ℕ) → k ≡ find (eqb b) xs → k ≤ t .height
+        go zero q = omega arith
+        go (suc k) q = let h = blank-height in omega (arith, find-spec (eqb b) 0 xs k (sym q) .inside)
+
     -- b does not stand in the task
     module _ {p : ℕ} (f : p ≡ find (eqb b) xs) (none : p ≡ 0) where
-      pub clear-nothing : holdTask (stack (t .root) (changed (eqb b) b Change.Clear xs)) ≡ t
-      unfolding changed
-      clear-nothing = kept (drop (pred (find (eqb b) xs)) xs) (rw (← f, none))
-
       pub lift-nothing : holdTask (stack (t .root) (changed (eqb b) b Change.Lift xs)) ≡ t
       unfolding changed
       lift-nothing = kept (toFront (pred (find (eqb b) xs)) xs) (rw (← f, none) (toFront-zero xs))
@@ -65,15 +90,6 @@ module _ (t : Task) (l : Screens32 t) (e : blankAbove t ≡ true) where
 
       same : pred (find (eqb b) xs) ≡ p - 1
       same = let g : pred p ≡ p - 1 = omega arith in ap pred (sym f) ∙ g
-
-      pub clear-found : holdTask (stack (t .root) (changed (eqb b) b Change.Clear xs)) ≡ lowest (t .height + 1 - p) t
-      unfolding changed viewTask
-      clear-found =
-          let h = blank-height in
-          let o = place-low in
-          ap (λ (k : ℕ). holdTask (stack (t .root) (drop k xs))) same
-          ∙ hold-cleared (t .root) (t .height + 1 - p) (p - 1) xs (omega arith)
-          ∙ ap (lowest (t .height + 1 - p)) (hold-viewTask t l e)
 
       pub lift-found : holdTask (stack (t .root) (changed (eqb b) b Change.Lift xs)) ≡ withScreens t (closedUp (t .height - p) (p - 1) b (t .screens))
       unfolding changed viewTask

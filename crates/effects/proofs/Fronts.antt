@@ -98,10 +98,10 @@ module _ (s : Session) (z : Sized s) (p : ℕ) where
   main-low d k e = let f = subst (λ (x : Effect). Finds x p (view s)) e (k .finds) in omega arith
 
   -- the task that is changed stands
-  in-front : {c : Change} → Carriable s (Effect.InFront c) p → 0 < s .n
+  pub in-front : {c : Change} → Carriable s (Effect.InFront c) p → 0 < s .n
   in-front k = let n = counted s z (k .blank) in omega (arith, k .finds .0)
 
-  at-place : {c : Change} → Carriable s (Effect.MoveAnd c) p → pred p < s .n
+  pub at-place : {c : Change} → Carriable s (Effect.MoveAnd c) p → pred p < s .n
   at-place k = let n = counted s z (k .blank) in omega (arith, k .finds .0)
 
   pub shift-low : (d : Effect) → Carriable s d p → shiftOf d p (s .n) < mostTasks

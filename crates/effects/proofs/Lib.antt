@@ -1,6 +1,7 @@
 pub mod Rows
 pub mod Places
 pub mod Fronts
+pub mod Counts
 pub mod Changes
 pub mod Tags
 pub mod Bases

@@ -2,10 +2,10 @@
 use Prim.Native.Nat.{ℕ, suc, pred}
 use mathlib.Core.List.{[], _∷_}
 use lib.Dec.{eqb}
-use lib.ListN.{getD}
+use lib.ListN.{getD, drop}
 use Rattle.model.specs.declared.Change.{Change}
 use Rattle.model.specs.declared.Effect.{Effect}
-use Rattle.model.specs.Lists.{further}
+use Rattle.model.specs.Lists.{further, find}
 use Rattle.model.specs.Session.{stack}
 use Rattle.model.specs.Effects.{mainMoved, changed}
 use Rattle.session.specs.declared.Task.{Task}
@@ -16,6 +16,26 @@ use Rattle.effects.specs.Rows.{shifted}
 -- a task after a change of its screens
 abbrev pub changedTask : ℕ → Change → Task → Task
 changedTask b c t = holdTask (stack (t .root) (changed (eqb b) b c (viewTask t .screens)))
+
+-- the place of the topmost b in a task that is to be cleared to it or in which it is to be lifted; 0 for any other change
+abbrev pub placeIn : ℕ → Change → Task → ℕ
+placeIn b Change.Keep t = 0
+placeIn b Change.Renew t = 0
+placeIn b Change.Clear t = find (eqb b) (viewTask t .screens)
+placeIn b Change.Lift t = find (eqb b) (viewTask t .screens)
+placeIn b Change.Push t = 0
+
+-- a task cleared to the screen at a place
+abbrev pub clearedTask : ℕ → Task → Task
+clearedTask place t = holdTask (stack (t .root) (drop (pred place) (viewTask t .screens)))
+
+-- how many screens a change closes in a task of height h, where the topmost b is at the place
+abbrev pub closedWith : Change → ℕ → ℕ → ℕ
+closedWith Change.Keep h place = 0
+closedWith Change.Renew h place = h
+closedWith Change.Clear h place = pred place
+closedWith Change.Lift h place = 0
+closedWith Change.Push h place = 0
 
 -- the task that a renewal or a push puts b onto
 abbrev pub baseOf : Change → Task → Task
@@ -31,12 +51,17 @@ shiftOf Effect.New p n = n
 shiftOf (Effect.InFront c) p n = 0
 shiftOf (Effect.MoveAnd c) p n = pred p
 
--- what the effect does to the screens of the task in front after it, a new task being one renewed; and the root of that task
+-- what the effect does to the screens of the task in front after it, a new task being one renewed
 abbrev pub changeOf : Effect → Change
 changeOf Effect.New = Change.Renew
 changeOf (Effect.InFront c) = c
 changeOf (Effect.MoveAnd c) = c
 
+-- the place of the topmost b in the task that the effect changes
+abbrev pub placeFor : ℕ → Effect → Task → ℕ
+placeFor b d t = placeIn b (changeOf d) t
+
+-- the root of the task in front after it
 abbrev pub rootAfter : ℕ → ℕ → Effect → ℕ
 rootAfter r b Effect.New = b
 rootAfter r b (Effect.InFront c) = r
@@ -47,6 +72,12 @@ abbrev pub frontAfter : ℕ → Effect → Task → Task
 frontAfter b Effect.New t = holdTask (stack b (b ∷ []))
 frontAfter b (Effect.InFront c) t = changedTask b c t
 frontAfter b (Effect.MoveAnd c) t = changedTask b c t
+
+-- how many screens it closes in the task that it changes; a new task has none to close
+abbrev pub closedFor : Effect → ℕ → ℕ → ℕ
+closedFor Effect.New h place = 0
+closedFor (Effect.InFront c) h place = closedWith c h place
+closedFor (Effect.MoveAnd c) h place = closedWith c h place
 
 abbrev pub countAfter : Effect → ℕ → ℕ
 countAfter Effect.New n = suc n

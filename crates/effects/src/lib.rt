@@ -11,7 +11,7 @@ ghost use Rattle.model.specs.declared.Effect.{Effect};
 ghost use Rattle.model.specs.Effects.{mainMoved};
 ghost use Rattle.session.specs.Stored.{holdTask, withScreens, blankAbove};
 ghost use Rattle.effects.specs.Carriable.{Placed, Alterable, Changeable};
-ghost use Rattle.effects.specs.Fronted.{baseOf, changedTask, shiftOf, changeOf, rootAfter, frontAfter, countAfter, mainAfter};
+ghost use Rattle.effects.specs.Fronted.{placeIn, clearedTask, baseOf, changedTask, closedWith, shiftOf, changeOf, placeFor, rootAfter, frontAfter, closedFor, countAfter, mainAfter};
 ghost use Rattle.effects.specs.Rows.{closedUp, lowest};
 use model::Change;
 use model::Effect;
@@ -91,24 +91,33 @@ pub fn closed_up(t: Task, m: usize, k: usize, b: u8) -> Task
     out
 }
 
-// Clear to b: all above the topmost b goes.
-fn cleared(t: Task, b: u8) -> Task
-    requires { ⌜ blankAbove t ≡ true ⌝ }
-    ensures { λ r. ⌜ r ≡ changedTask b Change.Clear t ⌝ }
+// The place of the topmost b, which clear and lift rely on; 0 where there is none, and for any other change.
+fn place_in(t: Task, b: u8, change: Change) -> u8
+    requires { ⌜ Alterable change t ⌝ }
+    ensures { λ r. ⌜ r ≡ placeIn b change t ⌝ }
 {
-    let place = search::topmost(t, b);
+    match change {
+        Change::Clear | Change::Lift => search::topmost(t, b),
+        Change::Keep | Change::Renew | Change::Push => 0,
+    }
+}
+
+// Clear to the screen at the place: all above it goes.
+fn cleared(t: Task, place: u8) -> Task
+    requires { ⌜ (blankAbove t ≡ true) × (place ≤ t .height) ⌝ }
+    ensures { λ r. ⌜ r ≡ clearedTask place t ⌝ }
+{
     if place == 0 {
         return t;
     }
     lowered(t, t.height + 1 - place)
 }
 
-// Lift: the topmost b goes to the top.
-fn lifted(t: Task, b: u8) -> Task
-    requires { ⌜ blankAbove t ≡ true ⌝ }
+// Lift: the topmost b, at the place, goes to the top.
+fn lifted(t: Task, b: u8, place: u8) -> Task
+    requires { ⌜ (blankAbove t ≡ true) × (place ≡ placeIn b Change.Lift t) ⌝ }
     ensures { λ r. ⌜ r ≡ changedTask b Change.Lift t ⌝ }
 {
-    let place = search::topmost(t, b);
     if place == 0 {
         return t;
     }
@@ -125,17 +134,33 @@ fn base_of(t: Task, change: Change) -> Task
     }
 }
 
-// The task after a change of its screens.
-fn changed(t: Task, b: u8, change: Change) -> Task
-    requires { ⌜ Alterable change t ⌝ }
+// The task after a change of its screens; the place is that of the topmost b.
+fn changed(t: Task, b: u8, change: Change, place: u8) -> Task
+    requires { ⌜ Alterable change t × (place ≡ placeIn b change t) ⌝ }
     ensures { λ r. ⌜ r ≡ changedTask b change t ⌝ }
 {
     let base = base_of(t, change);
     match change {
         Change::Keep => t,
-        Change::Clear => cleared(t, b),
-        Change::Lift => lifted(t, b),
+        Change::Clear => cleared(t, place),
+        Change::Lift => lifted(t, b, place),
         Change::Renew | Change::Push => base.push(b),
+    }
+}
+
+// How many screens a change closes in a task of this height: all of an emptied one, those above the place of the topmost b.
+fn closed_in(change: Change, height: u8, place: u8) -> u8
+    ensures { λ r. ⌜ r ≡ closedWith change height place ⌝ }
+{
+    match change {
+        Change::Renew => height,
+        Change::Clear => {
+            if place == 0 {
+                return 0;
+            }
+            place - 1
+        }
+        Change::Keep | Change::Lift | Change::Push => 0,
     }
 }
 
@@ -175,14 +200,33 @@ fn root_after(root: u8, b: u8, effect: Effect) -> u8
     }
 }
 
-// The task in front after an effect; t is the one that it changes.
-pub fn front_after(t: Task, b: u8, effect: Effect) -> Task
+// The place of the topmost b in the task that an effect changes, where the effect clears or lifts.
+pub fn place_for(t: Task, b: u8, effect: Effect) -> u8
     requires { ⌜ Changeable effect t ⌝ }
+    ensures { λ r. ⌜ r ≡ placeFor b effect t ⌝ }
+{
+    place_in(t, b, change_of(effect))
+}
+
+// The task in front after an effect; t is the one that it changes, and the place is that of the topmost b in it.
+pub fn front_after(t: Task, b: u8, effect: Effect, place: u8) -> Task
+    requires { ⌜ Changeable effect t × (place ≡ placeFor b effect t) ⌝ }
     ensures { λ r. ⌜ r ≡ frontAfter b effect t ⌝ }
 {
-    let mut out = changed(t, b, change_of(effect));
+    let mut out = changed(t, b, change_of(effect), place);
     out.root = root_after(t.root, b, effect);
     out
+}
+
+// How many screens an effect closes in the task that it changes, by its height and the place of the topmost b.
+pub fn closed_by(effect: Effect, height: u8, place: u8) -> u8
+    ensures { λ r. ⌜ r ≡ closedFor effect height place ⌝ }
+{
+    match effect {
+        Effect::New => 0,
+        Effect::InFront(change) => closed_in(change, height, place),
+        Effect::MoveAnd(change) => closed_in(change, height, place),
+    }
 }
 
 // The number of tasks after an effect.

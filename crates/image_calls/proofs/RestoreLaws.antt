@@ -8,8 +8,8 @@ use Rattle.model.specs.Lists.{All}
 use Rattle.model.specs.Refusals.{refusal}
 use Rattle.model.specs.Session.{State}
 use Rattle.model.specs.Image.{image, imageChecks, sessionIn}
-use Rattle.model.specs.Answers.{lookAt, settle}
-use Rattle.model.specs.Calls.{restore, ownChecks, done}
+use Rattle.model.specs.Answers.{lookAt, withClosed, settle}
+use Rattle.model.specs.Calls.{restore, ownChecks, closedOf, done}
 use Rattle.model.specs.Histories.{IsByte}
 use Rattle.model.proofs.ImageLaws.{images-exact, accepts-exactly}
 use Rattle.session.specs.declared.Session.{Session}
@@ -21,10 +21,10 @@ use Rattle.image_calls.specs.Restores.{Accepted, AcceptsImages, BringsBa
 use Rattle.calls.proofs.Settling.{shared-ready, call-refused, call-settled, call-keeps, own-accepted}
 
 -- an answer names the refusal
-settled-refusal : (n : ℕ) (c d : Session) (v : State ℕ) → settle reply n c d (lookAt v) .answer .refusal ≡ n
+settled-refusal : (n : ℕ) (c d : Session) (v : State ℕ) (x : ℕ) → settle reply n c d (withClosed x (lookAt v)) .answer .refusal ≡ n
 unfolding lookAt
-settled-refusal zero c d v = refl
-settled-refusal (suc n) c d v = refl
+settled-refusal zero c d v x = refl
+settled-refusal (suc n) c d v x = refl
 
 module _ (tb : List ℕ) (c : Session) (bytes : List ℕ) where
   abbrev given : Reply
@@ -44,7 +44,7 @@ module _ (tb : List ℕ) (c : Session) (bytes : List ℕ) where
     unfolding ownChecks
     own-refusal =
         ap (λ (r : Reply). r .answer .refusal) (call-settled tb c (restore bytes) h)
-        ∙ settled-refusal (refusal (imageChecks tb bytes)) c _ (done tb (view c) (restore bytes))
+        ∙ settled-refusal (refusal (imageChecks tb bytes)) c _ (done tb (view c) (restore bytes)) (closedOf tb (view c) (restore bytes))
 
     brought : refusal (imageChecks tb bytes) ≡ 0 → given .session ≡ hold (sessionIn bytes)
     unfolding ownChecks done

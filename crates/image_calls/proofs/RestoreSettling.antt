@@ -8,7 +8,7 @@ use Rattle.model.specs.Lists.{if_then_else_}
 use Rattle.model.specs.Refusals.{check, refusal}
 use Rattle.model.specs.Session.{sound}
 use Rattle.model.specs.Image.{imageShaped, imageReadable, sessionIn}
-use Rattle.model.specs.Calls.{restore, ownChecks, done}
+use Rattle.model.specs.Calls.{restore, ownChecks, closedOf, done}
 use Rattle.session.specs.declared.Session.{Session}
 use Rattle.session.specs.Stored.{view, hold, freshSession, soundStored, Ready}
 use Rattle.session.proofs.StoredLaws.{held-sound}
@@ -55,7 +55,7 @@ module _ (tb : List ℕ) (c : Session) (bytes : List ℕ) (h : Ready tb c) where
 
       -- what was read is the session that the restore makes
       pub restored-left : n ≡ 0 → Left tb c (restore bytes) n (o .session)
-      unfolding readStored done
+      unfolding readStored closedOf done
       restored-left z =
           let readable : imageReadable bytes ≡ true = sym (ap (λ (x : Contents). x .readable) read) ∙ is-readable (o .readable) (soundStored tb (o .session)) (sym e ∙ z) in
-          left-made tb c (restore bytes) h (own-number ∙ sym e ∙ z) z (ap (λ (x : Contents). x .session) read ∙ rw readable)
+          left-made tb c (restore bytes) h (own-number ∙ sym e ∙ z) refl z (ap (λ (x : Contents). x .session) read ∙ rw readable)

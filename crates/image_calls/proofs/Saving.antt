@@ -10,7 +10,7 @@ use borrow.Author.Tests.{lt-ltb, le-ltb}
 use Rattle.model.specs.Refusals.{refusal}
 use Rattle.model.specs.Answers.{lookAt}
 use Rattle.model.specs.Image.{image}
-use Rattle.model.specs.Calls.{restore, checksIn, ownChecks, done, Saved, saveChecks, settleSave, save}
+use Rattle.model.specs.Calls.{restore, checksIn, ownChecks, closedOf, done, Saved, saveChecks, settleSave, save}
 use Rattle.model.proofs.RefusalLaws.{refusal-applies, refusal-passes, refusal-append-refused, checks-own}
 use Rattle.model.proofs.Sound.{sound-decides}
 use Rattle.model.proofs.ImageLaws.{images-exact, image-injective}
@@ -56,7 +56,7 @@ module _ (tb : List ℕ) (c : Session) (d : List ℕ) where
 
   -- the image brings its session back
   brings-back : Ready tb c → Sized c → BroughtBack tb c (image (view c))
-  unfolding ownChecks done
+  unfolding ownChecks closedOf done lookAt
   brings-back h z t e =
       let s = sound-decides tb (view c) .shows (sound-view tb c (h .sound)) in
       let k = images-exact tb .accepts (view c) s in

@@ -19,7 +19,7 @@ use model::Reason;
 use session::Session;
 
 // The number of this interface; bindings/abi has its structs and signatures.
-const ABI: u32 = 1;
+const ABI: u32 = 2;
 
 // The library's own number, for callers who compare it with that of their header.
 #[no_mangle]

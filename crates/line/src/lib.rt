@@ -58,5 +58,6 @@ pub fn write_line(out: &mut [u8], at: usize, kind: u8, a: Answer) -> usize
     let height = put(out, root, a.root, b' ');
     let tasks = put(out, height, a.height, b' ');
     let main = put(out, tasks, a.tasks, b' ');
-    put(out, main, a.main, b'\n')
+    let closed = put(out, main, a.main, b' ');
+    put(out, closed, a.closed, b'\n')
 }

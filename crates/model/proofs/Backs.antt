@@ -12,8 +12,8 @@ use Rattle.model.specs.Refusals.{refusal}
 use Rattle.model.specs.Table.{tableRefusal}
 use Rattle.model.specs.Session.{Stack, State, stack, height, count, screensIn, fresh, mostTasks, mostHeight}
 use Rattle.model.specs.Effects.{close}
-use Rattle.model.specs.Answers.{outcome, settle, lookAt}
-use Rattle.model.specs.Calls.{back, look, backed, ownChecks, done, call}
+use Rattle.model.specs.Answers.{outcome, settle, lookAt, withClosed}
+use Rattle.model.specs.Calls.{back, look, backed, ownChecks, closedOf, done, call}
 use Rattle.model.proofs.Logic.{All-map}
 use Rattle.model.proofs.SumLaws.{sum-most}
 use Rattle.model.proofs.Sessions.{withTasks, same-fields}
@@ -44,12 +44,14 @@ fronted tb s h some = of-tasks (s .tasks) (h .each) some
 
 module _ (tb : List ℕ) (ok : tableRefusal tb ≡ 0) where
   pub look-gives : (s : State ℕ) → Sound tb s → call tb s look ≡ outcome s (lookAt s)
-  unfolding ownChecks done refusal
+  unfolding ownChecks closedOf done refusal lookAt
   look-gives s h = settled tb ok s h look
 
-  pub back-gives : (s : State ℕ) → Sound tb s → 1 ≤ count s → call tb s back ≡ outcome (backed s) (lookAt (backed s))
-  unfolding ownChecks done refusal
-  back-gives s h some = settled tb ok s h back ∙ ap (λ (u : State ℕ). settle outcome (refusal (ownChecks tb u back)) s (backed s) (lookAt (backed s))) (fronted tb s h some .is)
+  pub back-gives : (s : State ℕ) → Sound tb s → 1 ≤ count s → call tb s back ≡ outcome (backed s) (withClosed 1 (lookAt (backed s)))
+  unfolding ownChecks closedOf done refusal
+  back-gives s h some =
+      settled tb ok s h back
+      ∙ ap (λ (u : State ℕ). settle outcome (refusal (ownChecks tb u back)) s (backed s) (withClosed 1 (lookAt (backed s)))) (fronted tb s h some .is)
 
 -- ---- screens
 

@@ -23,7 +23,7 @@ use Rattle.model.specs.Answers.{outcome, settle}
 use Rattle.model.specs.Calls.{Call, launch, start, finishingStart, back, look, restore, chosen, startedBy, started, finishedBy, finished, launched, backed, ownChecks, createdByChoice, closedByChoice, closedByFinish, createdOf, closedOf, done, answerTo, call}
 use Rattle.model.specs.Marks.{closeAt, closedAt, Stands}
 use Rattle.model.specs.Histories.{byRules, IsNoRestore}
-use Rattle.model.specs.Balance.{countBy, created, closed, ScreensBalance}
+use Rattle.model.specs.Balance.{countBy, created, ScreensBalance}
 use Rattle.model.proofs.Logic.{All-at, contradiction}
 use Rattle.model.proofs.ListLaws.{isEmpty-length, omit-length, toFront-length, found-at}
 use Rattle.model.proofs.RefusalLaws.{refusal-skip}
@@ -33,7 +33,7 @@ use Rattle.model.proofs.Effects.{Suits, Ready}
 use Rattle.model.proofs.Start.{choose-ready, start-accepted}
 use Rattle.model.proofs.Finish.{markOf, finished-by, finished-closes, marked-stands}
 use Rattle.model.proofs.Keeps.{refusal-own, settled, fresh-sound, call-sound}
-use Rattle.model.proofs.HistoryLaws.{along-measure}
+use Rattle.model.proofs.HistoryLaws.{sum-answers, along-measure}
 
 -- the screens standing: the measure whose weight of a task is its height
 abbrev standing : State ℕ → ℕ
@@ -115,12 +115,12 @@ module _ (tb : List ℕ) (s : State ℕ) (h : Sound tb s) where
 module _ (tb : List ℕ) (ok : tableRefusal tb ≡ 0) where
   -- a refused call adds nothing to either
   call-standing : (s : State ℕ) → Sound tb s → (c : Call) → IsNoRestore c
-      → standing (call tb s c .session) + closed tb s c ≡ standing s + created tb s c
+      → standing (call tb s c .session) + call tb s c .answer .closed ≡ standing s + created tb s c
   call-standing s h c made = rw (settled tb ok s h c, refusal-own tb ok s h c) (go (refusal (ownChecks tb s c)) refl)
     where
       go : (n : ℕ) → refusal (ownChecks tb s c) ≡ n
-          → standing (settle outcome n s (done tb s c) (answerTo tb s c) .session) + countBy n (closedOf tb s c)
-          ≡ standing s + countBy n (createdOf tb s c)
+          → let o = settle outcome n s (done tb s c) (answerTo tb s c) in
+          standing (o .session) + o .answer .closed ≡ standing s + countBy n (createdOf tb s c)
       go zero e = done-standing tb s h c made e
       go (suc k) e = refl
 
@@ -129,6 +129,8 @@ module _ (tb : List ℕ) (ok : tableRefusal tb ≡ 0) where
   pub screens-balance : (cs : List Call) → All IsNoRestore cs → ScreensBalance tb cs
   unfolding screensIn
   screens-balance cs made =
-      let e = along-measure (byRules tb) standing (created tb) (closed tb) (Sound tb) IsNoRestore
-      (λ s h c m. call-sound tb ok s h c) call-standing fresh (fresh-sound tb) cs made in
-      record { most = omega (arith, e); balance = omega (arith, e) }
+      let m = byRules tb in
+      let e = along-measure m standing (created tb) (λ s c. m .answer s c .closed) (Sound tb) IsNoRestore
+      (λ s h c k. call-sound tb ok s h c) call-standing fresh (fresh-sound tb) cs made in
+      let f = sum-answers m (λ a. a .closed) cs fresh in
+      record { most = omega (arith, e, f); balance = omega (arith, e, f) }

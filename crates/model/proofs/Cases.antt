@@ -1,5 +1,5 @@
--- Document 01, "Stacks to prove", in one table with one theorem; the player's example, byte for byte; and a restore that counts
--- no screen. All are proved by computing: every definition is unfolded.
+-- Document 01, "Stacks to prove", in one table with one theorem, with the screens that each call closes; the player's example, byte
+-- for byte; and a restore that counts no screen. All are proved by computing: every definition is unfolded.
 use Prim.Native.Nat.{ℕ, _+_}
 use mathlib.Core.Path.{_≡_, refl}
 use mathlib.Core.List.{List, [], _∷_, _++_, map}
@@ -12,24 +12,25 @@ use Rattle.model.specs.Flags.{NTK, STP, MTK, CTP, RTF, CTK, flagsOf, has
 use Rattle.model.specs.Search.{hasRoot, hasAffinity, seekRoot, seekAffinity, seek, holds}
 use Rattle.model.specs.Rules.{rulesOf, isSingle, isApart, groupOf, soughtBy, fits, chooseIn, choose}
 use Rattle.model.specs.Effects.{effectOf, mainMoved, mainWithout, move, changed, changeFront, putNew, carryOut, close}
+use Rattle.model.specs.Counts.{closedIn, closedBy}
 use Rattle.model.specs.Answers.{lookAt}
 use Rattle.model.specs.Image.{image, imageShaped, readTasks, imageReadable, sessionIn}
 use Rattle.model.specs.Calls.{Call, start, finishingStart, restore, started, mapState, markFront, closeMarked, finished, launched, backed, ownChecks, createdOf, closedOf, done, refusalOf, call, save}
-use Rattle.model.specs.Histories.{after, along}
+use Rattle.model.specs.Histories.{after, answers, along}
 use Rattle.model.specs.Balance.{createdAlong, closedAlong, standingAfter}
 use Rattle.model.specs.Player.{decimal, lineText, lineOf, requestOf, recordsIn, outcomeOf, textOf, startsWithTable, playerText}
 
 unfoldable computing : Unit {0}
-unfolding refusal modeOf affinityOf isSingleTop isSingleTask isSingleInstance rootsOnce tableShaped tableFilled heightFits screensKnown instanceAlone taskSound rootsDiffer mainSound sound flagsOf hasOtherBit hasRoot hasAffinity seekRoot seekAffinity seek holds rulesOf isSingle isApart groupOf soughtBy fits chooseIn choose effectOf mainMoved mainWithout move changed changeFront putNew carryOut close lookAt image imageShaped readTasks imageReadable sessionIn started mapState markFront closeMarked finished launched backed ownChecks done refusalOf call save screensIn createdOf closedOf after along decimal lineText lineOf requestOf recordsIn outcomeOf textOf startsWithTable playerText
+unfolding refusal modeOf affinityOf isSingleTop isSingleTask isSingleInstance rootsOnce tableShaped tableFilled heightFits screensKnown instanceAlone taskSound rootsDiffer mainSound sound flagsOf hasOtherBit hasRoot hasAffinity seekRoot seekAffinity seek holds rulesOf isSingle isApart groupOf soughtBy fits chooseIn choose effectOf mainMoved mainWithout move changed changeFront putNew carryOut close lookAt image imageShaped readTasks imageReadable sessionIn started mapState markFront closeMarked finished launched backed ownChecks done refusalOf call save screensIn closedIn closedBy createdOf closedOf after answers along decimal lineText lineOf requestOf recordsIn outcomeOf textOf startsWithTable playerText
 computing = tt
 
 -- "Table T, hex: 06 00 00 01 00 01 01 01 02 02 03 01 00 02"
 abbrev T : List ℕ
 T = 0x06 ∷ 0x00 ∷ 0x00 ∷ 0x01 ∷ 0x00 ∷ 0x01 ∷ 0x01 ∷ 0x01 ∷ 0x02 ∷ 0x02 ∷ 0x03 ∷ 0x01 ∷ 0x00 ∷ 0x02 ∷ []
 
--- what a case looks at: the refusal and the session after a call, or the bytes of an image
+-- what a case looks at: the refusal of a call, the screens that it closed and the session after it; or the bytes of an image
 data Result : Type 0 where
-  ends : ℕ → State ℕ → Result
+  ends : ℕ → ℕ → State ℕ → Result
   bytes : List ℕ → Result
 
 -- one row of the table: what the definitions give, and what 01 says
@@ -37,12 +38,18 @@ record Case : Type 0 where
   got : Result
   said : Result
 
--- a call that is accepted; one that is refused and keeps the session; an image
+abbrev endOf : State ℕ → Call → Result
+endOf s c = ends (call T s c .answer .refusal) (call T s c .answer .closed) (call T s c .session)
+
+-- a call that is accepted and closes k screens, or none; one that is refused and keeps the session; an image
+abbrev closing : ℕ → State ℕ → Call → State ℕ → Case
+closing k s c s′ = record { got = endOf s c; said = ends 0 k s′ }
+
 abbrev accepted : State ℕ → Call → State ℕ → Case
-accepted s c s′ = record { got = ends (call T s c .answer .refusal) (call T s c .session); said = ends 0 s′ }
+accepted s c s′ = closing 0 s c s′
 
 abbrev refusedWith : ℕ → State ℕ → Call → Case
-refusedWith k s c = record { got = ends (call T s c .answer .refusal) (call T s c .session); said = ends k s }
+refusedWith k s c = record { got = endOf s c; said = ends k 0 s }
 
 abbrev hasImage : State ℕ → List ℕ → Case
 hasImage s l = record { got = bytes (image s); said = bytes l }
@@ -79,8 +86,8 @@ abbrev cases : List Case
 cases =
     -- P1, P2 in both its forms, P3
     accepted three (start 1 RTF) (state (stack 0 (1 ∷ 2 ∷ 0 ∷ []) ∷ []) 1)
-    ∷ accepted three (start 1 CTP) (state (stack 0 (1 ∷ 0 ∷ []) ∷ []) 1)
-    ∷ accepted three (start 1 (CTP + RTF)) (state (stack 0 (1 ∷ 0 ∷ []) ∷ []) 1)
+    ∷ closing 1 three (start 1 CTP) (state (stack 0 (1 ∷ 0 ∷ []) ∷ []) 1)
+    ∷ closing 1 three (start 1 (CTP + RTF)) (state (stack 0 (1 ∷ 0 ∷ []) ∷ []) 1)
     ∷ accepted three (start 2 0) three
     -- P4, P5
     ∷ accepted instanceInFront (start 1 0) (state (stack 0 (1 ∷ 1 ∷ 0 ∷ []) ∷ stack 4 (4 ∷ []) ∷ stack 3 (3 ∷ []) ∷ []) 1)
@@ -89,8 +96,8 @@ cases =
     ∷ accepted rootInFront (start 5 NTK) rootInFront
     ∷ accepted singleTaskInFront (start 3 (NTK + MTK)) singleTaskInFront
     -- P8, P9
-    ∷ accepted one (finishingStart 0 (NTK + CTK)) one
-    ∷ accepted one (finishingStart 0 (NTK + STP)) fresh
+    ∷ closing 1 one (finishingStart 0 (NTK + CTK)) one
+    ∷ closing 1 one (finishingStart 0 (NTK + STP)) fresh
     -- P10
     ∷ hasImage (state (stack 3 (3 ∷ []) ∷ stack 0 (1 ∷ 0 ∷ []) ∷ []) 2)
     (0x03 ∷ 0x01 ∷ 0x03 ∷ 0x00 ∷ 0x02 ∷ 0x01 ∷ 0x00 ∷ 0x00 ∷ 0x07 ∷ 0x02 ∷ 0x02 ∷ 0x08 ∷ 0x42 ∷ [])
@@ -104,6 +111,13 @@ cases =
     -- "testing in R15 for the main task by comparing the place found before the move with m after it": the task found
     -- is at 2, the main task at 1
     ∷ accepted (state (stack 0 (0 ∷ []) ∷ stack 5 (1 ∷ 5 ∷ []) ∷ []) 1) (start 5 NTK) rootInFront
+    -- screens closed: above the topmost of two copies; by a finishing start, the caller, which a lift leaves and a clear may
+    -- have closed; all of an emptied task of 32, also a B, and the caller
+    ∷ closing 1 (state (stack 0 (2 ∷ 1 ∷ 2 ∷ 1 ∷ 0 ∷ []) ∷ []) 1) (start 1 CTP) (state (stack 0 (1 ∷ 2 ∷ 1 ∷ 0 ∷ []) ∷ []) 1)
+    ∷ closing 1 three (finishingStart 1 RTF) (state (stack 0 (1 ∷ 0 ∷ []) ∷ []) 1)
+    ∷ closing 1 three (finishingStart 1 CTP) (state (stack 0 (1 ∷ 0 ∷ []) ∷ []) 1)
+    ∷ closing 32 (tall 31) (start 0 (NTK + CTK)) one
+    ∷ closing 33 (state (stack 3 (3 ∷ []) ∷ tall 31 .tasks) 2) (finishingStart 0 (NTK + CTK)) one
     ∷ []
 
 stacks : map (λ (c : Case). c .got) cases ≡ map (λ (c : Case). c .said) cases
@@ -122,7 +136,7 @@ example =
     ++ (0x04 ∷ 0x00 ∷ 0x00 ∷ 0x00 ∷ 0x00 ∷ 0x00 ∷ 0x04 ∷ 0x00 ∷ 0x00 ∷ 0x00 ∷ 0x00 ∷ 0x00 ∷ [])
 
 played : playerText example
-    ≡ ascii "1 0 0 0 1 1 1\n2 0 1 0 2 1 1\n2 0 3 3 1 2 2\n3 0 0 0 3 1 1\n4 0 1 0 2 1 1\n4 0 0 0 1 1 1\n4 0 0 0 0 0 0\n4 21 0 0 0 0 0\n"
+    ≡ ascii "1 0 0 0 1 1 1 0\n2 0 1 0 2 1 1 0\n2 0 3 3 1 2 2 0\n3 0 0 0 3 1 1 1\n4 0 1 0 2 1 1 1\n4 0 0 0 1 1 1 1\n4 0 0 0 0 0 0 1\n4 21 0 0 0 0 0 0\n"
 unfolding computing
 played = refl
 

@@ -3,7 +3,7 @@ use Prim.Native.Nat.{ℕ, _+_}
 use mathlib.Core.Path.{_≡_, refl, ap}
 use mathlib.Core.List.{List, [], _∷_, _++_}
 use native.Mathlib.Omega.{arith}
-use Rattle.model.specs.Lists.{All}
+use Rattle.model.specs.Lists.{sumOf, All}
 use Rattle.model.specs.Histories.{Machine, after, answers, along}
 
 module _ {S C A : Type 0} (m : Machine S C A) where
@@ -16,6 +16,13 @@ module _ {S C A : Type 0} (m : Machine S C A) where
   unfolding after answers
   answers-append [] ds s = refl
   answers-append (c ∷ cs) ds s = ap (λ (l : List A). m .answer s c ∷ l) (answers-append cs ds (m .next s c))
+
+  -- a sum over the answers is one along the list
+  pub sum-answers : (weight : A → ℕ) (cs : List C) (s : S)
+      → sumOf weight (answers m s cs) ≡ along m (λ u c. weight (m .answer u c)) s cs
+  unfolding answers along
+  sum-answers weight [] s = refl
+  sum-answers weight (c ∷ cs) s = ap (λ (n : ℕ). weight (m .answer s c) + n) (sum-answers weight cs (m .next s c))
 
   -- where each call changes the measure by what it gains and loses, a list changes it by the sums along it
   module _ (measure : S → ℕ) (gains loses : S → C → ℕ) (Kept : S → Type 0) (Made : C → Type 0)

@@ -2,10 +2,10 @@
 use Prim.Native.Nat.{ℕ, zero, suc, _-_, _≤_}
 use mathlib.Core.Path.{_≡_}
 use mathlib.Core.List.{List}
-use Rattle.model.specs.Lists.{All}
+use Rattle.model.specs.Lists.{sumOf}
 use Rattle.model.specs.Session.{State, screensIn, fresh}
-use Rattle.model.specs.Calls.{Call, createdOf, closedOf, refusalOf}
-use Rattle.model.specs.Histories.{after, along, byRules, IsNoRestore}
+use Rattle.model.specs.Calls.{Call, createdOf, refusalOf}
+use Rattle.model.specs.Histories.{after, answers, along, byRules}
 
 -- a number of a call with the refusal k: 0 where it is refused
 abbrev pub countBy : ℕ → ℕ → ℕ
@@ -13,19 +13,16 @@ countBy zero n = n
 countBy (suc k) n = 0
 
 module _ (tb : List ℕ) where
-  -- the screens that a call creates and closes, refused or not
+  -- the screens that a call creates: none where it is refused
   abbrev pub created : State ℕ → Call → ℕ
   created s c = countBy (refusalOf tb s c) (createdOf tb s c)
 
-  abbrev pub closed : State ℕ → Call → ℕ
-  closed s c = countBy (refusalOf tb s c) (closedOf tb s c)
-
-  -- along a list of calls from a fresh session, and what stands after it
+  -- along a list of calls from a fresh session; the closed numbers of its answers; and what stands after it
   abbrev pub createdAlong : List Call → ℕ
   createdAlong cs = along (byRules tb) created fresh cs
 
   abbrev pub closedAlong : List Call → ℕ
-  closedAlong cs = along (byRules tb) closed fresh cs
+  closedAlong cs = sumOf (λ a. a .closed) (answers (byRules tb) fresh cs)
 
   abbrev pub standingAfter : List Call → ℕ
   standingAfter cs = screensIn (after (byRules tb) fresh cs .tasks)

@@ -17,7 +17,7 @@ use Rattle.model.specs.Search.{placeOf}
 use Rattle.model.specs.Rules.{choose}
 use Rattle.model.specs.Effects.{effectOf, changeFront, carryOut, close}
 use Rattle.model.specs.Counts.{createdBy, closedBy}
-use Rattle.model.specs.Answers.{Outcome, outcome, lookAt, settle}
+use Rattle.model.specs.Answers.{Outcome, outcome, lookAt, withClosed, settle}
 use Rattle.model.specs.Image.{image, imageChecks, sessionIn}
 
 -- "with any screen, flag word or image bytes"
@@ -207,9 +207,10 @@ done tb s (restore bytes) = sessionIn bytes
 unfoldable pub refusalOf : List ℕ → State ℕ → Call → ℕ
 refusalOf tb s c = refusal (checksIn tb (sound tb s) (ownChecks tb s c))
 
--- the answer to a call that is not refused: "front screen, front root, front height, n, m, after the call"
+-- the answer to a call that is not refused: "front screen, front root, front height, n, m, after the call", and "screens
+-- removed by this call"
 abbrev pub answerTo : List ℕ → State ℕ → Call → Answer
-answerTo tb s c = lookAt (done tb s c)
+answerTo tb s c = withClosed (closedOf tb s c) (lookAt (done tb s c))
 
 -- the session and the answer that a call gives, refused or not
 unfoldable pub call : List ℕ → State ℕ → Call → Outcome

@@ -114,7 +114,8 @@ unfoldable pub startsWithTable : List ℕ → Bool
 startsWithTable input =
     (leb 1 (sizeOf input) && leb (sizeOf input) mostScreens) && leb (2 + 2 * sizeOf input) (length input)
 
--- "With N bad or the table cut it prints 0 and the answer of refusal 1, `0 1 0 0 0 0 0`, and stops."
+-- "With N bad or the table cut it prints 0 and the answer of refusal 1, `0 1 0 0 0 0 0`, and stops." With the seventh number the
+-- line has one zero more.
 unfoldable pub playerText : List ℕ → List ℕ
 playerText input =
     if startsWithTable input then textOf (tableIn input) fresh (recordsIn (recordBytes input)) else lineOf 0 (refused 1)

@@ -1,8 +1,8 @@
 // Document 01 as definitions (specs/) and the theorems about them (proofs/). There is no function here: only the
 // plain structs and enums that definitions and code share.
 
-// An answer is six numbers: the refusal (0 if none), and, after the call, the front screen, the front root, the front
-// height, the number of tasks and the main place.
+// An answer is seven numbers: the refusal (0 if none); after the call, the front screen, the front root, the front height, the
+// number of tasks and the main place; and the screens that the call closed.
 #[repr(C)]
 pub struct Answer {
     pub refusal: u8,
@@ -11,10 +11,11 @@ pub struct Answer {
     pub height: u8,
     pub tasks: u8,
     pub main: u8,
+    pub closed: u8,
 }
 
 impl Answer {
-    pub const NUMBERS: usize = 6;
+    pub const NUMBERS: usize = 7;
 }
 
 // The six flags of a flag word: new task, single top, multiple task, clear top, reorder to front, clear task.

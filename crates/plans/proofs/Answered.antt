@@ -1,6 +1,6 @@
--- The answer that is made from a plan is a look at what the plan puts, or its refusal.
+-- The answer that is made from a plan is a look at what the plan puts, with the screens that close, or its refusal.
 use Prim.Native.Nat.{ℕ, zero, suc, _≤_}
-use mathlib.Core.Path.{_≡_, refl, sym, _∙_}
+use mathlib.Core.Path.{_≡_, refl, sym, _∙_, ap}
 use mathlib.Core.Bool.{Bool, true, false}
 use mathlib.Core.List.{List, [], _∷_, _++_}
 use native.Mathlib.Omega.{arith}
@@ -8,12 +8,12 @@ use lib.Dec.{ltb}
 use lib.ListN.{length, getD}
 use Rattle.model.specs.Lists.{omit}
 use Rattle.model.specs.Session.{mostTasks}
-use Rattle.model.specs.Answers.{lookAt}
+use Rattle.model.specs.Answers.{lookAt, withClosed}
 use Rattle.session.specs.declared.Session.{Session}
 use Rattle.session.specs.declared.Task.{Task}
 use Rattle.session.specs.Stored.{view, noTask, blankTask, taskBehind}
 use Rattle.session.proofs.Known.{Sized}
-use Rattle.answer.specs.Seen.{Seen}
+use Rattle.answer.specs.Seen.{Seen, answerOf}
 use Rattle.answer.proofs.LookLaws.{look-fronted}
 use Rattle.effects.specs.Rows.{shifted}
 use Rattle.plans.specs.declared.Plan.{Plan}
@@ -66,8 +66,14 @@ module _ (s : Session) (z : Sized s) (p : Plan) (accepted : p .refusal ≡ 0) (u
   pub showable : Showable p (taskBehind s 1)
   showable e some = rw (← shown) (seen .filled some, seen .low some)
 
-  pub answers-look : answerFor p (taskBehind s 1) ≡ lookAt (view (putOf s p))
-  answers-look = rw (accepted, ← shown) (sym (look-fronted (putOf s p) sizes seen))
+  pub answers-look : answerFor p (taskBehind s 1) ≡ withClosed (p .closed) (lookAt (view (putOf s p)))
+  answers-look =
+      rw (accepted, ← shown)
+      (closed-by (rowOf p (s .tasks)) (p .n) (p .main) (p .closed) ∙ ap (withClosed (p .closed)) (sym (look-fronted (putOf s p) sizes seen)))
+    where
+      closed-by : (ts : List Task) (n m x : ℕ) → answerOf (getD ts 0 noTask) n m x ≡ withClosed x (answerOf (getD ts 0 noTask) n m 0)
+      closed-by ts zero m x = refl
+      closed-by ts (suc n) m x = refl
 
 pub refused-showable : (p : Plan) (t : Task) → (p .refusal ≡ 0 → ⊥) → Showable p t
 refused-showable p t bad e = absurd (bad e)

@@ -22,7 +22,7 @@ use Rattle.closing.specs.Closable.{Closable}
 use Rattle.closing.proofs.Closed.{screen-there, screen-closed, top-closed, back-closable}
 use Rattle.plans.specs.declared.Plan.{Plan}
 use Rattle.plans.specs.Puts.{putOf, Puttable}
-use Rattle.plans.specs.Plans.{stillOf, closes, NearFront, Opens}
+use Rattle.plans.specs.Plans.{stillOf, closes, planWithClosed, NearFront, Opens}
 use Rattle.plans.proofs.Gone.{task-goes}
 
 -- ---- a marked screen
@@ -61,6 +61,10 @@ module _ (c : Session) (t : Task) (k n m : ℕ) where
         let more = leb-false (taskBehind putIn 1 .height) 1 (f j i refl) in
         let stand : 1 < n = omega (arith, near .0, there .0, counted putIn z blank) in
         record { few = l; second = λ e. (omega arith, stored-height putIn z blank 1 stand) }
+
+-- however many screens close
+pub closed-puttable : (c : Session) (x : ℕ) {p : Plan} → Puttable c p → Puttable c (planWithClosed x p)
+closed-puttable c x h = record { few = h .few; second = h .second }
 
 -- ---- a refused call
 

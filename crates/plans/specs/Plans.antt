@@ -1,5 +1,5 @@
 -- Plans: of a refused call, and of what comes in front and then loses the marked screen, which Back does too.
-use Prim.Native.Nat.{ℕ, zero, suc, _-_, _<_}
+use Prim.Native.Nat.{ℕ, zero, suc, _+_, _-_, _<_}
 use mathlib.Core.Path.{_≡_}
 use mathlib.Core.Bool.{Bool, true, false, not, _&&_}
 use lib.Dec.{eqb, ltb}
@@ -7,6 +7,7 @@ use Rattle.model.specs.declared.Mark.{Mark}
 use Rattle.model.specs.Lists.{if_then_else_, omit}
 use Rattle.model.specs.Session.{stack, mostTasks}
 use Rattle.model.specs.Effects.{mainWithout}
+use Rattle.model.specs.Marks.{closedAt}
 use Rattle.session.specs.declared.Task.{Task}
 use Rattle.session.specs.declared.Session.{Session}
 use Rattle.session.specs.Stored.{viewTask, holdTask, blankAbove, taskBehind}
@@ -15,18 +16,19 @@ use Rattle.plans.specs.declared.Plan.{Plan}
 -- ---- a refused call: nothing changes
 
 abbrev pub stillOf : Session → ℕ → Plan
-stillOf s k = record { front = taskBehind s 0; main = s .main; shift = 0; n = s .n; gone = mostTasks; pops = false; refusal = k }
+stillOf s k =
+    record { front = taskBehind s 0; main = s .main; shift = 0; n = s .n; gone = mostTasks; pops = false; refusal = k; closed = 0 }
 
--- ---- the three plans: no task goes, the second one pops, the task behind g others goes
+-- ---- the three plans, but for the screens that close: no task goes, the second one pops, the task behind g others goes
 
 abbrev pub keeps : Task → ℕ → ℕ → ℕ → Plan
-keeps t k n m = record { front = t; main = m; shift = k; n = n; gone = mostTasks; pops = false; refusal = 0 }
+keeps t k n m = record { front = t; main = m; shift = k; n = n; gone = mostTasks; pops = false; refusal = 0; closed = 0 }
 
 abbrev pub pops : Task → ℕ → ℕ → ℕ → Plan
-pops t k n m = record { front = t; main = m; shift = k; n = n; gone = mostTasks; pops = true; refusal = 0 }
+pops t k n m = record { front = t; main = m; shift = k; n = n; gone = mostTasks; pops = true; refusal = 0; closed = 0 }
 
 abbrev pub loses : ℕ → Task → ℕ → ℕ → ℕ → Plan
-loses g t k n m = record { front = t; main = mainWithout (suc g) m; shift = k; n = n - 1; gone = g; pops = false; refusal = 0 }
+loses g t k n m = record { front = t; main = mainWithout (suc g) m; shift = k; n = n - 1; gone = g; pops = false; refusal = 0; closed = 0 }
 
 -- ---- closing the marked screen
 
@@ -43,7 +45,25 @@ closes (Mark.Stands zero i) false one′ t k n m = keeps (without i t) k n m
 closes (Mark.Stands (suc j) i) one true t k n m = loses 1 t k n m
 closes (Mark.Stands (suc j) i) one false t k n m = pops t k n m
 
--- the same, field by field as code makes it; g is the field gone
+-- a plan by which so many screens close
+abbrev pub planWithClosed : ℕ → Plan → Plan
+planWithClosed x p =
+    record {
+      front = p .front;
+      main = p .main;
+      shift = p .shift;
+      n = p .n;
+      gone = p .gone;
+      pops = p .pops;
+      refusal = p .refusal;
+      closed = x;
+    }
+
+-- the same, where x screens closed before the marked one does
+abbrev pub closesWith : Mark → Bool → Bool → Task → ℕ → ℕ → ℕ → ℕ → Plan
+closesWith mark one one′ t k n m x = planWithClosed (x + closedAt mark) (closes mark one one′ t k n m)
+
+-- a plan field by field as code makes it; g is the field gone
 abbrev pub goneBy : Mark → Bool → Bool → ℕ
 goneBy Mark.Gone one one′ = mostTasks
 goneBy (Mark.Stands k i) one one′ = if eqb k 0 then (if one then 0 else mostTasks) else (if one′ then 1 else mostTasks)

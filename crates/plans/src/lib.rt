@@ -1,11 +1,13 @@
 // A call first makes its plan from the session; then one function puts it. The answer is made from the plan.
 
-ghost use Prim.Native.Nat.{_≤_};
+ghost use Prim.Native.Nat.{_+_, _≤_};
 ghost use mathlib.Core.Path.{_≡_};
 ghost use lib.Dec.{leb};
+ghost use Rattle.model.specs.Session.{mostHeight};
+ghost use Rattle.model.specs.Marks.{closedAt};
 ghost use Rattle.session.specs.Stored.{withTasks};
 ghost use Rattle.plans.specs.Puts.{Puttable, rowOf, frontAlone};
-ghost use Rattle.plans.specs.Plans.{stillOf, closes, goneBy, frontBy, popsBy, countBy, mainBy, Opens};
+ghost use Rattle.plans.specs.Plans.{stillOf, closesWith, goneBy, frontBy, popsBy, countBy, mainBy, Opens};
 ghost use Rattle.plans.specs.Shown.{answerFor, Showable};
 use model::Answer;
 use model::Mark;
@@ -13,7 +15,7 @@ use session::Session;
 use session::Task;
 
 // The front task after the call, how many tasks go one place back, which task goes then, if one does, whether the
-// task behind the front one loses its top screen, and the numbers. A refused call changes nothing.
+// task behind the front one loses its top screen, the numbers, and how many screens close. A refused call changes nothing.
 pub struct Plan {
     pub front: Task,
     pub main: u8,
@@ -22,6 +24,7 @@ pub struct Plan {
     pub gone: u8,
     pub pops: bool,
     pub refusal: u8,
+    pub closed: u8,
 }
 
 // What stands for no task among the indices of tasks, and the last of these.
@@ -84,10 +87,10 @@ pub fn answer_of(plan: Plan, second: Task) -> Answer
         return answer::refused(plan.refusal);
     }
     if plan.gone == 0 {
-        return answer::of_front(second, plan.n, plan.main);
+        return answer::of_front(second, plan.n, plan.main, plan.closed);
     }
     let front = plan.front;
-    answer::of_front(front, plan.n, plan.main)
+    answer::of_front(front, plan.n, plan.main, plan.closed)
 }
 
 // ---- plans
@@ -105,6 +108,7 @@ pub fn still(s: Session, number: u8) -> Plan
         gone: NO_TASK,
         pops: false,
         refusal: number,
+        closed: 0,
     }
 }
 
@@ -174,10 +178,22 @@ fn main_by(gone: u8, main: u8) -> u8
     main
 }
 
-// t comes in front and so many tasks go back, and then the marked screen closes; second is the height of the task behind t.
-pub fn closing_plan(mark: Mark, t: Task, second: u8, shift: u8, n: u8, main: u8) -> Plan
-    requires { ⌜ Opens mark t × (1 ≤ n) ⌝ }
-    ensures { λ r. ⌜ r ≡ closes mark (leb (t .height) 1) (leb second 1) t shift n main ⌝ }
+// So many screens, and the marked one where it stands.
+fn closed_with(mark: Mark, closed: u8) -> u8
+    requires { ⌜ closed ≤ mostHeight ⌝ }
+    ensures { λ r. ⌜ r ≡ closed + closedAt mark ⌝ }
+{
+    match mark {
+        Mark::Gone => closed,
+        Mark::Stands(_, _) => closed + 1,
+    }
+}
+
+// t comes in front and so many tasks go back, by which so many screens closed, and then the marked screen closes; second is the
+// height of the task behind t.
+pub fn closing_plan(mark: Mark, t: Task, second: u8, shift: u8, n: u8, main: u8, closed: u8) -> Plan
+    requires { ⌜ Opens mark t × (1 ≤ n) × (closed ≤ mostHeight) ⌝ }
+    ensures { λ r. ⌜ r ≡ closesWith mark (leb (t .height) 1) (leb second 1) t shift n main closed ⌝ }
 {
     let gone = gone_by(mark, t.height, second);
     Plan {
@@ -188,5 +204,6 @@ pub fn closing_plan(mark: Mark, t: Task, second: u8, shift: u8, n: u8, main: u8)
         gone: gone,
         pops: pops_by(mark, gone),
         refusal: 0,
+        closed: closed_with(mark, closed),
     }
 }

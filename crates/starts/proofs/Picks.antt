@@ -1,18 +1,18 @@
 -- A start made on the stored session where it stands, by what was read of it: the rule and the task found, the task at
 -- its index, the effect and the place.
-use Prim.Native.Nat.{ℕ}
+use Prim.Native.Nat.{ℕ, _+_, _≤_}
 use mathlib.Core.Path.{_≡_, refl, sym, _∙_, ap}
 use mathlib.Core.List.{List}
 use lib.Dec.{eqb}
 use Rattle.model.specs.declared.Effect.{Effect}
 use Rattle.model.specs.declared.Flags.{Flags}
 use Rattle.model.specs.declared.Found.{Found}
-use Rattle.model.specs.Session.{top}
+use Rattle.model.specs.Session.{top, mostHeight}
 use Rattle.model.specs.Search.{placeOf}
 use Rattle.model.specs.Rules.{choose}
 use Rattle.model.specs.Effects.{effectOf}
-use Rattle.model.specs.Calls.{startedBy, finishedBy}
-use Rattle.model.specs.Marks.{markAfter, closeAt}
+use Rattle.model.specs.Calls.{startedBy, finishedBy, closedByChoice, closedByFinish}
+use Rattle.model.specs.Marks.{markAfter, closeAt, closedAt}
 use Rattle.session.specs.declared.Session.{Session}
 use Rattle.session.specs.declared.Task.{Task}
 use Rattle.session.specs.Stored.{view, viewTask, hold, withTasks, withCount, withMain, taskBehind}
@@ -22,12 +22,17 @@ use Rattle.rules.specs.Shows.{indexOf}
 use Rattle.rules.proofs.Tasks.{front-screen}
 use Rattle.rules.proofs.Rooms.{FrontUnsought, unsought}
 use Rattle.effects.specs.Carriable.{Changeable, Carriable}
-use Rattle.effects.specs.Fronted.{shiftOf, frontAfter, countAfter, mainAfter}
+use Rattle.effects.specs.Fronted.{shiftOf, placeFor, frontAfter, closedFor, countAfter, mainAfter}
 use Rattle.effects.specs.Rows.{shifted}
 use Rattle.effects.proofs.Fronts.{changeable, carried}
+use Rattle.effects.proofs.Counts.{closed-effect, closed-few}
 use Rattle.closing.specs.Closable.{Markable}
 use Rattle.starts.specs.Checks.{roomRefusal}
-use Rattle.starts.proofs.StartLaws.{start-carriable, start-sized, start-markable, finish-closes}
+use Rattle.starts.proofs.StartLaws.{start-carriable, start-sized, start-markable, finish-closes, finish-closed}
+
+-- the screens that an effect closes in the task t
+abbrev pub closedIn : ℕ → Effect → Task → ℕ
+closedIn b d t = closedFor d (t .height) (placeFor b d t)
 
 -- ---- the task at the index of the task found is the one that the effect changes
 
@@ -42,6 +47,12 @@ module _ (c : Session) (t : Found) where
   front-read b Effect.New u = refl
   front-read b (Effect.InFront x) u = rw u
   front-read b (Effect.MoveAnd x) u = refl
+
+  closed-read : (b : ℕ) (d : Effect) → FrontUnsought t d
+      → closedIn b d (taskBehind c (indexOf t)) ≡ closedIn b d (taskBehind c (shiftOf d (placeOf t) (c .n)))
+  closed-read b Effect.New u = refl
+  closed-read b (Effect.InFront x) u = rw u
+  closed-read b (Effect.MoveAnd x) u = refl
 
 -- ---- what is read for a start
 
@@ -90,3 +101,27 @@ module _ {tb : List ℕ} {c : Session} {b : ℕ} {f : Flags} (z : Sized c) (h : 
     pub picked-finished : {v : Session} → v ≡ hold (closeAt (markAfter d p (eqb b a)) (view u)) → v ≡ hold (finishedBy (choose tb (view c) b f) b (view c))
     picked-finished q =
         rw (q, e, i .effect, i .place, g, ← front-screen c (h .some)) (sym (finish-closes tb c b f z h room))
+
+  -- ---- the screens that close
+
+  closed-moved : closedIn b d (taskBehind c k) ≡ closedIn b (effectOf (choose tb (view c) b f .rule)) (taskBehind c (shiftOf (effectOf (choose tb (view c) b f .rule)) (placeOf (choose tb (view c) b f .found)) (c .n)))
+  closed-moved =
+      rw (i .index, i .effect)
+      (closed-read c (choose tb (view c) b f .found) b (effectOf (choose tb (view c) b f .rule)) (unsought tb (view c) b f))
+
+  pub picked-closed : closedIn b d (taskBehind c k) ≡ closedByChoice (choose tb (view c) b f) b (view c)
+  picked-closed =
+      let t = choose tb (view c) b f .found in
+      let r = effectOf (choose tb (view c) b f .rule) in
+      closed-moved ∙ closed-effect c z (placeOf t) b r (start-carriable tb c b f z h room)
+
+  pub picked-few : closedIn b d (taskBehind c k) ≤ mostHeight
+  picked-few =
+      let t = choose tb (view c) b f .found in
+      let r = effectOf (choose tb (view c) b f .rule) in
+      rw closed-moved (closed-few c z (placeOf t) b r (start-carriable tb c b f z h room))
+
+  -- by a finishing start
+  pub picked-finish-closed : {a : ℕ} → a ≡ top (viewTask (taskBehind c 0)) → {x : ℕ} → x ≡ closedByChoice (choose tb (view c) b f) b (view c)
+      → x + closedAt (markAfter d p (eqb b a)) ≡ closedByFinish (choose tb (view c) b f) b (view c)
+  picked-finish-closed g e = rw (e, i .effect, i .place, g, ← front-screen c (h .some)) (sym (finish-closed tb c b f z h room))

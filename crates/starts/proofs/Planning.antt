@@ -1,6 +1,6 @@
 -- What a start's plan puts is what the start makes, and it can be put. First the session before the marked screen closes, then
 -- where that screen stands: in front, or on top of the second task, to which the front task went.
-use Prim.Native.Nat.{ℕ, zero, suc, pred, _≤_}
+use Prim.Native.Nat.{ℕ, zero, suc, pred, _+_, _≤_}
 use mathlib.Core.Path.{_≡_, refl, sym, _∙_, ap}
 use mathlib.Core.Bool.{Bool, true, false}
 use mathlib.Core.List.{List, [], _∷_}
@@ -13,31 +13,31 @@ use Rattle.model.specs.declared.Effect.{Effect}
 use Rattle.model.specs.declared.Flags.{Flags}
 use Rattle.model.specs.declared.Mark.{Mark}
 use Rattle.model.specs.Lists.{if_then_else_}
-use Rattle.model.specs.Session.{top}
+use Rattle.model.specs.Session.{top, mostHeight}
 use Rattle.model.specs.Rules.{choose}
-use Rattle.model.specs.Calls.{startedBy}
-use Rattle.model.specs.Marks.{markIn, closeAt, Stands}
+use Rattle.model.specs.Calls.{startedBy, closedByChoice}
+use Rattle.model.specs.Marks.{markIn, closeAt, closedAt, Stands}
 use Rattle.session.specs.declared.Session.{Session}
 use Rattle.session.specs.declared.Task.{Task}
 use Rattle.session.specs.Stored.{view, viewTask, hold, noTask, storageBlank, taskBehind}
 use Rattle.session.proofs.Known.{Sized}
 use Rattle.rules.specs.Shows.{indexOf}
 use Rattle.rules.specs.Startable.{Startable}
-use Rattle.effects.specs.Fronted.{shiftOf, frontAfter, countAfter, mainAfter}
+use Rattle.effects.specs.Fronted.{shiftOf, placeFor, frontAfter, closedFor, countAfter, mainAfter}
 use Rattle.effects.specs.Rows.{shifted}
 use Rattle.effects.proofs.Fronts.{shift-low}
 use Rattle.closing.specs.Closable.{Markable}
 use Rattle.closing.proofs.Closed.{screen-there}
 use Rattle.closing.proofs.Marked.{closable, closed-gone}
 use Rattle.starts.specs.Checks.{roomRefusal}
-use Rattle.starts.proofs.Picks.{Picked, picked-carriable, picked-put, picked-sized, picked-markable, picked-finished}
+use Rattle.starts.proofs.Picks.{Picked, picked-carriable, picked-put, picked-sized, picked-markable, picked-finished, picked-closed, picked-few, picked-finish-closed}
 use Rattle.plans.specs.declared.Plan.{Plan}
 use Rattle.plans.specs.Puts.{putOf, Puttable}
-use Rattle.plans.specs.Plans.{closes, NearFront, Opens}
+use Rattle.plans.specs.Plans.{closes, closesWith, NearFront, Opens}
 use Rattle.plans.specs.Shown.{Uncovers}
-use Rattle.plans.proofs.Closes.{putIn, plan-closes, plan-puttable}
+use Rattle.plans.proofs.Closes.{putIn, plan-closes, plan-puttable, closed-puttable}
 use Rattle.starts.specs.declared.Chosen.{Chosen}
-use Rattle.starts.specs.Steps.{markIf, made, Plannable, planShift, planMark, planNext, startPlan}
+use Rattle.starts.specs.Steps.{markIf, made, Plannable, planShift, planMark, planNext, planClosed, startPlan, madeClosed}
 
 -- ---- where a marked screen may stand
 
@@ -183,11 +183,27 @@ module _ {tb : List ℕ} {c : Session} {b : ℕ} {f : Flags} (z : Sized c) (h : 
 
   pub start-puttable : Puttable c plan
   start-puttable =
-      plan-puttable c next shift _ _ put-sized put-blank (shift-low c z (x .place) (x .effect) (picked-carriable z h room picks))
-      mark (stands .0) put-marked _ _ same
+      closed-puttable c (planClosed fin b c t x + closedAt mark)
+      (plan-puttable c next shift _ _ put-sized put-blank (shift-low c z (x .place) (x .effect) (picked-carriable z h room picks))
+      mark (stands .0) put-marked _ _ same)
 
   pub start-uncovers : Uncovers plan
   start-uncovers = uncovers mark _ _ next shift _ _ stands
+
+  -- the screens that the effect closes
+  effect-closes : planClosed fin b c t x ≡ closedByChoice (choose tb (view c) b f) b (view c)
+  effect-closes = rw (ok .task) (picked-closed z h room picks)
+
+  pub start-few : planClosed fin b c t x ≤ mostHeight
+  start-few = rw (ok .task) (picked-few z h room picks)
+
+  -- and with the marked one
+  pub start-closes : plan .closed ≡ madeClosed fin tb c b f
+  start-closes = go fin
+    where
+      go : (fin : Bool) → planClosed fin b c t x + closedAt (markIf fin (x .effect) (x .place) isB) ≡ madeClosed fin tb c b f
+      go true = picked-finish-closed z h room picks refl effect-closes
+      go false = let e = effect-closes in omega (arith, e)
 
   pub start-accepts : plan .refusal ≡ 0
   start-accepts = plan-accepts fin b c t x
@@ -205,10 +221,15 @@ count-some (Effect.MoveAnd c) n some = some
 module _ {tb : List ℕ} {c : Session} {b : ℕ} {f : Flags} (z : Sized c) (h : Startable tb c b) {t : Task} {x : Chosen}
     (ok : Plannable tb c b f t x) (fin : Bool) {a : ℕ} (top-is : a ≡ top (viewTask (taskBehind c 0)))
     {mark : Mark} (mark-is : mark ≡ markIf fin (x .effect) (x .place) (eqb b a)) {next : Task} (next-is : next ≡ frontAfter b (x .effect) t)
-    {n : ℕ} (count-is : n ≡ countAfter (x .effect) (c .n)) where
-  pub closing-requires : Opens mark next × (1 ≤ n)
-  closing-requires = (rw (mark-is, top-is, next-is) (start-opens z h ok fin), rw count-is (count-some (x .effect) (c .n) (h .some)))
+    {n : ℕ} (count-is : n ≡ countAfter (x .effect) (c .n)) {place : ℕ} (place-is : place ≡ placeFor b (x .effect) t)
+    {closed : ℕ} (closed-is : closed ≡ closedFor (x .effect) (t .height) place) where
+  pub closing-requires : Opens mark next × (1 ≤ n) × (closed ≤ mostHeight)
+  closing-requires = (
+    rw (mark-is, top-is, next-is) (start-opens z h ok fin),
+    rw count-is (count-some (x .effect) (c .n) (h .some)),
+    rw (closed-is, place-is) (start-few z h ok fin),
+  )
 
   pub plan-is : {k : ℕ} → k ≡ shiftOf (x .effect) (x .place) (c .n) → {m : ℕ} → m ≡ mainAfter (x .effect) (x .place) (c .main)
-      → closes mark (leb (next .height) 1) (leb (taskBehind c 0 .height) 1) next k n m ≡ startPlan fin b c t x
-  plan-is shift-is main-is = rw (mark-is, top-is, next-is, count-is, shift-is, main-is)
+      → closesWith mark (leb (next .height) 1) (leb (taskBehind c 0 .height) 1) next k n m closed ≡ startPlan fin b c t x
+  plan-is shift-is main-is = rw (mark-is, top-is, next-is, count-is, shift-is, main-is, closed-is, place-is)

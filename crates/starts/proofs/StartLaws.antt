@@ -1,7 +1,7 @@
 -- What a start on a sound session gives the functions that it calls: the choice's task is there, the effect finds room where
 -- no 23 or 24 is given, and a screen stands at the mark afterwards.
-use Prim.Native.Nat.{ℕ, _≤_}
-use mathlib.Core.Path.{_≡_}
+use Prim.Native.Nat.{ℕ, _+_, _≤_}
+use mathlib.Core.Path.{_≡_, ap}
 use mathlib.Core.Bool.{false, _&&_}
 use mathlib.Core.List.{List}
 use lib.Dec.{eqb}
@@ -11,13 +11,13 @@ use Rattle.model.specs.Session.{frontScreen, count, mostTasks}
 use Rattle.model.specs.Search.{placeOf}
 use Rattle.model.specs.Rules.{choose}
 use Rattle.model.specs.Effects.{effectOf}
-use Rattle.model.specs.Calls.{startedBy, finishedBy, makesTask, overfills}
-use Rattle.model.specs.Marks.{closeAt}
+use Rattle.model.specs.Calls.{startedBy, finishedBy, makesTask, overfills, closedByChoice, closedByFinish}
+use Rattle.model.specs.Marks.{closeAt, closedAt}
 use Rattle.model.proofs.RefusalLaws.{refusal-skip}
 use Rattle.model.proofs.Sound.{Sound}
 use Rattle.model.proofs.Effects.{Ready as EffectReady, carry-sound}
 use Rattle.model.proofs.Start.{choose-ready}
-use Rattle.model.proofs.Finish.{markOf, finished-by, marked-stands}
+use Rattle.model.proofs.Finish.{markOf, finished-by, finished-closes, marked-stands}
 use Rattle.session.specs.declared.Session.{Session}
 use Rattle.session.specs.Stored.{view, hold}
 use Rattle.session.proofs.Known.{Sized}
@@ -75,3 +75,7 @@ module _ (tb : List ℕ) (c : Session) (b : ℕ) (f : Flags) (z : Sized c) (h : 
     pub finish-closes : hold (finishedBy chosen b (view c))
         ≡ hold (closeAt (markOf chosen b (view c)) (view (hold (startedBy chosen b (view c)))))
     finish-closes = rw (view-hold (startedBy chosen b (view c)), finished-by tb b f (view c) sound-v some)
+
+    -- and the screens that it closes are those of the start, and that one if it stands
+    pub finish-closed : closedByFinish chosen b (view c) ≡ closedByChoice chosen b (view c) + closedAt (markOf chosen b (view c))
+    finish-closed = ap (λ (n : ℕ). closedByChoice chosen b (view c) + n) (finished-closes tb b f (view c) sound-v some)

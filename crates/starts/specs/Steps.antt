@@ -16,17 +16,17 @@ use Rattle.model.specs.Flags.{flagsOf}
 use Rattle.model.specs.Search.{placeOf}
 use Rattle.model.specs.Rules.{groupOf, soughtBy, choose}
 use Rattle.model.specs.Effects.{effectOf}
-use Rattle.model.specs.Calls.{startedBy, finishedBy}
+use Rattle.model.specs.Calls.{startedBy, finishedBy, closedByChoice, closedByFinish}
 use Rattle.model.specs.Marks.{markAfter}
 use Rattle.session.specs.declared.Session.{Session}
 use Rattle.session.specs.declared.Task.{Task}
 use Rattle.session.specs.Stored.{view, viewTask, taskBehind}
 use Rattle.rules.specs.Shows.{indexOf}
 use Rattle.rules.specs.Startable.{Startable}
-use Rattle.effects.specs.Fronted.{shiftOf, frontAfter, countAfter, mainAfter}
+use Rattle.effects.specs.Fronted.{shiftOf, placeFor, frontAfter, closedFor, countAfter, mainAfter}
 use Rattle.starts.specs.Checks.{startEntry, roomRefusal}
 use Rattle.plans.specs.declared.Plan.{Plan}
-use Rattle.plans.specs.Plans.{stillOf, closes}
+use Rattle.plans.specs.Plans.{stillOf, closesWith}
 use Rattle.starts.specs.declared.Sought.{Sought}
 use Rattle.starts.specs.declared.Chosen.{Chosen}
 
@@ -86,10 +86,14 @@ module _ (finishing : Bool) (b : ℕ) (c : Session) (t : Task) (x : Chosen) wher
   abbrev pub planNext : Task
   planNext = frontAfter b (x .effect) t
 
+  -- the screens that the effect closes, without the marked one
+  abbrev pub planClosed : ℕ
+  planClosed = closedFor (x .effect) (t .height) (placeFor b (x .effect) t)
+
   abbrev pub startPlan : Plan
   startPlan =
-      closes planMark (leb (planNext .height) 1) (leb (taskBehind c 0 .height) 1) planNext planShift
-      (countAfter (x .effect) (c .n)) (mainAfter (x .effect) (x .place) (c .main))
+      closesWith planMark (leb (planNext .height) 1) (leb (taskBehind c 0 .height) 1) planNext planShift
+      (countAfter (x .effect) (c .n)) (mainAfter (x .effect) (x .place) (c .main)) planClosed
 
 -- what the definition chooses, and the plan of it
 abbrev pub chosenStored : List ℕ → Session → ℕ → Flags → Chosen
@@ -123,7 +127,11 @@ ruleStored (suc k) tb c b w = Rule.R18
 abbrev pub Planned : List ℕ → Session → ℕ → ℕ → Task → Sought → Type 0
 Planned tb c b w t x = x .number ≡ 0 → Startable tb c b × (Seeks tb c b (flagsOf w) x × (t ≡ taskBehind c (x .index)))
 
--- the session that a finishing start, or a start, makes where there is room
+-- the session that a finishing start, or a start, makes where there is room, and the screens that it closes
 abbrev pub made : Bool → List ℕ → Session → ℕ → Flags → State ℕ
 made true tb c b f = finishedBy (choose tb (view c) b f) b (view c)
 made false tb c b f = startedBy (choose tb (view c) b f) b (view c)
+
+abbrev pub madeClosed : Bool → List ℕ → Session → ℕ → Flags → ℕ
+madeClosed true tb c b f = closedByFinish (choose tb (view c) b f) b (view c)
+madeClosed false tb c b f = closedByChoice (choose tb (view c) b f) b (view c)

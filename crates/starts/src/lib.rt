@@ -147,8 +147,10 @@ fn start_plan(
     let n = effects::count_after(effect, s.n);
     let main = effects::main_after(effect, chosen.place, s.main);
     let mark = mark_if(finishing, effect, chosen.place, b == front.top());
-    let next = effects::front_after(t, b, effect);
-    plans::closing_plan(mark, next, front.height, shift, n, main)
+    let topmost = effects::place_for(t, b, effect);
+    let next = effects::front_after(t, b, effect, topmost);
+    let closed = effects::closed_by(effect, t.height, topmost);
+    plans::closing_plan(mark, next, front.height, shift, n, main, closed)
 }
 
 // What is decided of a start: its plan, and the rule that it uses (R18 where the start was refused before one was chosen).

@@ -1,5 +1,6 @@
 -- `calls::back_plan` meets its contract: refused, or the top screen of the front task closes.
 use mathlib.Core.Path.{_≡_, sym, _∙_}
+use native.Mathlib.Omega.{arith}
 use borrow.Author.Needs.{needs}
 use Rattle.starts.proofs.Seeking.{or-none, unless-found, unless-passed}
 use Rattle.calls.specs.CallPlans.{backRefusal}
@@ -19,7 +20,7 @@ closing-plan-requires c κs =
     let start = c .before .before .before in
     let (shared, own) = passed (c .before) in
     let some = back-some (start .args .t1 .n) own in
-    (start .pre shared some, some)
+    (start .pre shared some, some, omega arith)
 
 returns-2 : tie.Need-returns-2
 returns-2 c =

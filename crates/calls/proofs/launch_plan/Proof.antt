@@ -28,7 +28,7 @@ gone-stands i e = absurd (let f : 0 ≡ 1 = ap stands e in omega (arith, f))
     stands (Mark.Stands k j) = 1
 
 closing-plan-requires : tie.Need-closing-plan-requires
-closing-plan-requires c κs = (λ i e. gone-stands i e, omega arith)
+closing-plan-requires c κs = (λ i e. gone-stands i e, omega arith, omega arith)
 
 returns-2 : tie.Need-returns-2
 returns-2 c =

@@ -4,7 +4,7 @@ use borrow.Author.Needs.{needs}
 use Rattle.model.specs.declared.Change.{Change}
 use Rattle.session.specs.Stored.{withRoot}
 use Rattle.effects.specs.Carriable.{Alterable}
-use Rattle.effects.specs.Fronted.{changedTask, rootAfter}
+use Rattle.effects.specs.Fronted.{placeIn, changedTask, rootAfter}
 use Rattle.effects.proofs.Bases.{alterable, front-is}
 use Rattle.effects.proofs.front_after.Statement.{statement}
 use Rattle.effects.proofs.front_after.Tie as tie
@@ -13,7 +13,10 @@ changed-requires : tie.Need-changed-requires
 changed-requires c κs =
     let start = c .before in
     let t = start .args .t in
-    subst (λ (x : Change). Alterable x t) (sym (c .change-of .ensures)) (alterable t (start .args .effect) (start .pre))
+    let e = sym (c .change-of .ensures) in (
+      subst (λ (x : Change). Alterable x t) e (alterable t (start .args .effect) (start .pre .0)),
+      start .pre .1 ∙ ap (λ (x : Change). placeIn (start .args .b) x t) e,
+    )
 
 returns : tie.Need-returns
 returns c =

@@ -6,7 +6,7 @@ use native.Mathlib.Omega.{arith}
 use borrow.Author.Needs.{needs}
 use borrow.Author.Tests.{not-true, not-false}
 use lib.ListN.{length}
-use Rattle.model.specs.Player.{decimal, lineOf}
+use Rattle.model.specs.Player.{decimal, lineOf, longestLine}
 use Rattle.model.specs.Written.{written}
 use Rattle.model.proofs.WrittenLaws.{Wrote, wrote, wrote-append}
 use Rattle.endings.specs.Verdict.{alikeText, apartText, backsText, lastKind, apartLines}
@@ -43,9 +43,9 @@ returns-2 c =
     let w3 : Wrote (p2 .write-number .last .0) (p2 .write-number .result) backsText (p3 .write-text3 .last .0) (p3 .write-text3 .result) =
     record { place = p3 .write-text3 .ensures .0; text = p3 .write-text3 .ensures .1 } in
     let w4 : Wrote (p3 .write-text3 .last .0) (p3 .write-text3 .result) (lineOf (lastKind (d .backs)) (d .first)) (p4 .write-line .last .0) (p4 .write-line .result) =
-    wrote 28 (rw kind at (p4 .write-line .ensures)) in
+    wrote longestLine (rw kind at (p4 .write-line .ensures)) in
     let w5 : Wrote (p4 .write-line .last .0) (p4 .write-line .result) (lineOf (lastKind (d .backs)) (d .second)) (p5 .write-line2 .last .0) (p5 .write-line2 .result) =
-    wrote 28 (rw kind at (p5 .write-line2 .ensures)) in
+    wrote longestLine (rw kind at (p5 .write-line2 .ensures)) in
     let all : Wrote out 0 (apartLines d) (p5 .write-line2 .last .0) (p5 .write-line2 .result) =
     wrote-append (wrote-append (wrote-append (wrote-append w1 (omega arith) w2) (omega arith) w3) (omega arith) w4) (omega arith) w5 in
     (rw e (all .place ∙ zero-add (length (apartLines d))), (rw e (all .text), omega arith))

@@ -9,7 +9,7 @@ use Rattle.session.proofs.Known.{Sized, sized}
 use Rattle.session.proofs.StoredLaws.{blank-few, sound-blank}
 use Rattle.rules.specs.Shows.{indexOf}
 use Rattle.rules.proofs.Tasks.{task-filled}
-use Rattle.effects.specs.Carriable.{Carriable}
+use Rattle.effects.specs.Carriable.{Changeable, Carriable}
 use Rattle.effects.proofs.Fronts.{placed, main-low}
 use Rattle.starts.specs.Checks.{roomRefusal}
 use Rattle.starts.proofs.Picks.{Picked, picked-carriable, picked-changeable}
@@ -53,25 +53,35 @@ top-requires c κs =
     let a = start .args in
     task-filled (a .table .now) (a .t2) (a .b) (sizes start) (start .pre .0) 0 (start .pre .0 .some)
 
+-- the task that the effect changes
+changeable : (c : tie.Start) → Changeable (c .args .chosen .effect) (c .args .t)
+changeable c = rw (c .pre .1 .task) (picked-changeable (sizes c) (c .pre .0) (room c) (picks c))
+
+place-for-requires : tie.Need-place-for-requires
+place-for-requires c κs = changeable (c .before .before .before .before .before .before .before)
+
 front-after-requires : tie.Need-front-after-requires
-front-after-requires c κs =
-    let start = c .before .before .before .before .before .before .before in
-    rw (start .pre .1 .task) (picked-changeable (sizes start) (start .pre .0) (room start) (picks start))
+front-after-requires c κs = (changeable (c .before .before .before .before .before .before .before .before), c .place-for .ensures)
 
 closing-plan-requires : tie.Need-closing-plan-requires
 closing-plan-requires c κs =
-    let start = c .before .before .before .before .before .before .before .before in
-    closing-requires (sizes start) (start .pre .0) (start .pre .1) (start .args .finishing) (c .before .before .top .ensures)
-    (c .before .mark-if .ensures) (c .front-after .ensures) (c .before .before .before .before .count-after .ensures)
+    let made = c .before in
+    let marked = made .before .before in
+    let start = marked .before .before .before .before .before .before .before in
+    closing-requires (sizes start) (start .pre .0) (start .pre .1) (start .args .finishing) (marked .before .top .ensures)
+    (marked .mark-if .ensures) (made .front-after .ensures) (marked .before .before .before .count-after .ensures)
+    (made .before .place-for .ensures) (c .closed-by .ensures)
 
 returns : tie.Need-returns
 returns c =
-    let made = c .before in
-    let start = made .before .before .before .before .before .before .before .before in
+    let made = c .before .before in
+    let marked = made .before .before in
+    let start = marked .before .before .before .before .before .before .before in
     c .closing-plan .ensures
-    ∙ plan-is (sizes start) (start .pre .0) (start .pre .1) (start .args .finishing) (made .before .before .top .ensures)
-    (made .before .mark-if .ensures) (made .front-after .ensures) (made .before .before .before .before .count-after .ensures)
-    (made .before .before .before .before .before .shift-of .ensures) (made .before .before .before .main-after .ensures)
+    ∙ plan-is (sizes start) (start .pre .0) (start .pre .1) (start .args .finishing) (marked .before .top .ensures)
+    (marked .mark-if .ensures) (made .front-after .ensures) (marked .before .before .before .count-after .ensures)
+    (made .before .place-for .ensures) (c .before .closed-by .ensures)
+    (marked .before .before .before .before .shift-of .ensures) (marked .before .before .main-after .ensures)
 
 pub start-plan-spec : {M : Type 1} → statement M
 start-plan-spec =
@@ -83,6 +93,8 @@ start-plan-spec =
     main-after-requires
     top-requires
     (λ c κs. search needs)
+    place-for-requires
     front-after-requires
+    (λ c κs. search needs)
     closing-plan-requires
     returns)
