@@ -2,7 +2,7 @@
 //! that may be anything, checks 1, 2 and 20 first, then those named for the
 //! call. A refused call changes nothing.
 
-use crate::{Answer, Reason, Refusal, Session, Table};
+use crate::{Answer, Done, Reason, Refusal, Session, Table};
 
 /// The checks that come first in every call.
 fn check(table: &[u8], session: &Session) -> Result<Table, Refusal> {
@@ -14,9 +14,9 @@ fn check(table: &[u8], session: &Session) -> Result<Table, Refusal> {
 }
 
 /// The answer of a call that left this session or was refused.
-fn answer<T>(result: Result<T, Refusal>, session: &Session) -> Answer {
+fn answer(result: Result<Done, Refusal>, session: &Session) -> Answer {
     match result {
-        Ok(_) => session.answer(),
+        Ok(done) => session.answer(done.count.closed),
         Err(refusal) => Answer::refused(refusal),
     }
 }
@@ -48,7 +48,8 @@ pub fn back(table: &[u8], session: &mut Session) -> Answer {
 
 /// Look.
 pub fn look(table: &[u8], session: &Session) -> Answer {
-    answer(check(table, session), session)
+    let result = check(table, session).map(|_| Done::default());
+    answer(result, session)
 }
 
 /// Save: writes the image at the start of the buffer and leaves the rest;
@@ -66,11 +67,12 @@ pub fn save(table: &[u8], session: &Session, buffer: &mut [u8]) -> (u8, usize) {
     }
 }
 
-/// Restore: puts the session of a whole image in the place of the present one.
+/// Restore: puts the session of a whole image in the place of the present one,
+/// whose screens do not count as closed.
 pub fn restore(table: &[u8], session: &mut Session, image: &[u8]) -> Answer {
     let result = check(table, session).and_then(|table| {
         *session = Session::from_image(&table, image)?;
-        Ok(())
+        Ok(Done::default())
     });
     answer(result, session)
 }

@@ -5,19 +5,22 @@
 //! meant to be plain enough to be checked against the paper by reading.
 //!
 //! - `table`: the screen table, the launch modes, the flag word
-//! - `session`: tasks and screens, soundness, the moves, the answer
+//! - `session`: tasks and screens, soundness, the moves and the screens that they
+//!   create and close, the answer
 //! - `rules`: launch, Back, start by R1 to R18, finishing start
 //! - `reason`: the rule that a start uses and the task found, in four numbers
 //! - `image`: the image of a session and how it is read back
 //! - `calls`: every call with all its checks, from bytes to an answer
 //! - `play`: the player, from standard input's format to lines, with or without
 //!   the reasons under starts
-//! - `random`, `hex`: random numbers and tables, bytes as text, for comparisons
+//! - `random`, `hex`, `closings`: random numbers and tables, bytes as text, counts
+//!   of what was closed, for comparisons
 //!
 //! Two layers: the methods of `Session` want a good table and a sound session
 //! and keep the session sound; the functions of `calls` check both first.
 
 pub mod calls;
+pub mod closings;
 pub mod hex;
 pub mod image;
 pub mod play;
@@ -28,8 +31,8 @@ pub mod session;
 pub mod table;
 
 pub use reason::Reason;
-pub use rules::Rule;
-pub use session::{Answer, Screen, Session, Task};
+pub use rules::{Done, Rule};
+pub use session::{Answer, Count, Screen, Session, Task};
 pub use table::{Mode, Table};
 
 /// Why a call is refused, by the paper's numbers.

@@ -6,8 +6,7 @@
 
 use std::io::{self, ErrorKind, Read, Write};
 
-use crate::rules::Choice;
-use crate::{Answer, Reason, Refusal, Session, Table};
+use crate::{Answer, Done, Reason, Refusal, Session, Table};
 
 /// The length of a record: kind, screen, four bytes of flags.
 pub const RECORD: usize = 6;
@@ -74,17 +73,17 @@ impl Player {
     pub fn record(&mut self, record: &[u8]) -> Played {
         let kind = record[0];
         match self.call(record) {
-            Ok(choice) => Played {
+            Ok(done) => Played {
                 kind,
-                answer: self.session.answer(),
-                reason: choice.map(Reason::chosen),
+                answer: self.session.answer(done.count.closed),
+                reason: done.choice.map(Reason::chosen),
             },
             Err(refusal) => Played::refused(kind, refusal),
         }
     }
 
-    /// Makes the record's call; gives what a start chose.
-    fn call(&mut self, record: &[u8]) -> Result<Option<Choice>, Refusal> {
+    /// Makes the record's call.
+    fn call(&mut self, record: &[u8]) -> Result<Done, Refusal> {
         let &[kind @ 1..=5, screen, f0, f1, f2, f3] = record else {
             return Err(Refusal::BadRecord);
         };
@@ -92,11 +91,11 @@ impl Player {
         let table = self.table.as_ref().map_err(|&refusal| refusal)?;
         let session = &mut self.session;
         match kind {
-            1 => session.launch(table).map(|()| None),
-            2 => session.start(table, screen, flags).map(Some),
-            3 => session.finishing_start(table, screen, flags).map(Some),
-            4 => session.back().map(|()| None),
-            _ => Ok(None),
+            1 => session.launch(table),
+            2 => session.start(table, screen, flags),
+            3 => session.finishing_start(table, screen, flags),
+            4 => session.back(),
+            _ => Ok(Done::default()),
         }
     }
 }
@@ -152,7 +151,7 @@ fn read_full(input: &mut impl Read, buffer: &mut [u8]) -> io::Result<usize> {
     Ok(length)
 }
 
-/// Adds the player's line: the kind, then the answer's six numbers.
+/// Adds the player's line: the kind, then the answer's seven numbers.
 pub fn push_line(out: &mut Vec<u8>, played: &Played) {
     push_number(out, played.kind);
     push_numbers(out, &played.answer.numbers());

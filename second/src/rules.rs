@@ -2,7 +2,7 @@
 //! table. `decide` chooses the first rule that fits, `check_space` says whether
 //! there is room for it, `apply` carries it out.
 
-use crate::session::MAX_TASKS;
+use crate::session::{Count, MAX_TASKS};
 use crate::table::{
     ALL_FLAGS, CLEAR_TASK, CLEAR_TOP, MULTIPLE_TASK, NEW_TASK, REORDER_TO_FRONT, SINGLE_TOP,
 };
@@ -73,40 +73,51 @@ impl Choice {
     }
 }
 
+/// What a call did that was not refused.
+#[derive(Clone, Copy, Debug, Default, PartialEq, Eq)]
+pub struct Done {
+    /// What a start chose; other calls choose nothing.
+    pub choice: Option<Choice>,
+    pub count: Count,
+}
+
 impl Session {
     /// Launch: one task of the main screen alone.
-    pub fn launch(&mut self, table: &Table) -> Result<(), Refusal> {
+    pub fn launch(&mut self, table: &Table) -> Result<Done, Refusal> {
         if !self.is_empty() {
             return Err(Refusal::NotEmpty);
         }
-        self.new_task(table.main());
+        let count = self.new_task(table.main());
         self.main = 1;
-        Ok(())
+        let choice = None;
+        Ok(Done { choice, count })
     }
 
     /// Back: removes the front screen.
-    pub fn back(&mut self) -> Result<(), Refusal> {
+    pub fn back(&mut self) -> Result<Done, Refusal> {
         let front = self.tasks.first().ok_or(Refusal::Empty)?;
-        self.remove_screen(0, front.height() - 1);
-        Ok(())
+        let count = self.remove_screen(0, front.height() - 1);
+        let choice = None;
+        Ok(Done { choice, count })
     }
 
-    /// Start of `b`; tells what was chosen.
-    pub fn start(&mut self, table: &Table, b: u8, flags: u32) -> Result<Choice, Refusal> {
+    /// Start of `b`.
+    pub fn start(&mut self, table: &Table, b: u8, flags: u32) -> Result<Done, Refusal> {
         let choice = self.plan(table, b, flags)?;
-        self.apply(choice, b);
-        Ok(choice)
+        let count = self.apply(choice, b);
+        let choice = Some(choice);
+        Ok(Done { choice, count })
     }
 
-    /// Start of `b` by a screen that closes itself; tells what was chosen.
-    pub fn finishing_start(&mut self, table: &Table, b: u8, flags: u32) -> Result<Choice, Refusal> {
+    /// Start of `b` by a screen that closes itself.
+    pub fn finishing_start(&mut self, table: &Table, b: u8, flags: u32) -> Result<Done, Refusal> {
         let choice = self.plan(table, b, flags)?;
         if let Some(front) = self.tasks[0].screens.last_mut() {
             front.marked = true;
         }
-        self.apply(choice, b);
-        self.remove_marked();
-        Ok(choice)
+        let count = self.apply(choice, b) + self.remove_marked();
+        let choice = Some(choice);
+        Ok(Done { choice, count })
     }
 
     /// What a start of `b` chooses, or why it is refused. Changes nothing.
@@ -237,25 +248,15 @@ impl Session {
     }
 
     /// Carries out a rule for which there is room.
-    fn apply(&mut self, choice: Choice, b: u8) {
+    fn apply(&mut self, choice: Choice, b: u8) -> Count {
         let index = choice.index();
         match choice.rule {
-            R7 => {}
+            R7 => Count::NONE,
             R1 | R15 | R16 => self.move_to_front(index),
             R2 | R6 | R11 | R18 => self.new_task(b),
-            R3 | R12 => {
-                self.move_to_front(index);
-                self.tasks[0].screens.clear();
-                self.tasks[0].push(b);
-            }
-            R4 | R13 => {
-                self.move_to_front(index);
-                self.tasks[0].clear_to(b);
-            }
-            R5 | R14 | R17 => {
-                self.move_to_front(index);
-                self.tasks[0].push(b);
-            }
+            R3 | R12 => self.move_to_front(index) + self.tasks[0].empty() + self.tasks[0].push(b),
+            R4 | R13 => self.move_to_front(index) + self.tasks[0].clear_to(b),
+            R5 | R14 | R17 => self.move_to_front(index) + self.tasks[0].push(b),
             R8 => self.tasks[0].clear_to(b),
             R9 => self.tasks[0].lift(b),
             R10 => self.tasks[0].push(b),
@@ -263,17 +264,17 @@ impl Session {
     }
 
     /// Removes the marked screen, if it still stands, as Back would in its task.
-    fn remove_marked(&mut self) {
+    fn remove_marked(&mut self) -> Count {
         for index in 0..self.tasks.len() {
             let marked = self.tasks[index]
                 .screens
                 .iter()
                 .position(|screen| screen.marked);
             if let Some(at) = marked {
-                self.remove_screen(index, at);
-                return;
+                return self.remove_screen(index, at);
             }
         }
+        Count::NONE
     }
 }
 

@@ -1,5 +1,8 @@
 //! Sessions: a list of tasks, front first, each a stack of screens; what makes
-//! a session sound; the small moves that the rules are made of; the answer.
+//! a session sound; the small moves that the rules are made of, which count the
+//! screens that they create and close; the answer.
+
+use std::ops::Add;
 
 use crate::{Mode, Refusal, Table};
 
@@ -21,6 +24,43 @@ impl Screen {
         Screen {
             number,
             marked: false,
+        }
+    }
+}
+
+/// How many screens a call, or a part of it, created and how many it closed.
+#[derive(Clone, Copy, Debug, Default, PartialEq, Eq)]
+pub struct Count {
+    pub created: u8,
+    pub closed: u8,
+}
+
+impl Count {
+    pub(crate) const NONE: Count = Count {
+        created: 0,
+        closed: 0,
+    };
+
+    const ONE_CREATED: Count = Count {
+        created: 1,
+        closed: 0,
+    };
+
+    fn closed(screens: usize) -> Count {
+        Count {
+            created: 0,
+            closed: screens as u8,
+        }
+    }
+}
+
+impl Add for Count {
+    type Output = Count;
+
+    fn add(self, other: Count) -> Count {
+        Count {
+            created: self.created + other.created,
+            closed: self.closed + other.closed,
         }
     }
 }
@@ -66,22 +106,37 @@ impl Task {
         self.height() >= MAX_HEIGHT
     }
 
-    pub(crate) fn push(&mut self, b: u8) {
+    pub(crate) fn push(&mut self, b: u8) -> Count {
         self.screens.push(Screen::new(b));
+        Count::ONE_CREATED
+    }
+
+    /// Removes all screens.
+    pub(crate) fn empty(&mut self) -> Count {
+        self.cut(0)
     }
 
     /// Removes all above the topmost `b` and keeps that `b`.
-    pub(crate) fn clear_to(&mut self, b: u8) {
-        if let Some(at) = self.topmost(b) {
-            self.screens.truncate(at + 1);
+    pub(crate) fn clear_to(&mut self, b: u8) -> Count {
+        match self.topmost(b) {
+            Some(at) => self.cut(at + 1),
+            None => Count::NONE,
         }
     }
 
+    /// Removes the screens above the lowest `kept`.
+    fn cut(&mut self, kept: usize) -> Count {
+        let before = self.height();
+        self.screens.truncate(kept);
+        Count::closed(before - self.height())
+    }
+
     /// Takes the topmost `b` to the top.
-    pub(crate) fn lift(&mut self, b: u8) {
+    pub(crate) fn lift(&mut self, b: u8) -> Count {
         if let Some(at) = self.topmost(b) {
             self.screens[at..].rotate_left(1);
         }
+        Count::NONE
     }
 
     /// The part of soundness that concerns one task alone.
@@ -141,7 +196,7 @@ impl Session {
     }
 
     /// Brings the task at this index to the front.
-    pub(crate) fn move_to_front(&mut self, index: usize) {
+    pub(crate) fn move_to_front(&mut self, index: usize) -> Count {
         self.tasks[..=index].rotate_right(1);
         let place = index + 1;
         if self.main == place {
@@ -149,18 +204,20 @@ impl Session {
         } else if self.main >= 1 && self.main < place {
             self.main += 1;
         }
+        Count::NONE
     }
 
     /// Puts a task of `b` alone in front.
-    pub(crate) fn new_task(&mut self, b: u8) {
+    pub(crate) fn new_task(&mut self, b: u8) -> Count {
         self.tasks.insert(0, Task::new(b, &[b]));
         if self.main >= 1 {
             self.main += 1;
         }
+        Count::ONE_CREATED
     }
 
     /// Removes one screen; a task left empty goes.
-    pub(crate) fn remove_screen(&mut self, index: usize, at: usize) {
+    pub(crate) fn remove_screen(&mut self, index: usize, at: usize) -> Count {
         self.tasks[index].screens.remove(at);
         if self.tasks[index].screens.is_empty() {
             self.tasks.remove(index);
@@ -171,12 +228,17 @@ impl Session {
                 self.main -= 1;
             }
         }
+        Count::closed(1)
     }
 
-    /// The answer of a call that was not refused and left this session.
-    pub fn answer(&self) -> Answer {
+    /// The answer of a call that was not refused, closed so many screens and
+    /// left this session.
+    pub fn answer(&self, closed: u8) -> Answer {
         match self.tasks.first() {
-            None => Answer::default(),
+            None => Answer {
+                closed,
+                ..Answer::default()
+            },
             Some(front) => Answer {
                 refusal: 0,
                 screen: front.top().unwrap_or(0),
@@ -184,12 +246,13 @@ impl Session {
                 height: front.height() as u8,
                 tasks: self.tasks.len() as u8,
                 main: self.main as u8,
+                closed,
             },
         }
     }
 }
 
-/// What a call answers: six numbers.
+/// What a call answers: seven numbers.
 #[derive(Clone, Copy, Debug, Default, PartialEq, Eq, Hash)]
 pub struct Answer {
     pub refusal: u8,
@@ -198,6 +261,8 @@ pub struct Answer {
     pub height: u8,
     pub tasks: u8,
     pub main: u8,
+    /// The screens that the call removed.
+    pub closed: u8,
 }
 
 impl Answer {
@@ -209,8 +274,8 @@ impl Answer {
         }
     }
 
-    /// The six numbers in the paper's order.
-    pub fn numbers(self) -> [u8; 6] {
+    /// The seven numbers in their order.
+    pub fn numbers(self) -> [u8; 7] {
         [
             self.refusal,
             self.screen,
@@ -218,6 +283,7 @@ impl Answer {
             self.height,
             self.tasks,
             self.main,
+            self.closed,
         ]
     }
 }

@@ -77,6 +77,8 @@ impl Table {
     }
 
     /// Reads a table from exactly these bytes.
+    // Inline, so that a call that checks its table does not move it about.
+    #[inline]
     pub fn parse(bytes: &[u8]) -> Result<Table, Refusal> {
         let n = *bytes.first().ok_or(Refusal::TableLength)?;
         if Table::length(n) != Some(bytes.len()) {

@@ -1,37 +1,32 @@
 //! The paper's concrete examples: the stacks P1 to P10, the limits, the
 //! player's example, the image's bytes, and the mistakes it warns of.
 
+mod common;
+
 use second::table::{CLEAR_TASK, CLEAR_TOP, MULTIPLE_TASK, NEW_TASK, REORDER_TO_FRONT, SINGLE_TOP};
-use second::{calls, play, Rule, Session, Task};
+use second::{calls, play, Rule, Session};
 
-/// Table T.
-const T: [u8; 14] = [6, 0, 0, 1, 0, 1, 1, 1, 2, 2, 3, 1, 0, 2];
+use common::{session, T};
 
-/// A session from its main place and its tasks, screens top first.
-fn session(main: usize, tasks: &[(u8, &[u8])]) -> Session {
-    let tasks = tasks
-        .iter()
-        .map(|&(root, screens)| Task::new(root, screens))
-        .collect();
-    Session { tasks, main }
-}
+/// A rule, and how many screens close by it.
+type Closing = (Rule, u8);
 
 /// Starts a screen under T and checks the rule, the session left and the answer.
-fn start(before: &Session, screen: u8, flags: u32, rule: Rule, after: &Session) {
+fn start(before: &Session, screen: u8, flags: u32, (rule, closed): Closing, after: &Session) {
     let mut now = before.clone();
     assert_eq!(calls::why(&T, &now, screen, flags).rule, rule as u8);
     let answer = calls::start(&T, &mut now, screen, flags);
     assert_eq!(&now, after);
-    assert_eq!(answer, after.answer());
+    assert_eq!(answer, after.answer(closed));
 }
 
 /// The same for a finishing start.
-fn finish(before: &Session, screen: u8, flags: u32, rule: Rule, after: &Session) {
+fn finish(before: &Session, screen: u8, flags: u32, (rule, closed): Closing, after: &Session) {
     let mut now = before.clone();
     assert_eq!(calls::why(&T, &now, screen, flags).rule, rule as u8);
     let answer = calls::finishing_start(&T, &mut now, screen, flags);
     assert_eq!(&now, after);
-    assert_eq!(answer, after.answer());
+    assert_eq!(answer, after.answer(closed));
 }
 
 #[test]
@@ -41,7 +36,7 @@ fn p1_reorder() {
         &before,
         1,
         REORDER_TO_FRONT,
-        Rule::R9,
+        (Rule::R9, 0),
         &session(1, &[(0, &[1, 2, 0])]),
     );
 }
@@ -50,46 +45,48 @@ fn p1_reorder() {
 fn p2_clear_top() {
     let before = session(1, &[(0, &[2, 1, 0])]);
     let after = session(1, &[(0, &[1, 0])]);
-    start(&before, 1, CLEAR_TOP, Rule::R8, &after);
-    start(&before, 1, CLEAR_TOP | REORDER_TO_FRONT, Rule::R8, &after);
+    start(&before, 1, CLEAR_TOP, (Rule::R8, 1), &after);
+    let both = CLEAR_TOP | REORDER_TO_FRONT;
+    start(&before, 1, both, (Rule::R8, 1), &after);
 }
 
 #[test]
 fn p3_single_top_on_top() {
     let before = session(1, &[(0, &[2, 1, 0])]);
-    start(&before, 2, 0, Rule::R7, &before);
+    start(&before, 2, 0, (Rule::R7, 0), &before);
 }
 
 #[test]
 fn p4_from_a_single_instance() {
     let before = session(3, &[(4, &[4]), (3, &[3]), (0, &[1, 0])]);
     let after = session(1, &[(0, &[1, 1, 0]), (4, &[4]), (3, &[3])]);
-    start(&before, 1, 0, Rule::R17, &after);
+    start(&before, 1, 0, (Rule::R17, 0), &after);
 }
 
 #[test]
 fn p5_the_same_with_single_top() {
     let before = session(3, &[(4, &[4]), (3, &[3]), (0, &[1, 0])]);
     let after = session(1, &[(0, &[1, 0]), (4, &[4]), (3, &[3])]);
-    start(&before, 1, SINGLE_TOP, Rule::R16, &after);
+    start(&before, 1, SINGLE_TOP, (Rule::R16, 0), &after);
 }
 
 #[test]
 fn p6_found_by_root() {
     let before = session(2, &[(5, &[1, 5]), (0, &[0])]);
-    start(&before, 5, NEW_TASK, Rule::R15, &before);
+    start(&before, 5, NEW_TASK, (Rule::R15, 0), &before);
 }
 
 #[test]
 fn p7_single_task_is_not_split() {
     let before = session(2, &[(3, &[3]), (0, &[0])]);
-    start(&before, 3, NEW_TASK | MULTIPLE_TASK, Rule::R4, &before);
+    let flags = NEW_TASK | MULTIPLE_TASK;
+    start(&before, 3, flags, (Rule::R4, 0), &before);
 }
 
 #[test]
 fn p8_finishing_with_clear_task() {
     let before = session(1, &[(0, &[0])]);
-    finish(&before, 0, NEW_TASK | CLEAR_TASK, Rule::R12, &before);
+    finish(&before, 0, NEW_TASK | CLEAR_TASK, (Rule::R12, 1), &before);
 }
 
 #[test]
@@ -99,7 +96,7 @@ fn p9_finishing_with_single_top() {
         &before,
         0,
         NEW_TASK | SINGLE_TOP,
-        Rule::R16,
+        (Rule::R16, 1),
         &Session::fresh(),
     );
 }
@@ -116,7 +113,7 @@ fn p10_image() {
     let mut other = session(1, &[(0, &[0])]);
     assert_eq!(
         calls::restore(&T, &mut other, &image).numbers(),
-        [0, 3, 3, 1, 2, 2]
+        [0, 3, 3, 1, 2, 2, 0]
     );
     assert_eq!(other, saved);
 }
@@ -126,7 +123,7 @@ fn image_of_the_empty_session() {
     let image = [0, 0, 0, 0, 8, 0x42];
     assert_eq!(Session::fresh().image(), image);
     let mut present = session(1, &[(0, &[0])]);
-    assert_eq!(calls::restore(&T, &mut present, &image).numbers(), [0; 6]);
+    assert_eq!(calls::restore(&T, &mut present, &image).numbers(), [0; 7]);
     assert!(present.is_empty());
 }
 
@@ -141,7 +138,7 @@ fn image_of_the_largest_session() {
     let mut present = Session::fresh();
     assert_eq!(
         calls::restore(&T, &mut present, &image).numbers(),
-        [0, 0, 0, 32, 16, 16]
+        [0, 0, 0, 32, 16, 16, 0]
     );
     assert_eq!(present, largest);
 }
@@ -151,22 +148,22 @@ fn limit_of_a_task() {
     let mut now = session(1, &[(0, &[0; 31])]);
     assert_eq!(
         calls::start(&T, &mut now, 1, 0).numbers(),
-        [0, 1, 0, 32, 1, 1]
+        [0, 1, 0, 32, 1, 1, 0]
     );
     let full = now.clone();
     assert_eq!(
         calls::start(&T, &mut now, 1, 0).numbers(),
-        [24, 0, 0, 0, 0, 0]
+        [24, 0, 0, 0, 0, 0, 0]
     );
     assert_eq!(
         calls::finishing_start(&T, &mut now, 1, 0).numbers(),
-        [24, 0, 0, 0, 0, 0]
+        [24, 0, 0, 0, 0, 0, 0]
     );
     assert_eq!(now, full);
     let reorder = calls::start(&T, &mut now, 0, REORDER_TO_FRONT);
-    assert_eq!(reorder.numbers(), [0, 0, 0, 32, 1, 1]);
+    assert_eq!(reorder.numbers(), [0, 0, 0, 32, 1, 1, 0]);
     let emptied = calls::start(&T, &mut now, 1, NEW_TASK | CLEAR_TASK);
-    assert_eq!(emptied.numbers(), [0, 1, 0, 1, 1, 1]);
+    assert_eq!(emptied.numbers(), [0, 1, 0, 1, 1, 1, 32]);
 }
 
 #[test]
@@ -175,21 +172,21 @@ fn limit_of_the_session() {
     let flags = NEW_TASK | MULTIPLE_TASK;
     assert_eq!(
         calls::start(&T, &mut now, 0, flags).numbers(),
-        [0, 0, 0, 1, 16, 16]
+        [0, 0, 0, 1, 16, 16, 0]
     );
     let full = now.clone();
     for (screen, flags) in [(0, flags), (3, 0), (4, 0), (5, NEW_TASK)] {
         assert_eq!(
             calls::start(&T, &mut now, screen, flags).numbers(),
-            [23, 0, 0, 0, 0, 0]
+            [23, 0, 0, 0, 0, 0, 0]
         );
         let answer = calls::finishing_start(&T, &mut now, screen, flags);
-        assert_eq!(answer.numbers(), [23, 0, 0, 0, 0, 0]);
+        assert_eq!(answer.numbers(), [23, 0, 0, 0, 0, 0, 0]);
     }
     assert_eq!(now, full);
     assert_eq!(
         calls::start(&T, &mut now, 5, 0).numbers(),
-        [0, 5, 0, 2, 16, 16]
+        [0, 5, 0, 2, 16, 16, 0]
     );
 }
 
@@ -226,24 +223,20 @@ fn full_tasks_that_are_found() {
 fn finishing_starts_close_the_caller() {
     // After R7 it is a Back.
     let before = session(1, &[(0, &[2, 1, 0])]);
-    finish(&before, 2, 0, Rule::R7, &session(1, &[(0, &[1, 0])]));
+    finish(&before, 2, 0, (Rule::R7, 1), &session(1, &[(0, &[1, 0])]));
     // The pushed screen stays, the caller below it goes.
-    finish(&before, 0, 0, Rule::R10, &session(1, &[(0, &[0, 1, 0])]));
+    let after = session(1, &[(0, &[0, 1, 0])]);
+    finish(&before, 0, 0, (Rule::R10, 1), &after);
     // The caller's task goes, and with it the main place.
     let before = session(1, &[(0, &[0])]);
-    finish(&before, 3, 0, Rule::R6, &session(0, &[(3, &[3])]));
+    finish(&before, 3, 0, (Rule::R6, 1), &session(0, &[(3, &[3])]));
     // A single-instance screen that starts itself closes.
     let before = session(2, &[(4, &[4]), (0, &[0])]);
-    finish(&before, 4, 0, Rule::R1, &session(1, &[(0, &[0])]));
+    finish(&before, 4, 0, (Rule::R1, 1), &session(1, &[(0, &[0])]));
     // A single-task screen kept by clearing to it keeps its mark.
     let before = session(2, &[(3, &[3, 1, 3]), (0, &[0])]);
-    finish(
-        &before,
-        3,
-        0,
-        Rule::R4,
-        &session(2, &[(3, &[1, 3]), (0, &[0])]),
-    );
+    let after = session(2, &[(3, &[1, 3]), (0, &[0])]);
+    finish(&before, 3, 0, (Rule::R4, 1), &after);
 }
 
 #[test]
@@ -251,25 +244,25 @@ fn the_main_task_before_the_move() {
     // The root found stands at place 2, which is m: not R15 but R17.
     let before = session(2, &[(5, &[5]), (0, &[1, 0])]);
     let after = session(1, &[(0, &[0, 1, 0]), (5, &[5])]);
-    start(&before, 0, NEW_TASK, Rule::R17, &after);
+    start(&before, 0, NEW_TASK, (Rule::R17, 0), &after);
     // The root found stands at place 1, m is 2: R15.
     let before = session(2, &[(0, &[1, 0]), (0, &[0])]);
-    start(&before, 0, NEW_TASK, Rule::R15, &before);
+    start(&before, 0, NEW_TASK, (Rule::R15, 0), &before);
     // With no main task, R15 again.
     let before = session(0, &[(5, &[5]), (0, &[1, 0])]);
     let after = session(0, &[(0, &[1, 0]), (5, &[5])]);
-    start(&before, 0, NEW_TASK, Rule::R15, &after);
+    start(&before, 0, NEW_TASK, (Rule::R15, 0), &after);
 }
 
 #[test]
 fn search_from_the_front() {
     let before = session(0, &[(5, &[5]), (0, &[0]), (0, &[1, 0])]);
     let after = session(0, &[(0, &[1, 0]), (5, &[5]), (0, &[1, 0])]);
-    start(&before, 1, NEW_TASK, Rule::R17, &after);
+    start(&before, 1, NEW_TASK, (Rule::R17, 0), &after);
     // The whole list by root before the whole list by affinity.
     let before = session(0, &[(0, &[0]), (1, &[1])]);
     let after = session(0, &[(1, &[1]), (0, &[0])]);
-    start(&before, 1, NEW_TASK, Rule::R15, &after);
+    start(&before, 1, NEW_TASK, (Rule::R15, 0), &after);
 }
 
 #[test]
@@ -284,7 +277,8 @@ fn player_example() {
     }
     let mut output = Vec::new();
     play::play(&input[..], &mut output).unwrap();
-    let expected = "1 0 0 0 1 1 1\n2 0 1 0 2 1 1\n2 0 3 3 1 2 2\n3 0 0 0 3 1 1\n\
-                    4 0 1 0 2 1 1\n4 0 0 0 1 1 1\n4 0 0 0 0 0 0\n4 21 0 0 0 0 0\n";
+    // The finishing start closes 3, alone in its task, and each Back one screen.
+    let expected = "1 0 0 0 1 1 1 0\n2 0 1 0 2 1 1 0\n2 0 3 3 1 2 2 0\n3 0 0 0 3 1 1 1\n\
+                    4 0 1 0 2 1 1 1\n4 0 0 0 1 1 1 1\n4 0 0 0 0 0 0 1\n4 21 0 0 0 0 0 0\n";
     assert_eq!(String::from_utf8(output).unwrap(), expected);
 }

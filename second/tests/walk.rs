@@ -75,14 +75,16 @@ fn walks() {
                 assert_eq!(session, before);
                 assert!(why.is_none_or(|why| why.numbers() == [answer.refusal, 0, 0, 0]));
             } else {
-                assert_eq!(answer, calls::look(&table, &session));
+                let seen = calls::look(&table, &session);
+                assert_eq!(answer, session.answer(answer.closed));
+                assert_eq!(seen, session.answer(0));
                 assert!(why.is_none_or(|why| why.refusal == 0 && why.rule >= 1));
             }
             // An image holds no marks, so equality with it shows there are none.
             let mut back = Session::fresh();
             assert_eq!(
                 calls::restore(&table, &mut back, &session.image()),
-                session.answer()
+                session.answer(0)
             );
             assert_eq!(back, session);
         }

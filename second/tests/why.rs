@@ -1,25 +1,16 @@
 //! The reasons of starts: which rule, at which place, found by what. The numbers
 //! are read from the paper's rules by hand.
 
-use second::table::{CLEAR_TASK, CLEAR_TOP, MULTIPLE_TASK, NEW_TASK, REORDER_TO_FRONT, SINGLE_TOP};
-use second::{calls, Session, Task};
+mod common;
 
-/// Table T: 0, 1 and 2, single-top, and 4, single-instance, have affinity 1; 3,
-/// single-task, and 5 have affinity 2.
-const T: [u8; 14] = [6, 0, 0, 1, 0, 1, 1, 1, 2, 2, 3, 1, 0, 2];
+use second::table::{CLEAR_TASK, CLEAR_TOP, MULTIPLE_TASK, NEW_TASK, REORDER_TO_FRONT, SINGLE_TOP};
+use second::{calls, Session};
+
+use common::{session, T};
 
 const NONE: u8 = 0;
 const ROOT: u8 = 1;
 const AFFINITY: u8 = 2;
-
-/// A session from its main place and its tasks, screens top first.
-fn session(main: usize, tasks: &[(u8, &[u8])]) -> Session {
-    let tasks = tasks
-        .iter()
-        .map(|&(root, screens)| Task::new(root, screens))
-        .collect();
-    Session { tasks, main }
-}
 
 /// A start of this screen has this reason: rule, place, found by.
 fn why(from: &Session, screen: u8, flags: u32, reason: [u8; 3]) {
@@ -181,7 +172,7 @@ fn the_place_before_the_move() {
     why(&full, 3, 0, [5, 16, AFFINITY]);
     assert_eq!(
         calls::start(&T, &mut full, 5, NEW_TASK).numbers(),
-        [0, 5, 5, 1, 16, 0]
+        [0, 5, 5, 1, 16, 0, 0]
     );
     why(&full, 5, NEW_TASK, [15, 1, ROOT]);
 }

@@ -1,8 +1,15 @@
-//! How often each rule and each refusal came up, and how tasks were found.
+//! How often each rule and each refusal came up, how tasks were found, and how
+//! many screens were closed.
 
 use std::fmt;
 
+use second::closings::{self, Closings};
 use second::play::{Played, Player};
+
+/// The calls by their kinds, from 1.
+const KINDS: [&str; 5] = ["launch", "start", "finishing start", "Back", "look"];
+const START: usize = 2;
+const FINISHING_START: usize = 3;
 
 /// The refusals that a player can give.
 const REFUSALS: [u8; 9] = [1, 2, 3, 4, 9, 21, 22, 23, 24];
@@ -24,10 +31,8 @@ const FOUND: [&str; 3] = ["none", "root", "affinity"];
 
 #[derive(Default)]
 pub struct Counts {
-    /// Accepted starts by rule, R1 at index 1.
-    starts: [u64; 19],
-    /// Accepted finishing starts by rule.
-    finishing: [u64; 19],
+    /// Accepted calls by kind less 1, by rule and by what they closed.
+    closings: [Closings; 5],
     /// Accepted starts of both kinds by what found their task.
     found: [u64; 3],
     /// Lines by refusal.
@@ -41,14 +46,8 @@ impl Counts {
     pub fn add(&mut self, player: &Player, record: &[u8], played: &Played) {
         let refusal = played.answer.refusal;
         self.refusals[usize::from(refusal)] += 1;
-        if let (0, Some(reason)) = (refusal, played.reason) {
-            let by_kind = if played.kind == 2 {
-                &mut self.starts
-            } else {
-                &mut self.finishing
-            };
-            by_kind[usize::from(reason.rule)] += 1;
-            self.found[usize::from(reason.found)] += 1;
+        if refusal == 0 {
+            self.add_accepted(played);
         }
         if refusal == 23 || refusal == 24 {
             // The session is as it was, so the rule can still be asked for.
@@ -60,6 +59,20 @@ impl Counts {
         }
     }
 
+    fn add_accepted(&mut self, played: &Played) {
+        let rule = played.reason.map_or(0, |reason| reason.rule);
+        let closings = &mut self.closings[usize::from(played.kind) - 1];
+        closings.add(rule, played.answer.closed);
+        if let Some(reason) = played.reason {
+            self.found[usize::from(reason.found)] += 1;
+        }
+    }
+
+    /// The accepted calls of this kind.
+    fn of_kind(&self, kind: usize) -> &Closings {
+        &self.closings[kind - 1]
+    }
+
     /// Counts the line of an input whose table could not be read.
     pub fn add_bad_table(&mut self) {
         self.refusals[1] += 1;
@@ -67,15 +80,9 @@ impl Counts {
 
     /// The names of those that never came up.
     pub fn missing(&self) -> Vec<String> {
-        let mut names = Vec::new();
-        for rule in 1..=18 {
-            if self.starts[rule] == 0 {
-                names.push(format!("R{rule} by a start"));
-            }
-            if self.finishing[rule] == 0 {
-                names.push(format!("R{rule} by a finishing start"));
-            }
-        }
+        let (starts, finishing) = (self.of_kind(START), self.of_kind(FINISHING_START));
+        let mut names = starts.missing("a start", closings::by_start);
+        names.extend(finishing.missing("a finishing start", closings::by_finishing_start));
         for (found, name) in FOUND.into_iter().enumerate() {
             if self.found[found] == 0 {
                 names.push(format!("found by {name}"));
@@ -100,12 +107,12 @@ impl fmt::Display for Counts {
         writeln!(f, "rule         starts    finishing")?;
         for rule in 1..=18 {
             let name = format!("R{rule}");
-            writeln!(
-                f,
-                "{name:<4} {:>14} {:>12}",
-                self.starts[rule], self.finishing[rule]
-            )?;
+            let starts = self.of_kind(START).times(rule);
+            let finishing = self.of_kind(FINISHING_START).times(rule);
+            writeln!(f, "{name:<4} {starts:>14} {finishing:>12}")?;
         }
+        let columns: Vec<_> = KINDS.into_iter().zip(&self.closings).collect();
+        closings::write(f, &columns)?;
         writeln!(f, "found by     starts")?;
         for (name, starts) in FOUND.into_iter().zip(self.found) {
             writeln!(f, "{name:<8} {starts:>10}")?;

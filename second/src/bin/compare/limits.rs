@@ -2,7 +2,6 @@
 //! 15 or 16 tasks, every screen with all 64 flag words by a start and by a
 //! finishing start, and then Backs until the session is empty.
 
-use second::play::{Player, RECORD};
 use second::table::{MULTIPLE_TASK, NEW_TASK};
 
 use crate::check::{Checker, Difference};
@@ -56,13 +55,8 @@ pub fn limits(checker: &mut Checker) -> Result<u64, Box<Difference>> {
     for table in [T, alike] {
         let mut batch = Batch::new("limits", table.to_vec());
         for path in paths() {
-            let mut player = Player::open(&mut &table[..])
-                .expect("bytes in memory can be read")
-                .expect("the table is whole");
-            for step in path.chunks(RECORD) {
-                player.record(step);
-            }
-            batch.all_calls(checker, &player.session, &path)?;
+            let session = batch.reached(&path);
+            batch.all_calls(checker, &session, &path)?;
         }
         batch.finish(checker)?;
         calls += batch.calls;

@@ -7,11 +7,13 @@
 //! one that writes the reason under each start. At the first difference the
 //! smallest example that can be found is printed and the exit code is 1. With
 //! `--sweep`, every call from every small session follows (see `sweep`). At the
-//! end it prints how often each rule and each refusal came up, and exits with 1
-//! if one never did.
+//! end it prints how often each rule and each refusal came up and how many screens
+//! were closed, and exits with 1 if a rule, a refusal or a number that a rule can
+//! close never came up.
 
 mod check;
 mod counts;
+mod heights;
 mod limits;
 mod make;
 mod outside;
@@ -76,6 +78,10 @@ fn run(options: &Options, checker: &mut Checker) -> Result<(), Box<Difference>> 
     let begun = Instant::now();
     let calls = limits::limits(checker)?;
     checker.tell(&format!("limits ({calls} calls)"), begun);
+
+    let begun = Instant::now();
+    let calls = heights::heights(checker)?;
+    checker.tell(&format!("heights ({calls} calls)"), begun);
 
     let begun = Instant::now();
     let target = checker.records + options.records;

@@ -151,17 +151,36 @@ impl Batch {
         path: &[u8],
     ) -> Result<(), Box<Difference>> {
         for call in calls(self.screens) {
-            let left = session_after(&self.table, session, &call);
-            let standing: usize = left.tasks.iter().map(|task| task.height()).sum();
-            self.input.records.extend(path);
-            self.input.records.extend(call);
-            self.input.records.extend(record(4, 0, 0).repeat(standing));
-            self.calls += 1;
-            if self.input.records.len() >= BATCH {
-                self.finish(checker)?;
-            }
+            self.call(checker, session, path, call)?;
         }
         Ok(())
+    }
+
+    /// Makes one call from a session, to which the path leads.
+    pub fn call(
+        &mut self,
+        checker: &mut Checker,
+        session: &Session,
+        path: &[u8],
+        call: [u8; RECORD],
+    ) -> Result<(), Box<Difference>> {
+        let left = session_after(&self.table, session, &call);
+        let standing: usize = left.tasks.iter().map(|task| task.height()).sum();
+        self.input.records.extend(path);
+        self.input.records.extend(call);
+        self.input.records.extend(record(4, 0, 0).repeat(standing));
+        self.calls += 1;
+        if self.input.records.len() >= BATCH {
+            self.finish(checker)?;
+        }
+        Ok(())
+    }
+
+    /// The session that a path leads to.
+    pub fn reached(&self, path: &[u8]) -> Session {
+        let (steps, _) = path.as_chunks();
+        let after = |session, step| session_after(&self.table, &session, step);
+        steps.iter().fold(Session::fresh(), after)
     }
 
     /// Plays what is gathered.
