@@ -47,6 +47,11 @@ impl Kind {
             Kind::Why => "why",
         }
     }
+
+    /// Whether the call gives an answer; save and why give something else.
+    pub fn has_answer(self) -> bool {
+        !matches!(self, Kind::Save | Kind::Why)
+    }
 }
 
 /// A call with its arguments, apart from the table and the session.
@@ -116,8 +121,8 @@ impl fmt::Display for Call<'_> {
 /// What a call gives by itself.
 #[derive(Clone, Copy, Debug, PartialEq)]
 pub enum Reply {
-    /// The answer's six numbers.
-    Answer([u8; 6]),
+    /// The answer's seven numbers.
+    Answer([u8; 7]),
     /// Of save, the refusal's number, or 0, and the image's length.
     Saved(u8, usize),
     /// Of why, the reason's four numbers.
@@ -130,6 +135,14 @@ impl Reply {
             Reply::Answer(numbers) => numbers[0],
             Reply::Saved(refusal, _) => *refusal,
             Reply::Reason(numbers) => numbers[0],
+        }
+    }
+
+    /// How many screens a call closed that was accepted and gives an answer.
+    pub fn closed(&self) -> Option<u8> {
+        match self {
+            Reply::Answer([0, .., closed]) => Some(*closed),
+            _ => None,
         }
     }
 }

@@ -1,8 +1,9 @@
 //! How often each call was made and each refusal and rule came up, what the tasks
-//! were found by, and how full the sessions were.
+//! were found by, how many screens were closed, and how full the sessions were.
 
 use std::fmt;
 
+use second::closings::{self, Closings, Possible};
 use second::rules::Choice;
 use second::session::{MAX_HEIGHT, MAX_TASKS};
 use second::{Session, Table};
@@ -37,6 +38,15 @@ fn possible_found(rule: usize) -> &'static [usize] {
     }
 }
 
+/// What a kind of start can close.
+fn possible_closed(kind: Kind) -> Option<Possible> {
+    match kind {
+        Kind::Start => Some(closings::by_start),
+        Kind::FinishingStart => Some(closings::by_finishing_start),
+        _ => None,
+    }
+}
+
 /// Starts, or asking why, by rule, R1 at index 1.
 #[derive(Default)]
 struct Rules {
@@ -50,9 +60,10 @@ struct Rules {
 pub struct Counts {
     /// Calls by kind and refusal.
     calls: [[u64; 25]; 8],
-    starts: Rules,
-    finishing: Rules,
-    whys: Rules,
+    /// By kind, those of the kinds that have rules.
+    rules: [Rules; 8],
+    /// Accepted calls by kind.
+    closings: [Closings; 8],
     /// Sessions saved and restored; those with no task; those with no space.
     sessions: u64,
     empty: u64,
@@ -62,19 +73,16 @@ pub struct Counts {
 impl Counts {
     /// Counts a call by what the second navigator gave.
     pub fn add(&mut self, table: &[u8], present: &Stored, call: Call, reply: &Reply) {
-        self.calls[call.kind() as usize][usize::from(reply.refusal())] += 1;
-        let (rules, screen, flags) = match call {
-            Call::Start { screen, flags } => (&mut self.starts, screen, flags),
-            Call::FinishingStart { screen, flags } => (&mut self.finishing, screen, flags),
-            Call::Why { screen, flags } => (&mut self.whys, screen, flags),
-            _ => return,
-        };
-        if ![0, 23, 24].contains(&reply.refusal()) {
-            return;
+        let (kind, refusal) = (call.kind() as usize, reply.refusal());
+        self.calls[kind][usize::from(refusal)] += 1;
+        let choice = choice(table, present, call, refusal);
+        if let Some(choice) = choice {
+            self.rules[kind].add(choice, refusal);
         }
-        let table = Table::parse(table).expect("the call was past the table's check");
-        let choice = present.view().decide(&table, screen, flags);
-        rules.add(choice, reply.refusal());
+        if let Some(closed) = reply.closed() {
+            let rule = choice.map_or(0, |choice| choice.rule as u8);
+            self.closings[kind].add(rule, closed);
+        }
     }
 
     pub fn add_session(&mut self, session: &Session) {
@@ -108,6 +116,9 @@ impl Counts {
             if let Some(rules) = self.rules(kind) {
                 names.extend(rules.missing(kind, each_rule));
             }
+            if let Some(possible) = possible_closed(kind) {
+                names.extend(self.closings[kind as usize].missing(kind.name(), possible));
+            }
         }
         if self.empty == 0 && !kinds.is_empty() {
             names.push("an empty session".to_string());
@@ -117,6 +128,21 @@ impl Counts {
         }
         names
     }
+}
+
+/// What a start chose, or why tells of one; none if the checks before refused it.
+fn choice(table: &[u8], present: &Stored, call: Call, refusal: u8) -> Option<Choice> {
+    let (Call::Start { screen, flags }
+    | Call::FinishingStart { screen, flags }
+    | Call::Why { screen, flags }) = call
+    else {
+        return None;
+    };
+    if ![0, 23, 24].contains(&refusal) {
+        return None;
+    }
+    let table = Table::parse(table).expect("the call was past the table's check");
+    Some(present.view().decide(&table, screen, flags))
 }
 
 impl Rules {
@@ -173,11 +199,16 @@ impl fmt::Display for Counts {
                 writeln!(f)?;
             }
         }
+        let answered = kinds.iter().filter(|kind| kind.has_answer());
+        let columns: Vec<_> = answered
+            .map(|&kind| (kind.name(), &self.closings[kind as usize]))
+            .collect();
+        closings::write(f, &columns)?;
         if kinds.contains(&Kind::Start) {
             self.write_rules(f)?;
         }
         if kinds.contains(&Kind::Why) {
-            self.whys.write_found(f)?;
+            self.rules[Kind::Why as usize].write_found(f)?;
         }
         writeln!(
             f,
@@ -191,9 +222,7 @@ impl Counts {
     /// The counts by rule of a kind that has them.
     fn rules(&self, kind: Kind) -> Option<&Rules> {
         match kind {
-            Kind::Start => Some(&self.starts),
-            Kind::FinishingStart => Some(&self.finishing),
-            Kind::Why => Some(&self.whys),
+            Kind::Start | Kind::FinishingStart | Kind::Why => Some(&self.rules[kind as usize]),
             _ => None,
         }
     }
@@ -203,9 +232,10 @@ impl Counts {
             f,
             "rule             start finishing start   start refused (23, 24), finishing start"
         )?;
+        let starts = &self.rules[Kind::Start as usize];
+        let finishing = &self.rules[Kind::FinishingStart as usize];
         for rule in 1..=18 {
             let name = format!("R{rule}");
-            let (starts, finishing) = (&self.starts, &self.finishing);
             write!(
                 f,
                 "{name:<7} {:>14} {:>15}",

@@ -4,7 +4,8 @@
 //! - `stored`: sessions as the static library stores them
 //! - `call`: a call with its arguments, made by either of the two
 //! - `check`: makes a call by both and compares all that they give
-//! - `counts`: how often each call was made, each refusal and rule came up
+//! - `counts`: how often each call was made, each refusal and rule came up, and
+//!   how many screens were closed
 //! - `sessions`, `damage`: random good and bad tables, sessions and images
 //! - `starts`: random screens and flag words
 //! - `run`: options and endings of the comparing programs

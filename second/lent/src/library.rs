@@ -3,7 +3,10 @@
 
 use crate::stored::Stored;
 
-/// What a call answers: the paper's six numbers.
+/// The number of the interface that is declared here.
+const ABI: u32 = 2;
+
+/// What a call answers: seven numbers.
 #[repr(C)]
 #[derive(Clone, Copy)]
 pub struct Answer {
@@ -13,6 +16,7 @@ pub struct Answer {
     height: u8,
     tasks: u8,
     main: u8,
+    closed: u8,
 }
 
 /// What save gives: the refusal's number, or 0, and the image's length.
@@ -35,6 +39,8 @@ pub struct Reason {
 }
 
 extern "C" {
+    fn milchkompass_abi() -> u32;
+
     fn milchkompass_launch(table: *const u8, table_length: usize, session: *mut Stored) -> Answer;
 
     fn milchkompass_start(
@@ -83,8 +89,8 @@ extern "C" {
 }
 
 impl Answer {
-    /// The six numbers in the paper's order.
-    fn numbers(self) -> [u8; 6] {
+    /// The seven numbers in their order.
+    fn numbers(self) -> [u8; 7] {
         [
             self.refusal,
             self.screen,
@@ -92,35 +98,43 @@ impl Answer {
             self.height,
             self.tasks,
             self.main,
+            self.closed,
         ]
     }
+}
+
+/// Ends the program if the library does not have the interface that is declared
+/// here: then no other call may be made.
+pub fn expect_abi() {
+    let abi = unsafe { milchkompass_abi() };
+    assert!(abi == ABI, "the library's interface is {abi} and not {ABI}");
 }
 
 // In each function below the pointers and lengths are those of whole slices and
 // of one session, and the library keeps none of them.
 
-pub fn launch(table: &[u8], session: &mut Stored) -> [u8; 6] {
+pub fn launch(table: &[u8], session: &mut Stored) -> [u8; 7] {
     unsafe { milchkompass_launch(table.as_ptr(), table.len(), session) }.numbers()
 }
 
-pub fn start(table: &[u8], session: &mut Stored, screen: u8, flags: u32) -> [u8; 6] {
+pub fn start(table: &[u8], session: &mut Stored, screen: u8, flags: u32) -> [u8; 7] {
     unsafe { milchkompass_start(table.as_ptr(), table.len(), session, screen, flags) }.numbers()
 }
 
-pub fn finishing_start(table: &[u8], session: &mut Stored, screen: u8, flags: u32) -> [u8; 6] {
+pub fn finishing_start(table: &[u8], session: &mut Stored, screen: u8, flags: u32) -> [u8; 7] {
     unsafe { milchkompass_finish_start(table.as_ptr(), table.len(), session, screen, flags) }
         .numbers()
 }
 
-pub fn back(table: &[u8], session: &mut Stored) -> [u8; 6] {
+pub fn back(table: &[u8], session: &mut Stored) -> [u8; 7] {
     unsafe { milchkompass_back(table.as_ptr(), table.len(), session) }.numbers()
 }
 
-pub fn look(table: &[u8], session: &mut Stored) -> [u8; 6] {
+pub fn look(table: &[u8], session: &mut Stored) -> [u8; 7] {
     unsafe { milchkompass_look(table.as_ptr(), table.len(), session) }.numbers()
 }
 
-pub fn restore(table: &[u8], session: &mut Stored, image: &[u8]) -> [u8; 6] {
+pub fn restore(table: &[u8], session: &mut Stored, image: &[u8]) -> [u8; 7] {
     unsafe {
         milchkompass_restore(
             table.as_ptr(),

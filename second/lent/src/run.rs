@@ -4,6 +4,7 @@ use std::process::ExitCode;
 use std::time::Instant;
 
 use crate::check::{Checked, Checker};
+use crate::library;
 
 /// The numbers given after these options, or what stands here. `None` if the
 /// arguments are not such options.
@@ -14,6 +15,12 @@ pub fn options<const N: usize>(mut known: [(&str, u64); N]) -> Option<[u64; N]> 
         option.1 = arguments.next()?.parse().ok()?;
     }
     Some(known.map(|(_, number)| number))
+}
+
+/// A checker of the library, which has the interface that is declared here.
+pub fn checker() -> Checker {
+    library::expect_abi();
+    Checker::default()
 }
 
 /// Tells what a comparison found; it fails by a difference, and by what did not

@@ -113,9 +113,9 @@ fn played(random: &mut Random, listed: &Listed) -> Session {
         let _ = match kind {
             _ if session.is_empty() => session.launch(table),
             0 => session.back(),
-            1 => session.finishing_start(table, screen, flags).map(drop),
-            2..=5 => session.start(table, screen, 0).map(drop),
-            _ => session.start(table, screen, flags).map(drop),
+            1 => session.finishing_start(table, screen, flags),
+            2..=5 => session.start(table, screen, 0),
+            _ => session.start(table, screen, flags),
         };
     }
     session

@@ -1,7 +1,7 @@
 //! The calls that are made for every seed.
 
 use second::session::{MAX_HEIGHT, MAX_TASKS};
-use second::table::{flag_word, ALL_FLAGS};
+use second::table::{flag_word, ALL_FLAGS, CLEAR_TASK, CLEAR_TOP, NEW_TASK};
 use second::{Session, Task};
 
 use lent_calls::call::Call;
@@ -139,6 +139,33 @@ pub fn starts(checker: &mut Checker) -> Checked {
             }
             for set in 0..64 {
                 check("every set of flags", screen, flag_word(set))?;
+            }
+        }
+    }
+    Ok(())
+}
+
+/// Tasks of each height, cleared and emptied by starts of their root from inside
+/// and from another task, so that each number of screens closes that a rule can
+/// close.
+pub fn heights(checker: &mut Checker) -> Checked {
+    let other = Task::new(0, &[0]);
+    for height in 1..=MAX_HEIGHT {
+        // 3 is single-task and 5 is standard; 0 has another affinity.
+        for screen in [3, 5] {
+            let mut screens = vec![1; height];
+            screens[height - 1] = screen;
+            let high = Task::new(screen, &screens);
+            let inside = vec![high.clone(), other.clone()];
+            let outside = vec![other.clone(), high];
+            for tasks in [inside, outside] {
+                let present = held(&Session { tasks, main: 0 });
+                for flags in [CLEAR_TOP, NEW_TASK | CLEAR_TOP, NEW_TASK | CLEAR_TASK] {
+                    let start = Call::Start { screen, flags };
+                    let finishing = Call::FinishingStart { screen, flags };
+                    checker.check("tasks of each height", &T, &present, start)?;
+                    checker.check("tasks of each height", &T, &present, finishing)?;
+                }
             }
         }
     }

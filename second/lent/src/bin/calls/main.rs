@@ -5,12 +5,13 @@
 //!
 //! First a set that is the same for every seed: sessions bad in each of their
 //! fields, tables bad in each of theirs and of each wrong length, every screen,
-//! flag bit and set of flags. Then calls on random sessions, made from the seed,
-//! until there are as many as asked for.
+//! flag bit and set of flags, tasks of each height. Then calls on random sessions,
+//! made from the seed, until there are as many as asked for.
 //! After each call the whole lent session, the answer, the table, the buffer and
 //! the bytes around them are compared. At the first difference it is printed, and
 //! the exit code is 1. At the end the program prints how often each call was
-//! made, each refusal and each rule came up, and exits with 1 if one never did.
+//! made, each refusal and each rule came up and how many screens were closed, and
+//! exits with 1 if one, or a number that a rule can close, never came up.
 
 mod arguments;
 mod fields;
@@ -32,7 +33,7 @@ fn main() -> ExitCode {
         return ExitCode::from(2);
     };
     let begun = Instant::now();
-    let mut checker = Checker::default();
+    let mut checker = run::checker();
     let found = compare(&mut checker, seed, calls);
     let missing = checker.counts.missing(&Kind::ALL, 1);
     run::end("calls", seed, begun, &checker, found, missing)
@@ -42,6 +43,7 @@ fn compare(checker: &mut Checker, seed: u64, calls: u64) -> Checked {
     fixed::sessions(checker)?;
     fixed::tables(checker)?;
     fixed::starts(checker)?;
+    fixed::heights(checker)?;
     println!("fixed set: {} calls", checker.counts.all_calls());
     let mut random = Random::new(seed);
     while checker.counts.all_calls() < calls {

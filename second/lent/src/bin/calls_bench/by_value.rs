@@ -11,7 +11,7 @@ use second::table::{
     SINGLE_TOP,
 };
 
-type Answer = [u8; 6];
+type Answer = [u8; 7];
 
 struct Reply {
     session: Stored,
@@ -48,7 +48,7 @@ pub fn finishing_start(table: &[u8], session: &mut Stored, b: u8, flags: u32) ->
 
 fn looked(table: &[u8], session: Stored) -> Reply {
     let number = shared_refusal(table, &session);
-    told(number, session)
+    told(number, session, 0)
 }
 
 fn backed(table: &[u8], mut session: Stored) -> Reply {
@@ -56,33 +56,33 @@ fn backed(table: &[u8], mut session: Stored) -> Reply {
     if number == 0 && session.n == 0 {
         number = 21;
     }
+    let mut closed = 0;
     if number == 0 {
-        close(&mut session, 0, 0);
+        closed = close(&mut session, 0, 0);
     }
-    told(number, session)
+    told(number, session, closed)
 }
 
 fn started(table: &[u8], mut session: Stored, b: u8, flags: u32, finishing: bool) -> Reply {
-    let number = match plan(table, &session, b, flags) {
-        Err(number) => number,
-        Ok(plan) => {
-            let front = top(&session.tasks[0]);
-            carry_out(&mut session, b, plan);
-            if finishing {
-                close_mark(&mut session, plan, front == b);
-            }
-            0
-        }
+    let plan = match plan(table, &session, b, flags) {
+        Err(number) => return told(number, session, 0),
+        Ok(plan) => plan,
     };
-    told(number, session)
+    let front = top(&session.tasks[0]);
+    let mut closed = carry_out(&mut session, b, plan);
+    if finishing {
+        closed += close_mark(&mut session, plan, front == b);
+    }
+    told(0, session, closed)
 }
 
-fn told(number: u8, session: Stored) -> Reply {
+fn told(number: u8, session: Stored, closed: u8) -> Reply {
+    let (n, main) = (session.n, session.main);
     let front = &session.tasks[0];
-    let answer = match (number, session.n) {
-        (0, 0) => [0, 0, 0, 0, 0, session.main],
-        (0, n) => [0, top(front), front.root, front.height, n, session.main],
-        _ => [number, 0, 0, 0, 0, 0],
+    let answer = match (number, n) {
+        (0, 0) => [0, 0, 0, 0, 0, main, closed],
+        (0, _) => [0, top(front), front.root, front.height, n, main, closed],
+        _ => [number, 0, 0, 0, 0, 0, 0],
     };
     Reply { session, answer }
 }
@@ -247,7 +247,8 @@ fn rule(table: &[u8], session: &Stored, b: u8, flags: u32) -> Plan {
     }
 }
 
-fn carry_out(session: &mut Stored, b: u8, plan: Plan) {
+/// Carries out a plan; gives how many screens close.
+fn carry_out(session: &mut Stored, b: u8, plan: Plan) -> u8 {
     let n = usize::from(session.n);
     match plan {
         Plan::New => {
@@ -255,6 +256,7 @@ fn carry_out(session: &mut Stored, b: u8, plan: Plan) {
             session.tasks[0] = renewed(b, b);
             session.n += 1;
             session.main += u8::from(session.main != 0);
+            0
         }
         Plan::Move(i, change) => {
             let task = session.tasks[i];
@@ -265,7 +267,7 @@ fn carry_out(session: &mut Stored, b: u8, plan: Plan) {
                 main if main != 0 && main <= i => session.main + 1,
                 _ => session.main,
             };
-            change_screens(&mut session.tasks[0], b, change);
+            change_screens(&mut session.tasks[0], b, change)
         }
     }
 }
@@ -280,10 +282,14 @@ fn renewed(root: u8, b: u8) -> StoredTask {
     }
 }
 
-fn change_screens(task: &mut StoredTask, b: u8, change: Change) {
+/// Changes the screens of a task; gives how many close.
+fn change_screens(task: &mut StoredTask, b: u8, change: Change) -> u8 {
     let height = usize::from(task.height);
     match (change, topmost(task, b)) {
-        (Change::Renew, _) => *task = renewed(task.root, b),
+        (Change::Renew, _) => {
+            *task = renewed(task.root, b);
+            return height as u8;
+        }
         (Change::Push, _) => {
             task.screens[height] = b;
             task.height += 1;
@@ -291,6 +297,7 @@ fn change_screens(task: &mut StoredTask, b: u8, change: Change) {
         (Change::Clear, Some(at)) => {
             task.screens[at + 1..height].fill(0);
             task.height = at as u8 + 1;
+            return (height - 1 - at) as u8;
         }
         (Change::Lift, Some(at)) => {
             task.screens.copy_within(at + 1..height, at);
@@ -298,23 +305,26 @@ fn change_screens(task: &mut StoredTask, b: u8, change: Change) {
         }
         _ => {}
     }
+    0
 }
 
 // ---- closing
 
-/// The screen that was in front closes where it stands after the plan.
-fn close_mark(session: &mut Stored, plan: Plan, same: bool) {
+/// The screen that was in front closes where it stands after the plan; gives
+/// how many close.
+fn close_mark(session: &mut Stored, plan: Plan, same: bool) -> u8 {
     match plan {
         Plan::Move(0, Change::Keep) => close(session, 0, 0),
         Plan::Move(0, Change::Clear | Change::Lift) if same => close(session, 0, 0),
         Plan::Move(0, Change::Lift | Change::Push) => close(session, 0, 1),
-        Plan::Move(0, _) => {}
+        Plan::Move(0, _) => 0,
         _ => close(session, 1, 0),
     }
 }
 
-/// The screen below so many others of the task at i goes, and a task left empty.
-fn close(session: &mut Stored, i: usize, below: usize) {
+/// The screen below so many others of the task at i goes, and a task left empty;
+/// gives that one closes.
+fn close(session: &mut Stored, i: usize, below: usize) -> u8 {
     let task = &mut session.tasks[i];
     let height = usize::from(task.height);
     if height > 1 {
@@ -322,7 +332,7 @@ fn close(session: &mut Stored, i: usize, below: usize) {
         task.screens.copy_within(at + 1..height, at);
         task.screens[height - 1] = 0;
         task.height -= 1;
-        return;
+        return 1;
     }
     let n = usize::from(session.n);
     session.tasks.copy_within(i + 1..n, i);
@@ -333,4 +343,5 @@ fn close(session: &mut Stored, i: usize, below: usize) {
         main if main > i + 1 => session.main - 1,
         _ => session.main,
     };
+    1
 }

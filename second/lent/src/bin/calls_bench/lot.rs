@@ -129,7 +129,7 @@ pub fn measured_second(lot: &Lot, sessions: &mut [Session]) {
     black_box(buffer);
 }
 
-fn made_by_value(call: Call, session: &mut Stored) -> [u8; 6] {
+fn made_by_value(call: Call, session: &mut Stored) -> [u8; 7] {
     match call {
         Call::Start { screen, flags } => by_value::start(&T, session, screen, flags),
         Call::FinishingStart { screen, flags } => {

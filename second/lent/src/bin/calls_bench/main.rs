@@ -19,10 +19,13 @@ mod turns;
 
 use std::process::ExitCode;
 
+use lent_calls::library;
+
 use lot::Lot;
 use sizes::Size;
 
 fn main() -> ExitCode {
+    library::expect_abi();
     let arguments: Vec<String> = std::env::args().skip(1).collect();
     let arguments: Vec<&str> = arguments.iter().map(String::as_str).collect();
     match arguments[..] {

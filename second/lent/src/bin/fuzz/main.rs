@@ -41,7 +41,7 @@ fn main() -> ExitCode {
     fault::watch();
     let begun = Instant::now();
     let end = begun + Duration::from_secs(seconds);
-    let mut checker = Checker::default();
+    let mut checker = run::checker();
     let found = fuzz(&mut checker, seed, end, calls);
     run::end("fuzz", seed, begun, &checker, found, Vec::new())
 }

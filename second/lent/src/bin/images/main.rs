@@ -26,7 +26,7 @@ fn main() -> ExitCode {
         return ExitCode::from(2);
     };
     let begun = Instant::now();
-    let mut checker = Checker::default();
+    let mut checker = run::checker();
     let found = compare(&mut checker, seed, images);
     let missing = checker.counts.missing(&[Kind::Save, Kind::Restore], 1);
     run::end("images", seed, begun, &checker, found, missing)

@@ -31,7 +31,7 @@ fn main() -> ExitCode {
         return ExitCode::from(2);
     };
     let begun = Instant::now();
-    let mut checker = Checker::default();
+    let mut checker = run::checker();
     let found = compare(&mut checker, seed, reasons);
     let missing = checker.counts.missing(&[Kind::Why], EACH_RULE);
     run::end("reasons", seed, begun, &checker, found, missing)
