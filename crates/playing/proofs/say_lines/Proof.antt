@@ -1,12 +1,14 @@
 -- All lines of the block have room.
+use Prim.Native.Nat.{_*_}
 use mathlib.Core.Path.{refl, sym, _∙_, ap}
 use mathlib.Core.List.{List}
 use lib.ListN.{replicate}
 use lib.Seq.{length-take-le}
 use borrow.Author.Needs.{needs}
-use Rattle.model.specs.Player.{Record, sessionAfter}
+use Rattle.model.specs.Player.{Record, sessionAfter, longestLine}
 use Rattle.session.specs.Stored.{view, hold}
 use Rattle.play.proofs.BlockLaws.{fitting-all}
+use Rattle.playing.specs.Turns.{mostRecords}
 use Rattle.playing.proofs.Room.{lines-fit}
 use Rattle.playing.proofs.say_lines.Statement.{statement}
 use Rattle.playing.proofs.say_lines.Tie as tie
@@ -25,7 +27,7 @@ returns c =
     let play = c .before .before .before .before in
     let start = play .before .before .before .before in
     let a = start .args in
-    let fit = fitting-all (a .block .now) (replicate 280000 0) (lines-fit (start .pre .1) (slice-aggregate-play (play .before)) refl) in
+    let fit = fitting-all (a .block .now) (replicate (longestLine * mostRecords) 0) (lines-fit (start .pre .1) (slice-aggregate-play (play .before)) refl) in
     record {
       played = play .play .ensures .0 ∙ ap (λ (rs : List Record). hold (sessionAfter (a .table .now) (view (a .s)) rs)) fit;
       keeps = play .play .ensures .1 .1 .1 .1 .0;
