@@ -221,7 +221,7 @@ module _ (tb : List ℕ) (c : Session) (z : Sized c) (b w : ℕ) (fin : Bool) wh
       go false = refl
 
   -- its own refusal: at its entry, or for want of room
-  start-number : Ready tb c → orElse entry roomOf ≡ refusal (ownChecks tb (view c) does)
+  pub start-number : Ready tb c → orElse entry roomOf ≡ refusal (ownChecks tb (view c) does)
   start-number h = go entry refl ∙ sym (ap refusal (own-checks ∙ start-split c z (sound-blank tb c (h .sound)) tb b w))
     where
       go : (n : ℕ) → entry ≡ n → orElse n roomOf ≡ refusal (startEntry tb (c .n) b w ++ roomChecks (chosen tb (view c) b w) (view c))

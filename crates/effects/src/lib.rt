@@ -9,6 +9,7 @@ ghost use Rattle.model.specs.Session.{stack, mostTasks, mostHeight};
 ghost use Rattle.model.specs.declared.Change.{Change};
 ghost use Rattle.model.specs.declared.Effect.{Effect};
 ghost use Rattle.model.specs.Effects.{mainMoved};
+ghost use Rattle.model.specs.Counts.{createdIn, createdBy};
 ghost use Rattle.session.specs.Stored.{holdTask, withScreens, blankAbove};
 ghost use Rattle.effects.specs.Carriable.{Placed, Alterable, Changeable};
 ghost use Rattle.effects.specs.Fronted.{placeIn, clearedTask, baseOf, changedTask, closedWith, shiftOf, changeOf, placeFor, rootAfter, frontAfter, closedFor, countAfter, mainAfter};
@@ -250,5 +251,28 @@ pub fn main_after(effect: Effect, place: u8, main: u8) -> u8
         Effect::New => main_further(main),
         Effect::InFront(_) => main,
         Effect::MoveAnd(_) => main_moved(place, main),
+    }
+}
+
+// ---- screens created
+
+// How many screens a change creates: one by a push, also by that onto an emptied task.
+fn created_in(change: Change) -> u8
+    ensures { λ r. ⌜ r ≡ createdIn change ⌝ }
+{
+    match change {
+        Change::Renew | Change::Push => 1,
+        Change::Keep | Change::Clear | Change::Lift => 0,
+    }
+}
+
+// How many screens an effect creates.
+pub fn created_by(effect: Effect) -> u8
+    ensures { λ r. ⌜ r ≡ createdBy effect ⌝ }
+{
+    match effect {
+        Effect::New => 1,
+        Effect::InFront(change) => created_in(change),
+        Effect::MoveAnd(change) => created_in(change),
     }
 }

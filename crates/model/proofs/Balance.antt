@@ -1,12 +1,12 @@
 -- Screens created less those closed are the screens standing, along every list of calls without restores from a fresh session:
 -- of an effect, of the marked screen, of a call, of a list.
-use Prim.Native.Nat.{ℕ, zero, suc, pred, _+_, _≤_}
-use mathlib.Core.Path.{_≡_, refl}
-use mathlib.Core.Bool.{true, not}
+use Prim.Native.Nat.{ℕ, zero, suc, pred, _+_, _-_, _≤_}
+use mathlib.Core.Path.{_≡_, refl, ap}
+use mathlib.Core.Bool.{true, not, _&&_}
 use mathlib.Core.List.{List, [], _∷_}
 use native.Mathlib.Omega.{arith}
-use lib.Dec.{eqb}
-use lib.ListN.{length, length-drop}
+use lib.Dec.{leb, eqb}
+use lib.ListN.{length, take, drop, length-take, length-drop, length-append, take-append-drop}
 use borrow.Author.Tests.{not-false}
 use Rattle.model.specs.declared.Change.{Change}
 use Rattle.model.specs.declared.Effect.{Effect}
@@ -14,17 +14,18 @@ use Rattle.model.specs.declared.Mark.{Mark}
 use Rattle.model.specs.Lists.{if_then_else_, isEmpty, find, omit, sumOf, All}
 use Rattle.model.specs.Refusals.{refusal}
 use Rattle.model.specs.Table.{tableRefusal}
-use Rattle.model.specs.Session.{Stack, State, noStack, taskAt, front, height, count, screensIn, fresh}
+use Rattle.model.specs.Session.{Stack, State, stack, noStack, taskAt, front, height, count, screensIn, fresh, mostHeight}
 use Rattle.model.specs.Flags.{flagsOf}
 use Rattle.model.specs.Search.{placeOf, holds}
 use Rattle.model.specs.Effects.{effectOf, changed, carryOut}
 use Rattle.model.specs.Counts.{createdIn, createdBy, closedIn, closedBy}
 use Rattle.model.specs.Answers.{outcome, settle}
-use Rattle.model.specs.Calls.{Call, launch, start, finishingStart, back, look, restore, chosen, startedBy, started, finishedBy, finished, launched, backed, ownChecks, createdByChoice, closedByChoice, closedByFinish, createdOf, closedOf, done, answerTo, call}
+use Rattle.model.specs.Image.{Reading, unreadable, readAs, readMore, readTasks, tasksRead, countIn, bodyIn, sessionIn}
+use Rattle.model.specs.Calls.{Call, launch, start, finishingStart, back, look, restore, chosen, startedBy, started, finishedBy, finished, launched, backed, ownChecks, createdByChoice, closedByChoice, closedByFinish, createdOf, closedOf, done, refusalOf, answerTo, call}
 use Rattle.model.specs.Marks.{closeAt, closedAt, Stands}
 use Rattle.model.specs.Histories.{byRules, IsNoRestore}
 use Rattle.model.specs.Balance.{countBy, created, ScreensBalance}
-use Rattle.model.proofs.Logic.{All-at, contradiction}
+use Rattle.model.proofs.Logic.{if-elim, All-at, contradiction}
 use Rattle.model.proofs.ListLaws.{isEmpty-length, omit-length, toFront-length, found-at}
 use Rattle.model.proofs.RefusalLaws.{refusal-skip}
 use Rattle.model.proofs.Measures.{measure, carry-measure, close-measure}
@@ -36,7 +37,7 @@ use Rattle.model.proofs.Keeps.{refusal-own, settled, fresh-sound, call-
 use Rattle.model.proofs.HistoryLaws.{sum-answers, along-measure}
 
 -- the screens standing: the measure whose weight of a task is its height
-abbrev standing : State ℕ → ℕ
+abbrev pub standing : State ℕ → ℕ
 standing s = measure height s
 
 -- ---- an effect
@@ -112,6 +113,64 @@ module _ (tb : List ℕ) (s : State ℕ) (h : Sound tb s) where
   done-standing look made e = refl
   done-standing (restore bytes) made e = absurd made
 
+-- ---- what a call may bring
+
+-- at most one screen, or by a restore those of the image, a byte each
+abbrev pub mostBrought : Call → ℕ
+mostBrought launch = 1
+mostBrought (start b w) = 1
+mostBrought (finishingStart b w) = 1
+mostBrought back = 1
+mostBrought look = 1
+mostBrought (restore bytes) = length bytes
+
+created-change : (c : Change) → createdIn c ≤ 1
+unfolding createdIn
+created-change Change.Keep = omega arith
+created-change Change.Renew = omega arith
+created-change Change.Clear = omega arith
+created-change Change.Lift = omega arith
+created-change Change.Push = omega arith
+
+created-effect : (d : Effect) → createdBy d ≤ 1
+unfolding createdBy
+created-effect Effect.New = omega arith
+created-effect (Effect.InFront c) = created-change c
+created-effect (Effect.MoveAnd c) = created-change c
+
+created-one : (tb : List ℕ) (s : State ℕ) (c : Call) → createdOf tb s c ≤ 1
+unfolding createdOf
+created-one tb s launch = omega arith
+created-one tb s (start b w) = created-effect (effectOf (chosen tb s b w .rule))
+created-one tb s (finishingStart b w) = created-effect (effectOf (chosen tb s b w .rule))
+created-one tb s back = omega arith
+created-one tb s look = omega arith
+created-one tb s (restore bytes) = omega arith
+
+-- the tasks read from a body have no more screens than it has bytes
+read-screens : (n : ℕ) (l : List ℕ) → sumOf height (tasksRead (readTasks n l)) ≤ length l
+unfolding readTasks
+read-screens zero [] = omega arith
+read-screens zero (x ∷ l) = omega arith
+read-screens (suc n) [] = omega arith
+read-screens (suc n) (r ∷ []) = omega arith
+read-screens (suc n) (r ∷ h ∷ l) =
+    if-elim (λ q. sumOf height (tasksRead q) ≤ suc (suc (length l))) (leb 1 h && (leb h mostHeight && leb h (length l))) _ _
+    (λ e. more (readTasks n (drop h l)) (read-screens n (drop h l))) (λ e. omega arith)
+  where
+    more : (q : Reading) → sumOf height (tasksRead q) ≤ length (drop h l)
+        → sumOf height (tasksRead (readMore (stack r (take h l)) q)) ≤ suc (suc (length l))
+    more unreadable f = omega arith
+    more (readAs ts) f = omega (arith, f, ap length (take-append-drop h l), length-append (take h l) (drop h l))
+
+restored-standing : (tb : List ℕ) (s : State ℕ) (bytes : List ℕ)
+    → standing (done tb s (restore bytes)) + closedOf tb s (restore bytes) ≤ standing s + length bytes
+unfolding done closedOf sessionIn
+restored-standing tb s bytes =
+    let f = read-screens (countIn bytes) (bodyIn bytes) in
+    let g = length-take (length bytes - 6) bytes in
+    omega (arith, f, g)
+
 module _ (tb : List ℕ) (ok : tableRefusal tb ≡ 0) where
   -- a refused call adds nothing to either
   call-standing : (s : State ℕ) → Sound tb s → (c : Call) → IsNoRestore c
@@ -123,6 +182,29 @@ module _ (tb : List ℕ) (ok : tableRefusal tb ≡ 0) where
           standing (o .session) + o .answer .closed ≡ standing s + countBy n (createdOf tb s c)
       go zero e = done-standing tb s h c made e
       go (suc k) e = refl
+
+  -- ---- bounds: what a call creates, and what it leaves and closes
+
+  pub created-most : (s : State ℕ) (c : Call) → created tb s c ≤ 1
+  created-most s c = go (refusalOf tb s c)
+    where
+      go : (n : ℕ) → countBy n (createdOf tb s c) ≤ 1
+      go zero = created-one tb s c
+      go (suc k) = omega arith
+
+  pub call-most : (s : State ℕ) → Sound tb s → (c : Call)
+      → standing (call tb s c .session) + call tb s c .answer .closed ≤ standing s + mostBrought c
+  call-most s h launch = omega (arith, call-standing s h launch tt, created-most s launch)
+  call-most s h (start b w) = omega (arith, call-standing s h (start b w) tt, created-most s (start b w))
+  call-most s h (finishingStart b w) = omega (arith, call-standing s h (finishingStart b w) tt, created-most s (finishingStart b w))
+  call-most s h back = omega (arith, call-standing s h back tt, created-most s back)
+  call-most s h look = omega (arith, call-standing s h look tt, created-most s look)
+  call-most s h (restore bytes) = rw (settled tb ok s h (restore bytes)) (go (refusal (ownChecks tb s (restore bytes))))
+    where
+      go : (n : ℕ) → let o = settle outcome n s (done tb s (restore bytes)) (answerTo tb s (restore bytes)) in
+          standing (o .session) + o .answer .closed ≤ standing s + length bytes
+      go zero = restored-standing tb s bytes
+      go (suc k) = omega arith
 
   -- ---- a list
 

@@ -17,6 +17,12 @@ module _ {S C A : Type 0} (m : Machine S C A) where
   answers-append [] ds s = refl
   answers-append (c ∷ cs) ds s = ap (λ (l : List A). m .answer s c ∷ l) (answers-append cs ds (m .next s c))
 
+  pub along-append : (weight : S → C → ℕ) (cs ds : List C) (s : S)
+      → along m weight s (cs ++ ds) ≡ along m weight s cs + along m weight (after m s cs) ds
+  unfolding after along
+  along-append weight [] ds s = omega arith
+  along-append weight (c ∷ cs) ds s = omega (arith, along-append weight cs ds (m .next s c))
+
   -- a sum over the answers is one along the list
   pub sum-answers : (weight : A → ℕ) (cs : List C) (s : S)
       → sumOf weight (answers m s cs) ≡ along m (λ u c. weight (m .answer u c)) s cs

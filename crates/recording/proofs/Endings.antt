@@ -8,7 +8,7 @@ use native.Mathlib.Omega.{arith}
 use lib.ListN.{length}
 use borrow.Author.Tests.{ne-eqb}
 use Rattle.model.specs.Table.{tableRefusal}
-use Rattle.model.specs.Session.{fresh}
+use Rattle.model.specs.Session.{fresh, screensIn}
 use Rattle.model.specs.Image.{image, longestImage}
 use Rattle.model.specs.Promises.{Lifelong}
 use Rattle.model.proofs.Sound.{Sound}
@@ -27,6 +27,10 @@ use Rattle.recording.proofs.EveryList.{every-list}
 
 pub fresh-stored : (tb : List ℕ) → soundStored tb freshSession ≡ true
 fresh-stored tb = rw (← fresh-held) (hold-sound tb fresh (fresh-sound tb))
+
+pub fresh-screens : screensIn (view freshSession .tasks) ≡ 0
+unfolding screensIn
+fresh-screens = rw (← fresh-held, view-hold fresh)
 
 module _ (tb : List ℕ) (ok : tableRefusal tb ≡ 0) where
   ending-sound : (bytes : List ℕ) → Sound tb (ending tb bytes)

@@ -1,3 +1,4 @@
 pub mod CallBytes
+pub mod Counts
 pub mod Replay
 pub mod Ignored

@@ -1,22 +1,25 @@
 // Lists of calls, given as bytes: the session after a whole list, and whether two lists end in sessions that no later list
 // tells apart. The table is checked once, and the session not at all: each call leaves it sound.
 
-ghost use Prim.Native.Nat.{_≤_};
+ghost use Prim.Native.Nat.{_-_, _≤_};
 ghost use mathlib.Core.Path.{_≡_};
 ghost use mathlib.Core.Logic.{_↔_};
 ghost use mathlib.Core.Bool.{true, false};
 ghost use lib.ListN.{length, drop};
+ghost use Rattle.model.specs.Lists.{All};
 ghost use Rattle.model.specs.Table.{tableRefusal};
+ghost use Rattle.model.specs.Session.{screensIn};
 ghost use Rattle.model.specs.Image.{image, longestImage};
-ghost use Rattle.model.specs.Histories.{after};
+ghost use Rattle.model.specs.Histories.{IsNoRestore};
 ghost use Rattle.model.specs.Promises.{Lifelong};
 ghost use Rattle.session.specs.Stored.{view, storageBlank, soundStored, Ready};
-ghost use Rattle.calls.specs.StoredCalls.{byProgram};
 ghost use Rattle.navigator.specs.Promise3.{reached, KeepsPromise3};
 ghost use Rattle.notes.specs.Places.{Tells};
 ghost use Rattle.recording.specs.CallBytes.{imageLength, callOf, callsIn};
+ghost use Rattle.recording.specs.Counts.{replyTo, CreatesFor, Counts, CountsScreens};
 ghost use Rattle.recording.specs.Ignored.{ignoredFrom};
 ghost use Rattle.recording.specs.Replay.{replayed, EveryList, EndAlike, TellsImages};
+use calls::Reply;
 use notes::Notes;
 use session::Session;
 
@@ -33,28 +36,61 @@ fn image_length(kind: u8, word: u32) -> usize
     0
 }
 
-// The session after the call of one whole record, with the image that follows it. An unknown kind is no call.
-fn after_record(table: &[u8], s: Session, kind: u8, b: u8, word: u32, image: &[u8]) -> Session
+// What the call of one whole record gives, with the image that follows it. An unknown kind is no call.
+fn reply_to(table: &[u8], s: Session, kind: u8, b: u8, word: u32, image: &[u8]) -> Reply
     requires { ⌜ Ready (now table) s ⌝ }
-    ensures { λ r. ⌜ r ≡ after (byProgram (now (table .entry))) s (callOf kind b word (now (image .entry))) ⌝ }
+    ensures { λ r. ⌜ r ≡ replyTo (now (table .entry)) s (callOf kind b word (now (image .entry))) ⌝ }
 {
     match kind {
-        1 => calls::launch(table, s, 0).session,
-        2 => calls::start(table, s, b, word, 0).session,
-        3 => calls::finish_start(table, s, b, word, 0).session,
-        4 => calls::back(table, s, 0).session,
-        5 => calls::look(table, s, 0).session,
-        6 => image_calls::restore(table, s, image, 0).session,
-        _ => s,
+        1 => calls::launch(table, s, 0),
+        2 => calls::start(table, s, b, word, 0),
+        3 => calls::finish_start(table, s, b, word, 0),
+        4 => calls::back(table, s, 0),
+        5 => calls::look(table, s, 0),
+        6 => image_calls::restore(table, s, image, 0),
+        _ => calls::refuse(s, 9),
     }
 }
 
-// The session after a list of calls, made one after the other.
-fn after_calls(table: &[u8], begun: Session, calls: &[u8]) -> Session
-    requires { ⌜ Ready (now table) begun ⌝ }
-    ensures { λ r. ⌜ r ≡ after (byProgram (now (table .entry))) begun (callsIn (now (calls .entry))) ⌝ }
+// How many screens the call of a record creates.
+fn created_in(table: &[u8], s: Session, kind: u8, b: u8, word: u32) -> u8
+    requires { ⌜ Ready (now table) s ⌝ }
+    ensures { λ r. ⌜ CreatesFor (now (table .entry)) (view s) kind b word r ⌝ }
+{
+    match kind {
+        1 => {
+            if s.n == 0 {
+                return 1;
+            }
+            0
+        }
+        2 => starts::created(table, s, b, word),
+        3 => starts::created(table, s, b, word),
+        _ => 0,
+    }
+}
+
+fn wide(x: u8) -> u64
+    ensures { λ r. ⌜ r ≡ x ⌝ }
+{
+    x as u64
+}
+
+// The session after a list of calls, made one after the other, and the screens that they created and closed. No more screens
+// are closed than the list has bytes: each is created by a record, or a byte of an image.
+struct Counted {
+    session: Session,
+    created: u64,
+    closed: u64,
+}
+
+fn after_calls(table: &[u8], begun: Session, calls: &[u8]) -> Counted
+    requires { ⌜ Ready (now table) begun × (screensIn (view begun .tasks) ≡ 0) ⌝ }
+    ensures { λ r. ⌜ Counts (now (table .entry)) begun (callsIn (now (calls .entry))) r ⌝ }
 {
     let mut s = begun;
+    let mut created: u64 = 0;
+    let mut closed: u64 = 0;
     let mut p: usize = 0;
     while calls.len() - p >= 6 {
         let kind = calls[p];
@@ -63,12 +99,24 @@ fn after_calls(table: &[u8], begun: Session, calls: &[u8]) -> Session
         let from = p + 6;
         let n = image_length(kind, word);
         if n > calls.len() - from {
-            return s;
+            return Counted {
+                session: s,
+                created: created,
+                closed: closed,
+            };
         }
         p = from + n;
-        s = after_record(table, s, kind, b, word, &calls[from..p]);
+        created += wide(created_in(table, s, kind, b, word));
+        let reply = reply_to(table, s, kind, b, word, &calls[from..p]);
+        let answer = reply.answer;
+        closed += wide(answer.closed);
+        s = reply.session;
     }
-    s
+    Counted {
+        session: s,
+        created: created,
+        closed: closed,
+    }
 }
 
 // What a list of calls leaves: the refusal of the table (0 if none), and the session.
@@ -97,11 +145,70 @@ pub fn replay(table: &[u8], calls: &[u8]) -> Replayed
             session: fresh,
         };
     }
+    let done = after_calls(table, fresh, calls);
+    let s = done.session;
     Replayed {
         refusal: 0,
-        session: after_calls(table, fresh, calls),
+        session: s,
     }
 }
+
+// ---- screens
+
+// How many screens stand in a session.
+fn standing(s: Session) -> u64
+    requires { ⌜ storageBlank s ≡ true ⌝ }
+    ensures { λ r. ⌜ r ≡ screensIn (view s .tasks) ⌝ }
+{
+    let mut total: u64 = 0;
+    let mut i: u8 = 0;
+    while i < s.n {
+        let k = i as usize;
+        let t = s.tasks[k];
+        total += wide(t.height);
+        i += 1;
+    }
+    total
+}
+
+// What a list of calls did to screens: the refusal of the table (0 if none), the screens created and closed along it, and those
+// standing after it.
+#[repr(C)]
+pub struct Screens {
+    pub refusal: u8,
+    pub created: u64,
+    pub closed: u64,
+    pub standing: u64,
+}
+
+// Makes a whole list of calls, from a fresh session, and counts. Without a restore among them, the screens created less those
+// closed are the ones standing.
+pub fn count_screens(table: &[u8], calls: &[u8]) -> Screens
+    ensures refusal { λ r. ⌜ r .refusal ≡ tableRefusal (now (table .entry)) ⌝ }
+    ensures counts { λ r. ⌜ (tableRefusal (now (table .entry)) ≡ 0 → CountsScreens (now (table .entry)) (callsIn (now (calls .entry))) r) ⌝ }
+    ensures refused { λ r. ⌜ ((tableRefusal (now (table .entry)) ≡ 0 → ⊥) → (r .created ≡ 0) × (r .closed ≡ 0) × (r .standing ≡ 0)) ⌝ }
+    ensures balance { λ r. ⌜ (All IsNoRestore (callsIn (now (calls .entry))) → (r .closed ≤ r .created) × (r .created - r .closed ≡ r .standing)) ⌝ }
+{
+    let number = table::refusal(table);
+    if number != 0 {
+        return Screens {
+            refusal: number,
+            created: 0,
+            closed: 0,
+            standing: 0,
+        };
+    }
+    let done = after_calls(table, Session::fresh(), calls);
+    let s = done.session;
+    Screens {
+        refusal: 0,
+        created: done.created,
+        closed: done.closed,
+        standing: standing(s),
+    }
+}
+
+// ---- two lists
 
 // Two sessions have equal images: the same length and the same bytes.
 fn same_image(s: Session, t: Session) -> bool

@@ -9,6 +9,7 @@ use Rattle.model.specs.Refusals.{refusal}
 use Rattle.model.specs.Session.{mostTasks}
 use Rattle.model.specs.Flags.{flagsOf}
 use Rattle.model.specs.Rules.{choose}
+use Rattle.model.specs.Balance.{countBy}
 use Rattle.session.specs.declared.Session.{Session}
 use Rattle.session.specs.declared.Task.{Task}
 use Rattle.session.specs.Stored.{view, Ready, taskBehind}
@@ -90,6 +91,24 @@ unless-passed k c p e = rw e
 -- by a number that was found
 pub unless-found : {n k : ℕ} (c : Session) (p : Plan) → n ≡ k → (n ≡ 0 → ⊥) → stillOf c n ≡ planUnless k c p
 unless-found {n} {k} c p e f = rw e (unless-refused k c p (λ z. f (e ∙ z)))
+
+-- ---- counted: nothing where one of two refusals is not 0
+
+pub counted-first : (j k n : ℕ) → (j ≡ 0 → ⊥) → 0 ≡ countBy (orElse j k) n
+counted-first zero k n f = absurd (f refl)
+counted-first (suc j) k n f = refl
+
+pub counted-second : (j k n : ℕ) → j ≡ 0 → (k ≡ 0 → ⊥) → 0 ≡ countBy (orElse j k) n
+counted-second j k n e f = rw e (counted-first k 0 n f ∙ ap (λ (i : ℕ). countBy i n) (only k))
+  where
+    only : (i : ℕ) → orElse i 0 ≡ i
+    only zero = refl
+    only (suc i) = refl
+
+pub counted-all : (j k n : ℕ) → j ≡ 0 → k ≡ 0 → n ≡ countBy (orElse j k) n
+counted-all j k n e f = rw (e, f)
+
+-- ---- planned, by what was chosen
 
 module _ (tb : List ℕ) (c : Session) (b w k : ℕ) (passed : k ≡ 0) (fin : Bool) where
   -- refused for want of room

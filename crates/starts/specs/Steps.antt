@@ -16,8 +16,9 @@ use Rattle.model.specs.Flags.{flagsOf}
 use Rattle.model.specs.Search.{placeOf}
 use Rattle.model.specs.Rules.{groupOf, soughtBy, choose}
 use Rattle.model.specs.Effects.{effectOf}
-use Rattle.model.specs.Calls.{startedBy, finishedBy, closedByChoice, closedByFinish}
+use Rattle.model.specs.Calls.{startedBy, finishedBy, createdByChoice, closedByChoice, closedByFinish}
 use Rattle.model.specs.Marks.{markAfter}
+use Rattle.model.specs.Balance.{countBy}
 use Rattle.session.specs.declared.Session.{Session}
 use Rattle.session.specs.declared.Task.{Task}
 use Rattle.session.specs.Stored.{view, viewTask, taskBehind}
@@ -135,3 +136,8 @@ made false tb c b f = startedBy (choose tb (view c) b f) b (view c)
 abbrev pub madeClosed : Bool → List ℕ → Session → ℕ → Flags → ℕ
 madeClosed true tb c b f = closedByFinish (choose tb (view c) b f) b (view c)
 madeClosed false tb c b f = closedByChoice (choose tb (view c) b f) b (view c)
+
+-- the screens that a start, or a finishing one, creates: none where it is refused at its entry or for want of room
+abbrev pub createdStored : List ℕ → Session → ℕ → ℕ → ℕ
+createdStored tb c b w =
+    countBy (orElse (refusal (startEntry tb (c .n) b w)) (roomRefusal tb c b (flagsOf w))) (createdByChoice (choose tb (view c) b (flagsOf w)))

@@ -8,7 +8,7 @@ ghost use Rattle.model.specs.Refusals.{refusal as refusalOf};
 ghost use Rattle.session.specs.Stored.{Ready, taskBehind};
 ghost use Rattle.rules.specs.Startable.{Startable};
 ghost use Rattle.starts.specs.Checks.{startEntry};
-ghost use Rattle.starts.specs.Steps.{noneSought, Seeks, SoughtFrom, Chooses, markIf, Plannable, startPlan, Planned, planStored, ruleStored};
+ghost use Rattle.starts.specs.Steps.{noneSought, Seeks, SoughtFrom, Chooses, markIf, Plannable, startPlan, Planned, planStored, ruleStored, createdStored};
 use model::Effect;
 use model::Flags;
 use model::Found;
@@ -207,4 +207,25 @@ pub fn plan(
     ensures { λ r. ⌜ r ≡ planStored (sought .number) (now (table .entry)) s b word finishing ⌝ }
 {
     decide(table, s, t, sought, b, word, finishing).plan
+}
+
+// ---- screens created
+
+// How many screens a start of b creates, or a finishing one: none where it is refused.
+pub fn created(table: &[u8], s: Session, b: u8, word: u32) -> u8
+    requires { ⌜ Ready (now table) s ⌝ }
+    ensures { λ r. ⌜ r ≡ createdStored (now (table .entry)) s b word ⌝ }
+{
+    let sought = seek(table, s, b, word, 0);
+    if sought.number != 0 {
+        return 0;
+    }
+    let i = sought.index;
+    let t = s.tasks[i];
+    let chosen = choose(table, s, t, sought, b, flags::read(word));
+    if chosen.number != 0 {
+        return 0;
+    }
+    let effect = chosen.effect;
+    effects::created_by(effect)
 }

@@ -1,14 +1,13 @@
--- The call of a record, by its kind.
-use mathlib.Core.Path.{_≡_, sym, ap}
+-- What the call of a record gives, by its kind.
+use mathlib.Core.Path.{_≡_, sym}
+use borrow.Author.Needs.{needs}
 use borrow.Author.Tests.{ne-eqb}
-use Rattle.model.specs.Histories.{after}
 use Rattle.model.specs.Player.{requestOf}
-use Rattle.calls.specs.declared.Reply.{Reply}
 use Rattle.calls.specs.StoredCalls.{sharedRefusal}
 use Rattle.calls.proofs.Settling.{shared-passed}
 use Rattle.recording.specs.CallBytes.{callOf}
-use Rattle.recording.proofs.after_record.Statement.{statement}
-use Rattle.recording.proofs.after_record.Tie as tie
+use Rattle.recording.proofs.reply_to.Statement.{statement}
+use Rattle.recording.proofs.reply_to.Tie as tie
 
 -- no shared check refuses
 passed : (c : tie.Start) → 0 ≡ sharedRefusal (c .args .table .now) (c .args .s)
@@ -33,33 +32,33 @@ restore-requires : tie.Need-restore-requires
 restore-requires c κs = passed (c .before .before .before)
 
 returns : tie.Need-returns
-unfolding after callOf requestOf
-returns c = rw (c .before .before .match .keys1) (ap (λ (r : Reply). r .session) (c .before .launch .ensures))
+unfolding callOf requestOf
+returns c = rw (c .before .match .keys1) (c .launch .ensures)
 
 returns-2 : tie.Need-returns-2
-unfolding after callOf requestOf
-returns-2 c = rw (c .before .before .match .keys2) (ap (λ (r : Reply). r .session) (c .before .start .ensures))
+unfolding callOf requestOf
+returns-2 c = rw (c .before .match .keys2) (c .start .ensures)
 
 returns-3 : tie.Need-returns-3
-unfolding after callOf requestOf
-returns-3 c = rw (c .before .before .match .keys3) (ap (λ (r : Reply). r .session) (c .before .finish-start .ensures))
+unfolding callOf requestOf
+returns-3 c = rw (c .before .match .keys3) (c .finish-start .ensures)
 
 returns-4 : tie.Need-returns-4
-unfolding after callOf requestOf
-returns-4 c = rw (c .before .before .match .keys4) (ap (λ (r : Reply). r .session) (c .before .back .ensures))
+unfolding callOf requestOf
+returns-4 c = rw (c .before .match .keys4) (c .back .ensures)
 
 returns-5 : tie.Need-returns-5
-unfolding after callOf requestOf
-returns-5 c = rw (c .before .before .match .keys5) (ap (λ (r : Reply). r .session) (c .before .look .ensures))
+unfolding callOf requestOf
+returns-5 c = rw (c .before .match .keys5) (c .look .ensures)
 
 returns-6 : tie.Need-returns-6
-unfolding after callOf requestOf
-returns-6 c = rw (c .before .before .match .keys6) (ap (λ (r : Reply). r .session) (c .before .restore .ensures))
+unfolding callOf requestOf
+returns-6 c = rw (c .before .match .keys6) (c .restore .ensures)
 
 returns-7 : tie.Need-returns-7
-unfolding after callOf requestOf
+unfolding callOf requestOf
 returns-7 c =
-    let r = c .match .rest in
+    let r = c .before .match .rest in
     rw (
       ne-eqb _ _ (r .1),
       ne-eqb _ _ (r .0 .0 .0 .0 .0 .1),
@@ -67,10 +66,10 @@ returns-7 c =
       ne-eqb _ _ (r .0 .0 .0 .1),
       ne-eqb _ _ (r .0 .0 .1),
       ne-eqb _ _ (r .0 .1),
-    )
+    ) (c .refuse .ensures)
 
-pub after-record-spec : {M : Type 1} → statement M
-after-record-spec =
+pub reply-to-spec : {M : Type 1} → statement M
+reply-to-spec =
     tie.close
     (tie.spec
     launch-requires
@@ -79,6 +78,7 @@ after-record-spec =
     back-requires
     look-requires
     restore-requires
+    (λ c κs. search needs)
     returns
     returns-2
     returns-3

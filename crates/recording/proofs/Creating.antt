@@ -1,0 +1,72 @@
+-- The screens that the call of a record creates, by its kind and its refusal.
+use Prim.Native.Nat.{ℕ, zero, suc, _+_}
+use mathlib.Core.Path.{_≡_, refl, sym, _∙_, ap}
+use mathlib.Core.Bool.{Bool, true, false}
+use mathlib.Core.List.{List, [], _∷_}
+use native.Mathlib.Omega.{arith}
+use lib.Dec.{eqb}
+use borrow.Author.Tests.{ne-eqb}
+use Rattle.model.specs.Refusals.{refusal}
+use Rattle.model.specs.Calls.{Call, launch, start, finishingStart, back, look, restore, ownChecks, chosen, createdByChoice, createdOf}
+use Rattle.model.specs.Player.{Request, unplayable, requestOf}
+use Rattle.model.specs.Histories.{along, byRules}
+use Rattle.model.specs.Balance.{countBy, created}
+use Rattle.model.proofs.Logic.{if-elim}
+use Rattle.model.proofs.Keeps.{refusal-own}
+use Rattle.session.specs.declared.Session.{Session}
+use Rattle.session.specs.Stored.{view, Ready}
+use Rattle.session.proofs.Known.{Sized}
+use Rattle.session.proofs.StoredLaws.{sound-view}
+use Rattle.starts.specs.Steps.{createdStored}
+use Rattle.calls.specs.StoredCalls.{startCall}
+use Rattle.calls.proofs.Settling.{empty-view, filled-view, launch-own, launch-22}
+use Rattle.calls.proofs.PlanSettling.{start-number}
+use Rattle.recording.specs.CallBytes.{callAsked, callOf}
+
+module _ (tb : List ℕ) (c : Session) (z : Sized c) (h : Ready tb c) where
+  one-call : (k : Call) (x : ℕ) → x ≡ countBy (refusal (ownChecks tb (view c) k)) (createdOf tb (view c) k)
+      → x ≡ along (byRules tb) (created tb) (view c) (k ∷ [])
+  unfolding along
+  one-call k x e =
+      let f : x ≡ created tb (view c) k =
+      e ∙ ap (λ (n : ℕ). countBy n (createdOf tb (view c) k)) (sym (refusal-own tb (h .good) (view c) (sound-view tb c (h .sound)) k)) in
+      omega (arith, f)
+
+  pub launch-creates : c .n ≡ 0 → 1 ≡ along (byRules tb) (created tb) (view c) (launch ∷ [])
+  unfolding createdOf
+  launch-creates e = one-call launch 1 (rw (launch-own tb c (empty-view tb c e)))
+
+  pub launch-refused : (c .n ≡ 0 → ⊥) → 0 ≡ along (byRules tb) (created tb) (view c) (launch ∷ [])
+  unfolding createdOf
+  launch-refused n = one-call launch 0 (rw (launch-22 tb c (filled-view tb c z h n)))
+
+  start-created : (f : Bool) (b w : ℕ) → createdByChoice (chosen tb (view c) b w) ≡ createdOf tb (view c) (startCall f b w)
+  unfolding createdOf
+  start-created true b w = refl
+  start-created false b w = refl
+
+  pub start-creates : (fin : Bool) (b w x : ℕ) → x ≡ createdStored tb c b w
+      → x ≡ along (byRules tb) (created tb) (view c) (startCall fin b w ∷ [])
+  start-creates fin b w x e =
+      one-call (startCall fin b w) x
+      (e ∙ ap (λ (n : ℕ). countBy n (createdByChoice (chosen tb (view c) b w))) (start-number tb c z b w fin h)
+      ∙ ap (countBy (refusal (ownChecks tb (view c) (startCall fin b w)))) (start-created fin b w))
+
+  -- Back, look and restore create none
+  none-by : (k : Call) → createdOf tb (view c) k ≡ 0 → 0 ≡ along (byRules tb) (created tb) (view c) (k ∷ [])
+  none-by k e = one-call k 0 (rw e (go (refusal (ownChecks tb (view c) k))))
+    where
+      go : (n : ℕ) → 0 ≡ countBy n 0
+      go zero = refl
+      go (suc n) = refl
+
+  pub others-create : (kind b w : ℕ) → (kind ≡ 1 → ⊥) → (kind ≡ 2 → ⊥) → (kind ≡ 3 → ⊥) → (bytes : List ℕ)
+      → 0 ≡ along (byRules tb) (created tb) (view c) (callOf kind b w bytes)
+  unfolding callOf requestOf createdOf along
+  others-create kind b w one two three bytes =
+      rw (ne-eqb kind 1 one, ne-eqb kind 2 two, ne-eqb kind 3 three)
+      (if-elim (λ ks. 0 ≡ along (byRules tb) (created tb) (view c) ks) (eqb kind 6) _ _ (λ e. none-by (restore bytes) refl)
+      (λ e. if-elim Q (eqb kind 4) _ _ (λ e. none-by back refl) (λ e. if-elim Q (eqb kind 5) _ unplayable (λ e. none-by look refl) (λ e. refl))))
+    where
+      Q : Request → Type 0
+      Q q = 0 ≡ along (byRules tb) (created tb) (view c) (callAsked q)
