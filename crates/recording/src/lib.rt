@@ -189,10 +189,10 @@ pub fn count_screens(table: &[u8], calls: &[u8]) -> Screens
     ensures refused { λ r. ⌜ ((tableRefusal (now (table .entry)) ≡ 0 → ⊥) → (r .created ≡ 0) × (r .closed ≡ 0) × (r .standing ≡ 0)) ⌝ }
     ensures balance { λ r. ⌜ (All IsNoRestore (callsIn (now (calls .entry))) → (r .closed ≤ r .created) × (r .created - r .closed ≡ r .standing)) ⌝ }
 {
-    let number = table::refusal(table);
-    if number != 0 {
+    let refusal = table::refusal(table);
+    if refusal != 0 {
         return Screens {
-            refusal: number,
+            refusal: refusal,
             created: 0,
             closed: 0,
             standing: 0,

@@ -222,10 +222,10 @@ pub fn created(table: &[u8], s: Session, b: u8, word: u32) -> u8
     }
     let i = sought.index;
     let t = s.tasks[i];
-    let chosen = choose(table, s, t, sought, b, flags::read(word));
-    if chosen.number != 0 {
+    let choice = choose(table, s, t, sought, b, flags::read(word));
+    if choice.number != 0 {
         return 0;
     }
-    let effect = chosen.effect;
+    let effect = choice.effect;
     effects::created_by(effect)
 }
