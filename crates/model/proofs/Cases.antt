@@ -9,7 +9,7 @@ use Rattle.model.specs.Refusals.{refusal}
 use Rattle.model.specs.Table.{modeOf, affinityOf, isSingleTop, isSingleTask, isSingleInstance, rootsOnce, tableShaped, tableFilled}
 use Rattle.model.specs.Session.{State, stack, state, fresh, screensIn, heightFits, screensKnown, instanceAlone, taskSound, rootsDiffer, mainSound, sound}
 use Rattle.model.specs.Flags.{NTK, STP, MTK, CTP, RTF, CTK, flagsOf, hasOtherBit}
-use Rattle.model.specs.Search.{hasRoot, hasAffinity, seekRoot, seekAffinity, seek, holds}
+use Rattle.model.specs.Search.{hasRoot, akin, hasAffinity, seekRoot, seekAffinity, seek, holds}
 use Rattle.model.specs.Rules.{rulesOf, isSingle, isApart, groupOf, soughtBy, fits, chooseIn, choose}
 use Rattle.model.specs.Effects.{effectOf, mainMoved, mainWithout, move, changed, changeFront, putNew, carryOut, close}
 use Rattle.model.specs.Counts.{closedIn, closedBy}
@@ -21,7 +21,7 @@ use Rattle.model.specs.Balance.{createdAlong, closedAlong, standingAfter
 use Rattle.model.specs.Player.{decimal, lineText, lineOf, requestOf, recordsIn, outcomeOf, textOf, startsWithTable, playerText}
 
 unfoldable computing : Unit {0}
-unfolding refusal modeOf affinityOf isSingleTop isSingleTask isSingleInstance rootsOnce tableShaped tableFilled heightFits screensKnown instanceAlone taskSound rootsDiffer mainSound sound flagsOf hasOtherBit hasRoot hasAffinity seekRoot seekAffinity seek holds rulesOf isSingle isApart groupOf soughtBy fits chooseIn choose effectOf mainMoved mainWithout move changed changeFront putNew carryOut close lookAt image imageShaped readTasks imageReadable sessionIn started mapState markFront closeMarked finished launched backed ownChecks done refusalOf call save screensIn closedIn closedBy createdOf closedOf after answers along decimal lineText lineOf requestOf recordsIn outcomeOf textOf startsWithTable playerText
+unfolding refusal modeOf affinityOf isSingleTop isSingleTask isSingleInstance rootsOnce tableShaped tableFilled heightFits screensKnown instanceAlone taskSound rootsDiffer mainSound sound flagsOf hasOtherBit hasRoot akin hasAffinity seekRoot seekAffinity seek holds rulesOf isSingle isApart groupOf soughtBy fits chooseIn choose effectOf mainMoved mainWithout move changed changeFront putNew carryOut close lookAt image imageShaped readTasks imageReadable sessionIn started mapState markFront closeMarked finished launched backed ownChecks done refusalOf call save screensIn closedIn closedBy createdOf closedOf after answers along decimal lineText lineOf requestOf recordsIn outcomeOf textOf startsWithTable playerText
 computing = tt
 
 -- "Table T, hex: 06 00 00 01 00 01 01 01 02 02 03 01 00 02"

@@ -13,8 +13,8 @@ use Rattle.model.specs.declared.Found.{Found}
 use Rattle.model.specs.Lists.{if_then_else_, isPlace, find, All}
 use Rattle.model.specs.Table.{affinityOf, isSingleInstance}
 use Rattle.model.specs.Session.{Stack, noStack}
-use Rattle.model.specs.Search.{hasRoot, hasAffinity, isFound, seekRoot, seekAffinity, seek, holds}
-use Rattle.model.proofs.Logic.{Decides, and-decides, eqb-decides, false-decides, refuted, contradiction, All-map, All-at}
+use Rattle.model.specs.Search.{hasRoot, akin, hasAffinity, isFound, seekRoot, seekAffinity, seek, holds}
+use Rattle.model.proofs.Logic.{Decides, and-decides, not-decides, eqb-decides, false-decides, refuted, contradiction, All-map, All-at}
 use Rattle.model.proofs.ListLaws.{FoundAt, find-spec, find-none}
 
 -- ---- find
@@ -72,9 +72,9 @@ module _ {A : Type 0} (d : A) {P : A → Type 0} {test : A → Bool} (decides : 
 abbrev pub HasRoot : ℕ → Stack ℕ → Type 0
 HasRoot b t = t .root ≡ b
 
--- "whose root is not single-instance and has B's affinity"
+-- "whose root is not single-instance and has B's affinity", which is not 0
 abbrev pub HasAffinity : List ℕ → ℕ → Stack ℕ → Type 0
-HasAffinity tb b t = (isSingleInstance tb (t .root) ≡ false) × (affinityOf tb (t .root) ≡ affinityOf tb b)
+HasAffinity tb b t = ((isSingleInstance tb (t .root) ≡ false) × (affinityOf tb (t .root) ≡ affinityOf tb b)) × (affinityOf tb b ≡ 0 → ⊥)
 
 -- "the first task from the front" of which the statement holds stands at the place p
 abbrev pub FirstTask : (Stack ℕ → Type 0) → List (Stack ℕ) → ℕ → Type 0
@@ -100,8 +100,9 @@ unfolding hasRoot
 root-decides b t = eqb-decides (t .root) b
 
 pub affinity-decides : (tb : List ℕ) (b : ℕ) (t : Stack ℕ) → Decides (hasAffinity tb b t) (HasAffinity tb b t)
-unfolding hasAffinity
-affinity-decides tb b t = and-decides (false-decides _) (eqb-decides (affinityOf tb (t .root)) (affinityOf tb b))
+unfolding hasAffinity akin
+affinity-decides tb b t =
+    and-decides (and-decides (false-decides _) (eqb-decides (affinityOf tb (t .root)) (affinityOf tb b))) (not-decides (eqb-decides (affinityOf tb b) 0))
 
 module _ (b : ℕ) (ts : List (Stack ℕ)) where
   finds-root : (k : ℕ) → (find (hasRoot b) ts ≡ suc k) ↔ FirstTask (HasRoot b) ts (suc k)

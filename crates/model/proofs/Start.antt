@@ -5,7 +5,7 @@ use mathlib.Core.Bool.{Bool, true, false, not, _&&_, false≢true}
 use mathlib.Core.List.{List}
 use lib.Dec.{eqb, ltb}
 use lib.ListN.{getD}
-use borrow.Author.Tests.{eqb-true, eqb-false, not-true, not-false, ltb-true}
+use borrow.Author.Tests.{eqb-true, eqb-false, not-false, ltb-true}
 use Rattle.model.specs.declared.Flags.{Flags}
 use Rattle.model.specs.declared.Found.{Found}
 use Rattle.model.specs.declared.Group.{Group}
@@ -23,6 +23,7 @@ use Rattle.model.specs.Calls.{chosen, started, startChecks, makesTask, o
 use Rattle.model.proofs.Logic.{All-map, All-of, All-at, if-elim, first-elim, never, contradiction, and-left, and-right, or-false-right}
 use Rattle.model.proofs.ListLaws.{found-at, found-none, isEmpty-length}
 use Rattle.model.proofs.RefusalLaws.{refusal-skip}
+use Rattle.model.proofs.SearchLaws.{affinity-decides}
 use Rattle.model.proofs.Sound.{TaskSound, Sound, Plain}
 use Rattle.model.proofs.Effects.{IsPlaceIn, Takes, RootFree, Ready, carry-sound}
 
@@ -50,10 +51,10 @@ module _ (tb : List ℕ) (s : State ℕ) (b : ℕ) where
       (λ e. All-map (λ t f q r. eqb-false (t .root) b f (sym r)) (s .tasks) (found-none (hasRoot b) noStack (s .tasks) e))
 
   seekAffinity-sought : RootFree tb b (s .tasks) → Sought (seekAffinity tb b (s .tasks))
-  unfolding seekAffinity hasAffinity
+  unfolding seekAffinity
   seekAffinity-sought h =
       if-elim Sought (isPlace (find (hasAffinity tb b) (s .tasks))) _ Found.Nowhere
-      (λ e. (found-place (hasAffinity tb b) e, not-true _ (and-left _ _ (found-at (hasAffinity tb b) noStack (s .tasks) e .fits))))
+      (λ e. (found-place (hasAffinity tb b) e, affinity-decides tb b _ .holds (found-at (hasAffinity tb b) noStack (s .tasks) e .fits) .0 .0))
       (λ e. h)
 
   -- nothing found: a new task of b clashes with none

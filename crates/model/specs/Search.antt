@@ -12,9 +12,14 @@ use Rattle.model.specs.Session.{Stack}
 unfoldable pub hasRoot : ℕ → Stack ℕ → Bool
 hasRoot b t = eqb (t .root) b
 
+-- a root x "is not single-instance and has B's affinity"; and "a screen of affinity 0 is never found by affinity" (02,
+-- request 3). "nor is a task whose root has affinity 0" needs no test of its own: it would have B's.
+unfoldable pub akin : List ℕ → ℕ → ℕ → Bool
+akin tb b x = (not (isSingleInstance tb x) && eqb (affinityOf tb x) (affinityOf tb b)) && not (eqb (affinityOf tb b) 0)
+
 -- "By affinity: the first such task counted from the front whose root is not single-instance and has B's affinity."
 unfoldable pub hasAffinity : List ℕ → ℕ → Stack ℕ → Bool
-hasAffinity tb b t = not (isSingleInstance tb (t .root)) && eqb (affinityOf tb (t .root)) (affinityOf tb b)
+hasAffinity tb b t = akin tb b (t .root)
 
 -- a task that was sought is a `Found`: nowhere, or its place and how it was found
 abbrev pub placeOf : Found → ℕ

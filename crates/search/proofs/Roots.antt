@@ -11,14 +11,13 @@ use lib.Dec.{eqb}
 use Rattle.model.specs.Lists.{find, All}
 use Rattle.model.specs.Table.{sizeOf, modeOf, affinityOf, isSingleInstance}
 use Rattle.model.specs.Session.{Stack}
-use Rattle.model.specs.Search.{hasRoot, hasAffinity}
+use Rattle.model.specs.Search.{hasRoot, akin, hasAffinity}
 use Rattle.model.proofs.Logic.{All-at, All-map}
 use Rattle.model.proofs.ListLaws.{find-map, All-to-map, All-of-map}
 use Rattle.session.specs.declared.Task.{Task}
 use Rattle.session.specs.declared.Session.{Session}
 use Rattle.session.specs.Stored.{noTask, viewTask, view, soundStored, root, rootsOf}
 use Rattle.session.proofs.StoredLaws.{sound-view}
-use Rattle.search.specs.Roots.{akin}
 
 take-map : {A B : Type 0} (f : A → B) (n : ℕ) (xs : List A) → take n (map f xs) ≡ map f (take n xs)
 take-map f zero xs = refl
@@ -47,7 +46,7 @@ module _ (c : Session) where
     found-root f = f ∙ rw e (find-roots (λ x. eqb x b))
 
     pub found-affinity : (tb : List ℕ) → p ≡ find (akin tb b) (take (c .n) roots) → p ≡ find (hasAffinity tb b) (view c .tasks)
-    unfolding hasAffinity akin
+    unfolding hasAffinity
     found-affinity tb f = f ∙ rw e (find-roots (akin tb b))
 
 module _ (tb : List ℕ) where
@@ -65,6 +64,6 @@ module _ (tb : List ℕ) where
 
   -- with the mode and the two affinities that were read
   pub akin-test : (b x : ℕ) {mode kin own : ℕ} → mode ≡ modeOf tb x → kin ≡ affinityOf tb x → own ≡ affinityOf tb b
-      → akin tb b x ≡ (not (eqb mode 3) && eqb kin own)
+      → akin tb b x ≡ ((not (eqb mode 3) && eqb kin own) && not (eqb own 0))
   unfolding akin isSingleInstance
   akin-test b x m k o = rw (m, k, o)

@@ -6,10 +6,10 @@ ghost use lib.Dec.{eqb};
 ghost use lib.ListN.{take};
 ghost use Rattle.model.specs.Session.{mostTasks, mostHeight};
 ghost use Rattle.model.specs.Lists.{find};
-ghost use Rattle.model.specs.Search.{seekRoot, seek as seekTask};
+ghost use Rattle.model.specs.Search.{akin, seekRoot, seek as seekTask};
 ghost use Rattle.session.specs.Stored.{view, viewTask, rootsOf};
 ghost use Rattle.search.specs.Ready.{ReadyFor};
-ghost use Rattle.search.specs.Roots.{akin, RootsFor};
+ghost use Rattle.search.specs.Roots.{RootsFor};
 use model::Found;
 use session::Session;
 use session::Task;
@@ -46,7 +46,7 @@ pub fn by_root(roots: [u8; Session::TASKS], n: u8, b: u8) -> u8
     }
 }
 
-// By affinity: the place of the first of n roots that is not single-instance and has b's affinity, or 0.
+// By affinity: the place of the first of n roots that is not single-instance and has b's affinity, or 0. Affinity 0 is none.
 pub fn by_affinity(table: &[u8], roots: [u8; Session::TASKS], n: u8, b: u8) -> u8
     requires { ⌜ RootsFor (now table) roots n b ⌝ }
     ensures { λ r. ⌜ r ≡ find (akin (now (table .entry)) b) (take n roots) ⌝ }
@@ -59,7 +59,7 @@ pub fn by_affinity(table: &[u8], roots: [u8; Session::TASKS], n: u8, b: u8) -> u
         }
         let k = i as usize;
         let root = roots[k];
-        if (table::mode(table, root) != 3) & (table::affinity(table, root) == affinity) {
+        if (table::mode(table, root) != 3) & (table::affinity(table, root) == affinity) & (affinity != 0) {
             break i + 1;
         }
         i += 1;

@@ -8,8 +8,8 @@ use borrow.Author.Needs.{needs}
 use lib.ListN.{length, take, drop, getD}
 use lib.Dec.{eqb}
 use Rattle.model.specs.Lists.{find}
+use Rattle.model.specs.Search.{akin}
 use Rattle.model.proofs.Tables.{good-shaped}
-use Rattle.search.specs.Roots.{akin}
 use Rattle.search.proofs.Roots.{root-known, akin-test}
 use Rattle.search.proofs.Steps.{behind, find-begin, find-take-end, find-take-here, find-take-next}
 use Rattle.search.proofs.by_affinity.Statement.{statement}
@@ -55,7 +55,8 @@ affinity-requires-2 c κs = omega (arith, row (c .before))
 tested : (c : tie.After-affinity2 Inv-loop μ-loop)
     → akin (c .before .before .before .before .before .before .args .table .now) (c .before .before .before .before .before .before .args .b)
     (getD (c .before .before .before .before .before .before .args .t2) (c .before .before .before .loop .i) 0)
-    ≡ (not (eqb (c .before .mode .result) 3) && eqb (c .affinity2 .result) (c .before .before .before .before .affinity .result))
+    ≡ ((not (eqb (c .before .mode .result) 3) && eqb (c .affinity2 .result) (c .before .before .before .before .affinity .result))
+    && not (eqb (c .before .before .before .before .affinity .result) 0))
 tested c =
     let a = c .before .before .before .before .before .before .args in
     akin-test (a .table .now) (a .b) _ (c .before .mode .ensures) (c .affinity2 .ensures) (c .before .before .before .before .affinity .ensures)
