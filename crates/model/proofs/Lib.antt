@@ -10,6 +10,7 @@ pub mod Sound
 pub mod SearchLaws
 pub mod RuleLaws
 pub mod ReasonLaws
+pub mod AffinityLaws
 pub mod RoomLaws
 pub mod Close
 pub mod Effects

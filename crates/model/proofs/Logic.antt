@@ -92,6 +92,10 @@ module _ {A : Type 0} where
   All-map f [] h = tt
   All-map f (x ∷ xs) h = (f x (h .0), All-map f xs (h .1))
 
+  pub Pairwise-map : {P Q : A → A → Type 0} → ((x y : A) → P x y → Q x y) → (xs : List A) → Pairwise P xs → Pairwise Q xs
+  Pairwise-map f [] h = tt
+  Pairwise-map f (x ∷ xs) h = (All-map (f x) xs (h .0), Pairwise-map f xs (h .1))
+
   pub All-of : {P : A → Type 0} → ((x : A) → P x) → (xs : List A) → All P xs
   All-of f [] = tt
   All-of f (x ∷ xs) = (f x, All-of f xs)

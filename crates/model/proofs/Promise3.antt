@@ -1,17 +1,17 @@
 -- Promise 3 of sound sessions under document 01's rules: the lifelong rules hold of each, and two have equal images exactly when
 -- every list of later calls gets equal answers from both. Its image and its answers each determine a sound session.
 use Prim.Native.Nat.{ℕ}
-use mathlib.Core.Path.{_≡_, refl, ap}
+use mathlib.Core.Path.{_≡_, refl, sym, _∙_, ap}
 use mathlib.Core.Logic.{_↔_}
 use mathlib.Core.Bool.{Bool, true, false}
 use mathlib.Core.List.{List, [], _∷_}
 use Rattle.model.specs.Lists.{All}
-use Rattle.model.specs.Table.{isSingleInstance, tableRefusal}
+use Rattle.model.specs.Table.{isSingleTask, isSingleInstance, rootsOnce, tableRefusal}
 use Rattle.model.specs.Session.{Stack, State}
 use Rattle.model.specs.Image.{image}
 use Rattle.model.specs.Histories.{answers, AnswerAlike, byRules}
-use Rattle.model.specs.Promises.{Lifelong}
-use Rattle.model.proofs.Logic.{contradiction, All-map}
+use Rattle.model.specs.Promises.{Lifelong, RootOfOne}
+use Rattle.model.proofs.Logic.{contradiction, All-map, Pairwise-map}
 use Rattle.model.proofs.Sound.{TaskSound, Sound}
 use Rattle.model.proofs.ImageLaws.{image-injective}
 use Rattle.model.proofs.Same.{answer-look-alike, same}
@@ -34,6 +34,11 @@ sound-lifelong tb s h =
       instanceIsAlone = All-map (instance-alone tb) (s .tasks) (h .each);
       rootsDiffer = h .pairs;
     }
+
+-- so a single-task screen is the root of at most one task
+pub lifelong-one : (tb : List ℕ) (s : State ℕ) → Lifelong tb s → (x : ℕ) → isSingleTask tb x ≡ true → RootOfOne x s
+unfolding rootsOnce
+lifelong-one tb s h x e = Pairwise-map (λ t u d p q. d (rw (p, e) refl) (p ∙ sym q)) (s .tasks) (h .rootsDiffer)
 
 -- ---- images and answers
 

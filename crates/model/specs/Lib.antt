@@ -16,6 +16,7 @@ pub mod Marks
 pub mod Histories
 pub mod Player
 pub mod Reasons
+pub mod Affinity
 pub mod Sentences
 pub mod Explained
 pub mod Promises

@@ -31,3 +31,7 @@ pub record Lifelong (tb : List ℕ) (s : State ℕ) : Type 0 where
   pub eachHasScreen : All (λ t. 1 ≤ height t) (s .tasks)
   pub instanceIsAlone : All (λ t. All (λ x. isSingleInstance tb x ≡ true → t .screens ≡ x ∷ []) (t .screens)) (s .tasks)
   pub rootsDiffer : Pairwise (λ t u. rootsOnce tb (t .root) ≡ true → t .root ≡ u .root → ⊥) (s .tasks)
+
+-- the screen x is the root of at most one task
+abbrev pub RootOfOne : ℕ → State ℕ → Type 0
+RootOfOne x s = Pairwise (λ t u. t .root ≡ x → u .root ≡ x → ⊥) (s .tasks)

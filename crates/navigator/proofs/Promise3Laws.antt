@@ -12,10 +12,11 @@ use Rattle.model.specs.Session.{State, fresh}
 use Rattle.model.specs.Image.{image, longestImage}
 use Rattle.model.specs.Calls.{Call}
 use Rattle.model.specs.Histories.{after, AnswerAlike, byRules}
+use Rattle.model.specs.Promises.{Lifelong}
 use Rattle.model.proofs.Sound.{Sound}
 use Rattle.model.proofs.Keeps.{fresh-sound, after-sound}
 use Rattle.model.proofs.ImageLaws.{image-short}
-use Rattle.model.proofs.Promise3.{sound-lifelong, images-tell}
+use Rattle.model.proofs.Promise3.{sound-lifelong, lifelong-one, images-tell}
 use Rattle.session.specs.declared.Session.{Session}
 use Rattle.session.specs.Stored.{view, hold, Ready}
 use Rattle.session.proofs.StoredLaws.{view-hold, hold-sound, sound-view}
@@ -23,7 +24,7 @@ use Rattle.calls.specs.StoredCalls.{byProgram}
 use Rattle.calls.proofs.HistoryLaws.{alike-held, after-fresh, answers-fresh}
 use Rattle.image_calls.specs.StoredSaves.{saveStored}
 use Rattle.image_calls.proofs.Saving.{save-fits}
-use Rattle.navigator.specs.Promise3.{bytesSaved, KeepsPromise3}
+use Rattle.navigator.specs.Promise3.{reached, bytesSaved, KeepsPromise3}
 
 -- ---- what save writes
 
@@ -52,6 +53,11 @@ module _ (tb : List ℕ) (ok : tableRefusal tb ≡ 0) where
 
 -- ---- the promise
 
+lives : (tb : List ℕ) → tableRefusal tb ≡ 0 → (cs : List Call) → Lifelong tb (view (reached tb cs))
+lives tb ok cs =
+    let v = after (byRules tb) fresh cs in
+    rw (after-fresh tb ok cs, view-hold v) (sound-lifelong tb v (after-sound tb ok fresh (fresh-sound tb) cs))
+
 pub promise3 : (tb : List ℕ) → KeepsPromise3 tb
 promise3 tb ok =
     let ruled : List Call → State ℕ = after (byRules tb) fresh in
@@ -59,7 +65,8 @@ promise3 tb ok =
     record {
       sessions = after-fresh tb ok;
       answered = answers-fresh tb ok;
-      lifelong = λ cs. rw (after-fresh tb ok cs, view-hold (ruled cs)) (sound-lifelong tb (ruled cs) (sound cs));
+      lifelong = lives tb ok;
+      affinityZero = λ cs x e _. lifelong-one tb (view (reached tb cs)) (lives tb ok cs) x e;
       saves = λ cs buffer long.
           rw (after-fresh tb ok cs) (save-accepts tb (hold (ruled cs)) (ready-held tb ok (ruled cs) (sound cs)) buffer long .0);
       imagesTell = λ cs ds buffer buffer′ long long′.

@@ -5,14 +5,15 @@
 use Prim.Native.Nat.{ℕ, _≤_}
 use mathlib.Core.Path.{_≡_}
 use mathlib.Core.Logic.{_↔_}
+use mathlib.Core.Bool.{true}
 use mathlib.Core.List.{List}
 use lib.ListN.{length, take}
-use Rattle.model.specs.Table.{tableRefusal}
+use Rattle.model.specs.Table.{affinityOf, isSingleTask, tableRefusal}
 use Rattle.model.specs.Session.{fresh}
 use Rattle.model.specs.Image.{longestImage}
 use Rattle.model.specs.Calls.{Call}
 use Rattle.model.specs.Histories.{after, answers, AnswerAlike, byRules}
-use Rattle.model.specs.Promises.{Lifelong}
+use Rattle.model.specs.Promises.{Lifelong, RootOfOne}
 use Rattle.session.specs.declared.Session.{Session}
 use Rattle.session.specs.Stored.{freshSession, view, hold}
 use Rattle.calls.specs.StoredCalls.{byProgram}
@@ -37,6 +38,9 @@ pub record Promise3 (tb : List ℕ) : Type 0 where
   -- "after it each task has a screen, a single-instance screen is alone in its task, and no single-task or single-instance
   -- screen is the root of two tasks"
   pub lifelong : (cs : List Call) → Lifelong tb (view (reached tb cs))
+  -- "the single-task guarantee covers these screens too" (02, request 3): a single-task screen of affinity 0 is the root of
+  -- at most one task
+  pub affinityZero : (cs : List Call) (x : ℕ) → isSingleTask tb x ≡ true → affinityOf tb x ≡ 0 → RootOfOne x (view (reached tb cs))
   -- save accepts every buffer that is long enough for any session
   pub saves : (cs : List Call) (buffer : List ℕ) → longestImage ≤ length buffer → saveStored tb (reached tb cs) buffer .refusal ≡ 0
   -- "Take any two such lists under the same table. The sessions after them have equal images exactly when every list of later

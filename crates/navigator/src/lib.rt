@@ -9,6 +9,7 @@ ghost use Rattle.calls.specs.StoredCalls.{sharedRefusal, callStored, KeepsSound
 ghost use Rattle.image_calls.specs.Restores.{AcceptsImages, BringsBack, SavesAgain};
 ghost use Rattle.image_calls.specs.StoredSaves.{saved, saveStored, BroughtBack, NoOtherHas};
 ghost use Rattle.model.specs.Reasons.{noReason, FitsFirst, IsFoundAt};
+ghost use Rattle.model.specs.Affinity.{AffinityZero};
 ghost use Rattle.session.specs.Stored.{view};
 ghost use Rattle.reasons.specs.StoredReasons.{whyStored, CarriesOut};
 ghost use Rattle.navigator.specs.Promise3.{KeepsPromise3};
@@ -80,6 +81,7 @@ pub fn why(table: &[u8], s: Session, b: u8, word: u32) -> Reason
     ensures fits { λ r. ⌜ (r .refusal ≡ 0 → FitsFirst (now (table .entry)) (view s) b word (r .rule)) ⌝ }
     ensures found { λ r. ⌜ (r .refusal ≡ 0 → IsFoundAt (now (table .entry)) (view s) b word (r .place) (r .found)) ⌝ }
     ensures carries { λ r. ⌜ (r .refusal ≡ 0 → CarriesOut (now (table .entry)) s b word r) ⌝ }
+    ensures affinity { λ r. ⌜ (r .refusal ≡ 0 → AffinityZero (now (table .entry)) (view s) b r) ⌝ }
 {
     let number = shared_refusal(table, s);
     reasons::why(table, s, b, word, number)

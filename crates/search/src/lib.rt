@@ -59,7 +59,10 @@ pub fn by_affinity(table: &[u8], roots: [u8; Session::TASKS], n: u8, b: u8) -> u
         }
         let k = i as usize;
         let root = roots[k];
-        if (table::mode(table, root) != 3) & (table::affinity(table, root) == affinity) & (affinity != 0) {
+        if (table::mode(table, root) != 3)
+            & (table::affinity(table, root) == affinity)
+            & (affinity != 0)
+        {
             break i + 1;
         }
         i += 1;

@@ -6,7 +6,9 @@
 //   trace_single_instance   the traces of a single-instance main screen printed in documents 001, 003 and 004
 //   trace_single_task       the trace of a single-task main screen printed in document 001
 //   trace_flags             the trace of intent flags printed in document 001, without its two steps that document 01 leaves out
-// The lines of their starts follow the stacks printed there. Those of all others are from the second navigator:
+// The lines of their starts follow the stacks printed there. Worked out by hand from the rules of documents 01 and 02:
+//   affinity_0              each launch mode with affinity 0, beside screens of affinity 1
+// Those of all others are from the second navigator:
 //   empty                   an empty input
 //   no_screen, bad_n        a table whose N is 0, and one whose N is 65
 //   cut_table               a table that is cut in its last row
