@@ -6,7 +6,7 @@
 //   trace_single_instance   the traces of a single-instance main screen printed in documents 001, 003 and 004
 //   trace_single_task       the trace of a single-task main screen printed in document 001
 //   trace_flags             the trace of intent flags printed in document 001, without its two steps that document 01 leaves out
-// The lines of their starts follow the stacks printed there. Worked out by hand from the rules of documents 01 and 02:
+// The lines of their starts follow the stacks printed there. By hand from the rules of documents 01 and 02, lines and reasons:
 //   affinity_0              each launch mode with affinity 0, beside screens of affinity 1
 // Those of all others are from the second navigator:
 //   empty                   an empty input
@@ -18,7 +18,7 @@
 //   limits                  both limits reached, passed and left: 32 screens in a task, 16 tasks
 //   cut_after_1 to _5       a last record that is cut after so many bytes
 //   every_rule              each of R1 to R18, and each refusal of a start under a good table
-// The reasons in every_rule were written by hand from 01's rules, step by step with the stacks, and those in the other inputs
+// The reasons in every_rule, too, were written by hand from 01's rules, step by step with the stacks, and those in the other inputs
 // are from the second navigator.
 use libc::STDOUT_FILENO;
 use playing::Manner;
