@@ -1,8 +1,9 @@
 //! A second navigator: tasks, screens and Back, in ordinary Rust.
 //!
-//! It follows the paper on scope and nothing else, so that it can be compared
-//! with a navigator that was made apart from it. It proves nothing; it is
-//! meant to be plain enough to be checked against the paper by reading.
+//! It follows the paper on scope, with the requests that came after it, and
+//! nothing else, so that it can be compared with a navigator that was made apart
+//! from it. It proves nothing; it is meant to be plain enough to be checked
+//! against the papers by reading.
 //!
 //! - `table`: the screen table, the launch modes, the flag word
 //! - `session`: tasks and screens, soundness, the moves and the screens that they

@@ -4,7 +4,8 @@
 
 use crate::session::{Count, MAX_TASKS};
 use crate::table::{
-    ALL_FLAGS, CLEAR_TASK, CLEAR_TOP, MULTIPLE_TASK, NEW_TASK, REORDER_TO_FRONT, SINGLE_TOP,
+    ALL_FLAGS, CLEAR_TASK, CLEAR_TOP, MULTIPLE_TASK, NEW_TASK, NO_AFFINITY, REORDER_TO_FRONT,
+    SINGLE_TOP,
 };
 use crate::{Mode, Refusal, Session, Table};
 
@@ -230,8 +231,15 @@ impl Session {
 
     /// The first task from the front whose root is not single-instance and has
     /// the affinity of `b`.
+    ///
+    /// Affinity 0 is no affinity: "a screen of affinity 0 is never found by
+    /// affinity, nor is a task whose root has affinity 0". Affinities are compared
+    /// for equality, so the one test of `b` is both.
     fn by_affinity(&self, table: &Table, b: u8) -> Option<Found> {
         let affinity = table.affinity(b);
+        if affinity == NO_AFFINITY {
+            return None;
+        }
         let index = self.tasks.iter().position(|task| {
             !table.is_single_instance(task.root) && table.affinity(task.root) == affinity
         })?;

@@ -37,6 +37,9 @@ pub fn flag_word(number: u32) -> u32 {
         .sum()
 }
 
+/// The affinity of a screen that belongs with no task.
+pub const NO_AFFINITY: u8 = 0;
+
 /// The largest number of screens a table lists.
 pub const MAX_SCREENS: u8 = 64;
 

@@ -1,6 +1,6 @@
 //! Long random walks: the session stays sound, a refused call leaves it as it
-//! was, images come back, marks are gone after every call, and the calls with
-//! all their checks agree with the player.
+//! was, images come back, marks are gone after every call, affinity 0 finds no
+//! task, and the calls with all their checks agree with the player.
 
 use second::play::Player;
 use second::table::ALL_FLAGS;
@@ -69,6 +69,12 @@ fn walks() {
             let is_start = kind == 2 || kind == 3;
             let why = is_start.then(|| calls::why(&table, &before, screen, flags));
             assert_eq!(played.reason, why);
+            // Found by affinity: the screen's and the root's, and not 0.
+            if let Some(why) = why.filter(|why| why.found == 2) {
+                let root = before.tasks[usize::from(why.place) - 1].root;
+                assert_ne!(good.affinity(screen), 0);
+                assert_eq!(good.affinity(screen), good.affinity(root));
+            }
             assert_eq!(session, player.session);
             assert!(session.is_sound(&good));
             if answer.refusal != 0 {

@@ -7,8 +7,8 @@
 use lent_calls::stored::{Stored, StoredTask};
 use second::session::{MAX_HEIGHT, MAX_TASKS};
 use second::table::{
-    ALL_FLAGS, CLEAR_TASK, CLEAR_TOP, MAX_SCREENS, MULTIPLE_TASK, NEW_TASK, REORDER_TO_FRONT,
-    SINGLE_TOP,
+    ALL_FLAGS, CLEAR_TASK, CLEAR_TOP, MAX_SCREENS, MULTIPLE_TASK, NEW_TASK, NO_AFFINITY,
+    REORDER_TO_FRONT, SINGLE_TOP,
 };
 
 type Answer = [u8; 7];
@@ -202,7 +202,9 @@ fn plan(table: &[u8], session: &Stored, b: u8, flags: u32) -> Result<Plan, u8> {
 fn rule(table: &[u8], session: &Stored, b: u8, flags: u32) -> Plan {
     let tasks = &session.tasks[..usize::from(session.n)];
     let akin = |task: &StoredTask| {
-        mode(table, task.root) != 3 && affinity(table, task.root) == affinity(table, b)
+        affinity(table, b) != NO_AFFINITY
+            && mode(table, task.root) != 3
+            && affinity(table, task.root) == affinity(table, b)
     };
     let by_root = || tasks.iter().position(|task| task.root == b);
     let by_affinity = || tasks.iter().position(akin);
