@@ -16,6 +16,7 @@
 //!   the reasons under starts
 //! - `random`, `hex`, `closings`: random numbers and tables, bytes as text, counts
 //!   of what was closed, for comparisons
+//! - `no_affinity`: how often screens of affinity 0 were started, likewise
 //!
 //! Two layers: the methods of `Session` want a good table and a sound session
 //! and keep the session sound; the functions of `calls` check both first.
@@ -24,6 +25,7 @@ pub mod calls;
 pub mod closings;
 pub mod hex;
 pub mod image;
+pub mod no_affinity;
 pub mod play;
 pub mod random;
 pub mod reason;

@@ -53,12 +53,17 @@ impl Random {
         unreachable!("the weights add up")
     }
 
-    /// The bytes of a good table of these many screens. Affinities are below
-    /// the number given; launch modes go by weights.
-    pub fn table(&mut self, screens: u8, affinities: u16, modes: &[u64; 4]) -> Vec<u8> {
+    /// The bytes of a good table of these many screens. A third of the affinities
+    /// are 0, the others from 1 to the number given; launch modes go by weights.
+    pub fn table(&mut self, screens: u8, affinities: u8, modes: &[u64; 4]) -> Vec<u8> {
         let mut table = vec![screens, self.byte(u16::from(screens))];
         for _ in 0..screens {
-            table.extend([self.weighted(modes) as u8, self.byte(affinities)]);
+            let mode = self.weighted(modes) as u8;
+            let affinity = match self.below(3) {
+                0 => 0,
+                _ => 1 + self.byte(u16::from(affinities)),
+            };
+            table.extend([mode, affinity]);
         }
         table
     }

@@ -3,6 +3,7 @@
 //! and sessions are read from the paper's rules by hand.
 
 use second::play::Player;
+use second::random::Random;
 use second::table::{
     flag_word, CLEAR_TASK, CLEAR_TOP, MULTIPLE_TASK, NEW_TASK, REORDER_TO_FRONT, SINGLE_TOP,
 };
@@ -296,4 +297,24 @@ fn seat_maps_played() {
     }
     let after = session(4, &[(2, &[2]), (5, &[5]), (6, &[6]), (0, &[0])]);
     assert_eq!(player.session, after);
+}
+
+#[test]
+fn a_third_of_the_affinities_of_random_tables() {
+    let mut random = Random::new(1);
+    for affinities in [1, 2, 255] {
+        let mut screens = [0u32; 4];
+        let mut zeros = [0u32; 4];
+        for _ in 0..1000 {
+            let table = random.table(64, affinities, &[1, 1, 1, 1]);
+            for pair in table[2..].chunks(2) {
+                screens[usize::from(pair[0])] += 1;
+                zeros[usize::from(pair[0])] += u32::from(pair[1] == 0);
+                assert!(pair[1] <= affinities);
+            }
+        }
+        for mode in 0..4 {
+            assert!((3 * zeros[mode]).abs_diff(screens[mode]) < screens[mode] / 10);
+        }
+    }
 }

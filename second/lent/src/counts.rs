@@ -1,12 +1,14 @@
 //! How often each call was made and each refusal and rule came up, what the tasks
-//! were found by, how many screens were closed, and how full the sessions were.
+//! were found by, those of screens of affinity 0 too, how many screens were closed,
+//! and how full the sessions were.
 
 use std::fmt;
 
 use second::closings::{self, Closings, Possible};
+use second::no_affinity::NoAffinity;
 use second::rules::Choice;
 use second::session::{MAX_HEIGHT, MAX_TASKS};
-use second::{Session, Table};
+use second::{Reason, Session, Table};
 
 use crate::call::{Call, Kind, Reply};
 use crate::stored::Stored;
@@ -64,6 +66,8 @@ pub struct Counts {
     rules: [Rules; 8],
     /// Accepted calls by kind.
     closings: [Closings; 8],
+    /// Accepted starts and reasons of screens of affinity 0.
+    no_affinity: NoAffinity,
     /// Sessions saved and restored; those with no task; those with no space.
     sessions: u64,
     empty: u64,
@@ -83,6 +87,22 @@ impl Counts {
             let rule = choice.map_or(0, |choice| choice.rule as u8);
             self.closings[kind].add(rule, closed);
         }
+        if let (Some(choice), 0) = (choice, refusal) {
+            self.add_no_affinity(table, present, call, choice);
+        }
+    }
+
+    /// Counts the start of a screen of affinity 0.
+    fn add_no_affinity(&mut self, table: &[u8], present: &Stored, call: Call, choice: Choice) {
+        let (Call::Start { screen, .. }
+        | Call::FinishingStart { screen, .. }
+        | Call::Why { screen, .. }) = call
+        else {
+            return;
+        };
+        let table = Table::parse(table).expect("the call was past the table's check");
+        let (reason, session) = (Reason::chosen(choice), present.view());
+        self.no_affinity.add(&table, screen, reason, &session.tasks);
     }
 
     pub fn add_session(&mut self, session: &Session) {
@@ -119,6 +139,9 @@ impl Counts {
             if let Some(possible) = possible_closed(kind) {
                 names.extend(self.closings[kind as usize].missing(kind.name(), possible));
             }
+        }
+        if kinds.iter().any(|&kind| self.rules(kind).is_some()) {
+            names.extend(self.no_affinity.missing());
         }
         if self.empty == 0 && !kinds.is_empty() {
             names.push("an empty session".to_string());
@@ -209,6 +232,9 @@ impl fmt::Display for Counts {
         }
         if kinds.contains(&Kind::Why) {
             self.rules[Kind::Why as usize].write_found(f)?;
+        }
+        if kinds.contains(&Kind::Start) {
+            write!(f, "{}", self.no_affinity)?;
         }
         writeln!(
             f,

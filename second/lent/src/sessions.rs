@@ -38,7 +38,7 @@ impl Listed {
             2 => random.between(1, 64),
             _ => random.one_of(&[63, 64]),
         };
-        let affinities = random.one_of(&[1, 2, 256]);
+        let affinities = random.one_of(&[1, 1, 2, 255]);
         let modes = random.one_of(&[[1, 1, 1, 1], [4, 2, 2, 1], [1, 0, 3, 3], [1, 1, 0, 0]]);
         Listed::new(random.table(screens as u8, affinities, &modes))
     }

@@ -20,8 +20,9 @@ pub fn screen(random: &mut Random, listed: &Listed, session: &Session) -> u8 {
         0 => &session.tasks[0],
         _ => &session.tasks[random.below(session.tasks.len() as u64) as usize],
     };
-    match random.below(3) {
+    match random.below(4) {
         0 => task.root,
+        1 => task.top().expect("a task has a screen"),
         _ => task.screens[random.below(task.height() as u64) as usize].number,
     }
 }

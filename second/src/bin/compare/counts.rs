@@ -1,9 +1,10 @@
-//! How often each rule and each refusal came up, how tasks were found, and how
-//! many screens were closed.
+//! How often each rule and each refusal came up, how tasks were found, those of
+//! screens of affinity 0 too, and how many screens were closed.
 
 use std::fmt;
 
 use second::closings::{self, Closings};
+use second::no_affinity::NoAffinity;
 use second::play::{Played, Player};
 
 /// The calls by their kinds, from 1.
@@ -35,6 +36,8 @@ pub struct Counts {
     closings: [Closings; 5],
     /// Accepted starts of both kinds by what found their task.
     found: [u64; 3],
+    /// Those of screens of affinity 0.
+    no_affinity: NoAffinity,
     /// Lines by refusal.
     refusals: [u64; 25],
     /// Refusals 23 and 24 by the rule that needed the space.
@@ -48,6 +51,7 @@ impl Counts {
         self.refusals[usize::from(refusal)] += 1;
         if refusal == 0 {
             self.add_accepted(played);
+            self.add_no_affinity(player, record, played);
         }
         if refusal == 23 || refusal == 24 {
             // The session is as it was, so the rule can still be asked for.
@@ -65,6 +69,15 @@ impl Counts {
         closings.add(rule, played.answer.closed);
         if let Some(reason) = played.reason {
             self.found[usize::from(reason.found)] += 1;
+        }
+    }
+
+    /// Counts the start of a screen of affinity 0.
+    fn add_no_affinity(&mut self, player: &Player, record: &[u8], played: &Played) {
+        if let (Some(reason), Ok(table)) = (played.reason, &player.table) {
+            // Where the front task is new, those behind it stood before.
+            let behind = player.session.tasks.get(1..).unwrap_or(&[]);
+            self.no_affinity.add(table, record[1], reason, behind);
         }
     }
 
@@ -88,6 +101,7 @@ impl Counts {
                 names.push(format!("found by {name}"));
             }
         }
+        names.extend(self.no_affinity.missing());
         for refusal in REFUSALS {
             if self.refusals[usize::from(refusal)] == 0 {
                 names.push(format!("refusal {refusal}"));
@@ -117,6 +131,7 @@ impl fmt::Display for Counts {
         for (name, starts) in FOUND.into_iter().zip(self.found) {
             writeln!(f, "{name:<8} {starts:>10}")?;
         }
+        write!(f, "{}", self.no_affinity)?;
         writeln!(f, "refusal       lines")?;
         for refusal in REFUSALS {
             writeln!(

@@ -47,12 +47,13 @@ fn paths() -> Vec<Vec<u8>> {
 }
 
 pub fn limits(checker: &mut Checker) -> Result<u64, Box<Difference>> {
-    let mut alike = T;
+    let (mut alike, mut none) = (T, T);
     for screen in 0..6 {
         alike[3 + 2 * screen] = 1;
+        none[3 + 2 * screen] = 0;
     }
     let mut calls = 0;
-    for table in [T, alike] {
+    for table in [T, alike, none] {
         let mut batch = Batch::new("limits", table.to_vec());
         for path in paths() {
             let session = batch.reached(&path);

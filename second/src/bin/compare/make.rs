@@ -252,7 +252,7 @@ pub fn random(random: &mut Random, limit: u64) -> Input {
         4 => random.one_of(&[1, 2, 5, 20, 63, 64]),
         _ => random.between(2, 6) as u8,
     };
-    let affinities = random.one_of(&[1, 2, 2, 3, 4, 8, 256]);
+    let affinities = random.one_of(&[1, 2, 2, 3, 4, 8, 255]);
     let modes = match style {
         2 => random.one_of(&[[6, 2, 2, 0], [5, 3, 1, 1], [3, 1, 3, 1]]),
         _ => random.one_of(&[[1, 1, 1, 1], [4, 2, 2, 1], [6, 1, 0, 1], [2, 0, 3, 2]]),

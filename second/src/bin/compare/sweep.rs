@@ -73,16 +73,29 @@ fn is_small(session: &Session) -> bool {
         && session.tasks.iter().all(|task| task.height() <= HEIGHT)
 }
 
-/// The affinities of two or three screens, up to renaming, each with how many
-/// screens it is for.
-const AFFINITIES: [(u8, [u8; 3]); 7] = [
-    (2, [5, 5, 0]),
-    (2, [5, 0, 0]),
-    (3, [5, 5, 5]),
-    (3, [5, 5, 0]),
-    (3, [5, 0, 5]),
-    (3, [5, 0, 0]),
-    (3, [5, 0, 255]),
+/// The affinities of two or three screens, up to renaming of those other than 0,
+/// each with how many screens it is for.
+const AFFINITIES: [(u8, [u8; 3]); 20] = [
+    (2, [1, 1, 0]),
+    (2, [1, 5, 0]),
+    (2, [0, 1, 0]),
+    (2, [1, 0, 0]),
+    (2, [0, 0, 0]),
+    (3, [1, 1, 1]),
+    (3, [1, 1, 5]),
+    (3, [1, 5, 1]),
+    (3, [5, 255, 255]),
+    (3, [1, 5, 255]),
+    (3, [0, 1, 1]),
+    (3, [0, 1, 5]),
+    (3, [1, 0, 1]),
+    (3, [1, 0, 5]),
+    (3, [1, 1, 0]),
+    (3, [1, 5, 0]),
+    (3, [0, 0, 1]),
+    (3, [0, 1, 0]),
+    (3, [1, 0, 0]),
+    (3, [0, 0, 0]),
 ];
 
 /// All small tables. The last screen is the main one; every other table is one

@@ -114,17 +114,26 @@ pub fn tables(checker: &mut Checker) -> Checked {
     Ok(())
 }
 
+/// T with affinity 0 for every screen.
+pub fn no_affinities() -> [u8; 14] {
+    let mut table = T;
+    for screen in 0..6 {
+        table[3 + 2 * screen] = 0;
+    }
+    table
+}
+
 /// Starts and finishing starts of every screen, with every flag bit and with
-/// every set of the six flags, and why of each.
-pub fn starts(checker: &mut Checker) -> Checked {
+/// every set of the six flags, and why of each, under a table with T's modes.
+pub fn starts(checker: &mut Checker, table: &[u8]) -> Checked {
     for session in sound() {
         let present = held(&session);
         let mut check = |what, screen, flags| -> Checked {
             let start = Call::Start { screen, flags };
             let finishing = Call::FinishingStart { screen, flags };
-            checker.check(what, &T, &present, start)?;
-            checker.check(what, &T, &present, finishing)?;
-            checker.check(what, &T, &present, Call::Why { screen, flags })?;
+            checker.check(what, table, &present, start)?;
+            checker.check(what, table, &present, finishing)?;
+            checker.check(what, table, &present, Call::Why { screen, flags })?;
             Ok(())
         };
         for screen in 0..=255 {

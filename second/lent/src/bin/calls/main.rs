@@ -5,8 +5,9 @@
 //!
 //! First a set that is the same for every seed: sessions bad in each of their
 //! fields, tables bad in each of theirs and of each wrong length, every screen,
-//! flag bit and set of flags, tasks of each height. Then calls on random sessions,
-//! made from the seed, until there are as many as asked for.
+//! flag bit and set of flags, with affinities and with none, tasks of each height.
+//! Then calls on random sessions, made from the seed, until there are as many as
+//! asked for.
 //! After each call the whole lent session, the answer, the table, the buffer and
 //! the bytes around them are compared. At the first difference it is printed, and
 //! the exit code is 1. At the end the program prints how often each call was
@@ -26,6 +27,7 @@ use second::random::Random;
 use lent_calls::call::Kind;
 use lent_calls::check::{Checked, Checker};
 use lent_calls::run;
+use lent_calls::sessions::T;
 
 fn main() -> ExitCode {
     let Some([seed, calls]) = run::options([("--seed", 1), ("--calls", 1_000_000)]) else {
@@ -42,7 +44,8 @@ fn main() -> ExitCode {
 fn compare(checker: &mut Checker, seed: u64, calls: u64) -> Checked {
     fixed::sessions(checker)?;
     fixed::tables(checker)?;
-    fixed::starts(checker)?;
+    fixed::starts(checker, &T)?;
+    fixed::starts(checker, &fixed::no_affinities())?;
     fixed::heights(checker)?;
     println!("fixed set: {} calls", checker.counts.all_calls());
     let mut random = Random::new(seed);
