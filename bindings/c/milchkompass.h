@@ -1,6 +1,7 @@
 /* The proved navigator for programs in C: link libmilchkompass.a (`bindings/library`).
  *
- * A table is bytes: N (1 to 64), the main screen's number, then for screens 0 to N - 1 a launch mode and an affinity.
+ * A table is bytes: N (1 to 64), the main screen's number, then for screens 0 to N - 1 a launch mode and an affinity,
+ * of which 0 is none.
  * A session belongs to its caller, who lends it to each call, and begins as MILCHKOMPASS_SESSION_FRESH.
  *
  * For all arguments: an accepted call answers 0 and what is then in front; a refused call answers the number of the

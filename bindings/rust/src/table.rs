@@ -46,7 +46,8 @@ impl TryFrom<u8> for LaunchMode {
 pub struct Screen {
     /// How the screen is started.
     pub mode: LaunchMode,
-    /// Which tasks it belongs with: affinities are compared as numbers.
+    /// Which tasks it belongs with: affinities are compared as numbers, and 0 is
+    /// none.
     pub affinity: u8,
 }
 
