@@ -29,13 +29,13 @@ const RULE_5: [u8; 96] =
 const RULE_6: [u8; 86] =
     *b"no task is found for the single-task screen: a new task of it alone comes to the front";
 
-const RULE_7: [u8; 47] = *b"the screen is in front already: nothing changes";
+const RULE_7: [u8; 55] = *b"the screen is in front already: the start moves nothing";
 
 const RULE_8: [u8; 87] =
     *b"the front task holds the screen, and CLEAR_TOP is set: what lay above the screen closes";
 
-const RULE_9: [u8; 109] =
-    *b"the front task holds the screen, and REORDER_TO_FRONT is set: the screen comes to its top, and nothing closes";
+const RULE_9: [u8; 89] =
+    *b"the front task holds the screen, and REORDER_TO_FRONT is set: the screen comes to its top";
 
 const RULE_10: [u8; 41] = *b"the screen opens on top of the front task";
 
