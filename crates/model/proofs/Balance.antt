@@ -24,7 +24,7 @@ use Rattle.model.specs.Image.{Reading, unreadable, readAs, readMore, rea
 use Rattle.model.specs.Calls.{Call, launch, start, finishingStart, back, look, restore, chosen, startedBy, started, finishedBy, finished, launched, backed, ownChecks, createdByChoice, closedByChoice, closedByFinish, createdOf, closedOf, done, refusalOf, answerTo, call}
 use Rattle.model.specs.Marks.{closeAt, closedAt, Stands}
 use Rattle.model.specs.Histories.{byRules, IsNoRestore}
-use Rattle.model.specs.Balance.{countBy, created, ScreensBalance}
+use Rattle.model.specs.Balance.{ifAccepted, created, ScreensBalance}
 use Rattle.model.proofs.Logic.{if-elim, All-at, contradiction}
 use Rattle.model.proofs.ListLaws.{isEmpty-length, omit-length, toFront-length, found-at}
 use Rattle.model.proofs.RefusalLaws.{refusal-skip}
@@ -179,7 +179,7 @@ module _ (tb : List ℕ) (ok : tableRefusal tb ≡ 0) where
     where
       go : (n : ℕ) → refusal (ownChecks tb s c) ≡ n
           → let o = settle outcome n s (done tb s c) (answerTo tb s c) in
-          standing (o .session) + o .answer .closed ≡ standing s + countBy n (createdOf tb s c)
+          standing (o .session) + o .answer .closed ≡ standing s + ifAccepted n (createdOf tb s c)
       go zero e = done-standing tb s h c made e
       go (suc k) e = refl
 
@@ -188,7 +188,7 @@ module _ (tb : List ℕ) (ok : tableRefusal tb ≡ 0) where
   pub created-most : (s : State ℕ) (c : Call) → created tb s c ≤ 1
   created-most s c = go (refusalOf tb s c)
     where
-      go : (n : ℕ) → countBy n (createdOf tb s c) ≤ 1
+      go : (n : ℕ) → ifAccepted n (createdOf tb s c) ≤ 1
       go zero = created-one tb s c
       go (suc k) = omega arith
 
@@ -206,13 +206,13 @@ module _ (tb : List ℕ) (ok : tableRefusal tb ≡ 0) where
       go zero = restored-standing tb s bytes
       go (suc k) = omega arith
 
-  -- ---- a list
+-- ---- a list
 
-  pub screens-balance : (cs : List Call) → All IsNoRestore cs → ScreensBalance tb cs
-  unfolding screensIn
-  screens-balance cs made =
-      let m = byRules tb in
-      let e = along-measure m standing (created tb) (λ s c. m .answer s c .closed) (Sound tb) IsNoRestore
-      (λ s h c k. call-sound tb ok s h c) call-standing fresh (fresh-sound tb) cs made in
-      let f = sum-answers m (λ a. a .closed) cs fresh in
-      record { most = omega (arith, e, f); balance = omega (arith, e, f) }
+pub screens-balance : (tb : List ℕ) → ScreensBalance tb
+unfolding screensIn
+screens-balance tb ok cs made =
+    let m = byRules tb in
+    let e = along-measure m standing (created tb) (λ s c. m .answer s c .closed) (Sound tb) IsNoRestore
+    (λ s h c k. call-sound tb ok s h c) (call-standing tb ok) fresh (fresh-sound tb) cs made in
+    let f = sum-answers m (λ a. a .closed) cs fresh in
+    record { most = omega (arith, e, f); balance = omega (arith, e, f) }

@@ -10,7 +10,7 @@ use Rattle.model.specs.Refusals.{refusal}
 use Rattle.model.specs.Calls.{Call, launch, start, finishingStart, back, look, restore, ownChecks, chosen, createdByChoice, createdOf}
 use Rattle.model.specs.Player.{Request, unplayable, requestOf}
 use Rattle.model.specs.Histories.{along, byRules}
-use Rattle.model.specs.Balance.{countBy, created}
+use Rattle.model.specs.Balance.{ifAccepted, created}
 use Rattle.model.proofs.Logic.{if-elim}
 use Rattle.model.proofs.Keeps.{refusal-own}
 use Rattle.session.specs.declared.Session.{Session}
@@ -24,12 +24,12 @@ use Rattle.calls.proofs.PlanSettling.{start-number}
 use Rattle.recording.specs.CallBytes.{callAsked, callOf}
 
 module _ (tb : List ℕ) (c : Session) (z : Sized c) (h : Ready tb c) where
-  one-call : (k : Call) (x : ℕ) → x ≡ countBy (refusal (ownChecks tb (view c) k)) (createdOf tb (view c) k)
+  one-call : (k : Call) (x : ℕ) → x ≡ ifAccepted (refusal (ownChecks tb (view c) k)) (createdOf tb (view c) k)
       → x ≡ along (byRules tb) (created tb) (view c) (k ∷ [])
   unfolding along
   one-call k x e =
       let f : x ≡ created tb (view c) k =
-      e ∙ ap (λ (n : ℕ). countBy n (createdOf tb (view c) k)) (sym (refusal-own tb (h .good) (view c) (sound-view tb c (h .sound)) k)) in
+      e ∙ ap (λ (n : ℕ). ifAccepted n (createdOf tb (view c) k)) (sym (refusal-own tb (h .good) (view c) (sound-view tb c (h .sound)) k)) in
       omega (arith, f)
 
   pub launch-creates : c .n ≡ 0 → 1 ≡ along (byRules tb) (created tb) (view c) (launch ∷ [])
@@ -49,14 +49,14 @@ module _ (tb : List ℕ) (c : Session) (z : Sized c) (h : Ready tb c) where
       → x ≡ along (byRules tb) (created tb) (view c) (startCall fin b w ∷ [])
   start-creates fin b w x e =
       one-call (startCall fin b w) x
-      (e ∙ ap (λ (n : ℕ). countBy n (createdByChoice (chosen tb (view c) b w))) (start-number tb c z b w fin h)
-      ∙ ap (countBy (refusal (ownChecks tb (view c) (startCall fin b w)))) (start-created fin b w))
+      (e ∙ ap (λ (n : ℕ). ifAccepted n (createdByChoice (chosen tb (view c) b w))) (start-number tb c z b w fin h)
+      ∙ ap (ifAccepted (refusal (ownChecks tb (view c) (startCall fin b w)))) (start-created fin b w))
 
   -- Back, look and restore create none
   none-by : (k : Call) → createdOf tb (view c) k ≡ 0 → 0 ≡ along (byRules tb) (created tb) (view c) (k ∷ [])
   none-by k e = one-call k 0 (rw e (go (refusal (ownChecks tb (view c) k))))
     where
-      go : (n : ℕ) → 0 ≡ countBy n 0
+      go : (n : ℕ) → 0 ≡ ifAccepted n 0
       go zero = refl
       go (suc n) = refl
 

@@ -11,6 +11,7 @@ ghost use Rattle.model.specs.Table.{tableRefusal};
 ghost use Rattle.model.specs.Session.{screensIn};
 ghost use Rattle.model.specs.Image.{image, longestImage};
 ghost use Rattle.model.specs.Histories.{IsNoRestore};
+ghost use Rattle.model.specs.Balance.{ScreensBalance};
 ghost use Rattle.model.specs.Promises.{Lifelong};
 ghost use Rattle.session.specs.Stored.{view, storageBlank, soundStored, Ready};
 ghost use Rattle.navigator.specs.Promise3.{reached, KeepsPromise3};
@@ -53,7 +54,7 @@ fn reply_to(table: &[u8], s: Session, kind: u8, b: u8, word: u32, image: &[u8]) 
 }
 
 // How many screens the call of a record creates.
-fn created_in(table: &[u8], s: Session, kind: u8, b: u8, word: u32) -> u8
+fn created_for(table: &[u8], s: Session, kind: u8, b: u8, word: u32) -> u8
     requires { ⌜ Ready (now table) s ⌝ }
     ensures { λ r. ⌜ CreatesFor (now (table .entry)) (view s) kind b word r ⌝ }
 {
@@ -106,7 +107,7 @@ fn after_calls(table: &[u8], begun: Session, calls: &[u8]) -> Counted
             };
         }
         p = from + n;
-        created += wide(created_in(table, s, kind, b, word));
+        created += wide(created_for(table, s, kind, b, word));
         let reply = reply_to(table, s, kind, b, word, &calls[from..p]);
         let answer = reply.answer;
         closed += wide(answer.closed);
@@ -188,6 +189,8 @@ pub fn count_screens(table: &[u8], calls: &[u8]) -> Screens
     ensures counts { λ r. ⌜ (tableRefusal (now (table .entry)) ≡ 0 → CountsScreens (now (table .entry)) (callsIn (now (calls .entry))) r) ⌝ }
     ensures refused { λ r. ⌜ ((tableRefusal (now (table .entry)) ≡ 0 → ⊥) → (r .created ≡ 0) × (r .closed ≡ 0) × (r .standing ≡ 0)) ⌝ }
     ensures balance { λ r. ⌜ (All IsNoRestore (callsIn (now (calls .entry))) → (r .closed ≤ r .created) × (r .created - r .closed ≡ r .standing)) ⌝ }
+    ensures balances { λ _. ⌜ ScreensBalance (now (table .entry)) ⌝ }
+    ensures promise { λ _. ⌜ KeepsPromise3 (now (table .entry)) ⌝ }
 {
     let refusal = table::refusal(table);
     if refusal != 0 {

@@ -9,7 +9,7 @@ use Rattle.model.specs.Refusals.{refusal}
 use Rattle.model.specs.Session.{mostTasks}
 use Rattle.model.specs.Flags.{flagsOf}
 use Rattle.model.specs.Rules.{choose}
-use Rattle.model.specs.Balance.{countBy}
+use Rattle.model.specs.Balance.{ifAccepted}
 use Rattle.session.specs.declared.Session.{Session}
 use Rattle.session.specs.declared.Task.{Task}
 use Rattle.session.specs.Stored.{view, Ready, taskBehind}
@@ -94,18 +94,18 @@ unless-found {n} {k} c p e f = rw e (unless-refused k c p (λ z. f (e ∙ z)))
 
 -- ---- counted: nothing where one of two refusals is not 0
 
-pub counted-first : (j k n : ℕ) → (j ≡ 0 → ⊥) → 0 ≡ countBy (orElse j k) n
+pub counted-first : (j k n : ℕ) → (j ≡ 0 → ⊥) → 0 ≡ ifAccepted (orElse j k) n
 counted-first zero k n f = absurd (f refl)
 counted-first (suc j) k n f = refl
 
-pub counted-second : (j k n : ℕ) → j ≡ 0 → (k ≡ 0 → ⊥) → 0 ≡ countBy (orElse j k) n
-counted-second j k n e f = rw e (counted-first k 0 n f ∙ ap (λ (i : ℕ). countBy i n) (only k))
+pub counted-second : (j k n : ℕ) → j ≡ 0 → (k ≡ 0 → ⊥) → 0 ≡ ifAccepted (orElse j k) n
+counted-second j k n e f = rw e (counted-first k 0 n f ∙ ap (λ (i : ℕ). ifAccepted i n) (only k))
   where
     only : (i : ℕ) → orElse i 0 ≡ i
     only zero = refl
     only (suc i) = refl
 
-pub counted-all : (j k n : ℕ) → j ≡ 0 → k ≡ 0 → n ≡ countBy (orElse j k) n
+pub counted-all : (j k n : ℕ) → j ≡ 0 → k ≡ 0 → n ≡ ifAccepted (orElse j k) n
 counted-all j k n e f = rw (e, f)
 
 -- ---- planned, by what was chosen

@@ -18,7 +18,7 @@ use Rattle.model.specs.Rules.{groupOf, soughtBy, choose}
 use Rattle.model.specs.Effects.{effectOf}
 use Rattle.model.specs.Calls.{startedBy, finishedBy, createdByChoice, closedByChoice, closedByFinish}
 use Rattle.model.specs.Marks.{markAfter}
-use Rattle.model.specs.Balance.{countBy}
+use Rattle.model.specs.Balance.{ifAccepted}
 use Rattle.session.specs.declared.Session.{Session}
 use Rattle.session.specs.declared.Task.{Task}
 use Rattle.session.specs.Stored.{view, viewTask, taskBehind}
@@ -140,4 +140,4 @@ madeClosed false tb c b f = closedByChoice (choose tb (view c) b f) b (view c)
 -- the screens that a start, or a finishing one, creates: none where it is refused at its entry or for want of room
 abbrev pub createdStored : List ℕ → Session → ℕ → ℕ → ℕ
 createdStored tb c b w =
-    countBy (orElse (refusal (startEntry tb (c .n) b w)) (roomRefusal tb c b (flagsOf w))) (createdByChoice (choose tb (view c) b (flagsOf w)))
+    ifAccepted (orElse (refusal (startEntry tb (c .n) b w)) (roomRefusal tb c b (flagsOf w))) (createdByChoice (choose tb (view c) b (flagsOf w)))

@@ -58,8 +58,8 @@ whole c = (omega arith, omega arith)
 add-p : tie.Need-add-p Inv-loop μ-loop
 add-p c = search needs
 
-created-in-requires : tie.Need-created-in-requires Inv-loop μ-loop
-created-in-requires c κs =
+created-for-requires : tie.Need-created-for-requires Inv-loop μ-loop
+created-for-requires c κs =
     let l = c .before .before .before .before .before .before in
     reached-ready (l .loop .inv) (good (l .before .before .before))
 
@@ -69,7 +69,7 @@ add-created c =
     let l = passed .before .before .before .before .before .before in
     let word = passed .before .before .word-at in
     let n = passed .before .image-length in
-    let few = reached-created (l .loop .inv) (good (l .before .before .before)) (whole passed .0) (word .result) (n .result) (word .ensures) (n .ensures) (whole passed .1) _ refl (c .before .created-in .result) (c .before .created-in .ensures) in
+    let few = reached-created (l .loop .inv) (good (l .before .before .before)) (whole passed .0) (word .result) (n .result) (word .ensures) (n .ensures) (whole passed .1) _ refl (c .before .created-for .result) (c .before .created-for .ensures) in
     omega (arith, few, c .wide .ensures)
 
 reply-to-requires : tie.Need-reply-to-requires Inv-loop μ-loop
@@ -97,7 +97,7 @@ loop-again c =
     let n = passed .before .image-length in
     rw (reply .before .before .wide .ensures, c .before .wide2 .ensures)
     (reached-more (l .loop .inv) (good (l .before .before .before)) (whole passed .0) (word .result) (n .result) (word .ensures) (n .ensures) (whole passed .1)
-    (reply .reply-to .result) (reply .reply-to .ensures) (made .created-in .result) (made .created-in .ensures))
+    (reply .reply-to .result) (reply .reply-to .ensures) (made .created-for .result) (made .created-for .ensures))
 
 returns-2 : tie.Need-returns-2 Inv-loop μ-loop
 returns-2 c =
@@ -121,7 +121,7 @@ after-calls-spec =
     (λ c. search needs)
     returns
     add-p
-    created-in-requires
+    created-for-requires
     (λ c κs. search needs)
     add-created
     (λ c. search needs)

@@ -3,7 +3,9 @@ use borrow.Author.Needs.{needs}
 use mathlib.Core.Path.{_≡_, refl, sym, _∙_}
 use native.Mathlib.Omega.{arith}
 use Rattle.model.specs.Table.{tableRefusal}
+use Rattle.model.proofs.Balance.{screens-balance}
 use Rattle.session.specs.Stored.{freshSession}
+use Rattle.navigator.proofs.Promise3Laws.{promise3}
 use Rattle.recording.specs.CallBytes.{callsIn}
 use Rattle.recording.specs.Counts.{Counts}
 use Rattle.recording.proofs.Endings.{fresh-stored, fresh-screens}
@@ -16,7 +18,8 @@ returns c =
     let a = c .before .before .before .before .args in
     let number = c .before .refusal .ensures in
     let bad : tableRefusal (a .table .now) ≡ 0 → ⊥ = λ z. c .if1 .taken (number ∙ z) in
-    (number, (λ z. absurd (bad z), (λ b. (refl, refl, refl), λ made. (omega arith, refl))))
+    let tb = a .table .now in
+    (number, (λ z. absurd (bad z), (λ b. (refl, refl, refl), (λ made. (omega arith, refl), (screens-balance tb, promise3 tb)))))
 
 after-calls-requires : tie.Need-after-calls-requires
 after-calls-requires c κs =
@@ -44,9 +47,11 @@ returns-2 : tie.Need-returns-2
 returns-2 c =
     let done = c .before .before in
     let a = done .before .before .before .before .before .before .args in
-    let counted = counted-screens (a .table .now) (ok done) (callsIn (a .calls .now)) (done .after-calls .result) (counts done) (c .standing .result) (c .standing .ensures) in (
+    let tb = a .table .now in
+    let ks = callsIn (a .calls .now) in
+    let counted = counted-screens tb (ok done) ks (done .after-calls .result) (counts done) (c .standing .result) (c .standing .ensures) in (
       sym (ok done),
-      (λ z. counted, (λ bad. absurd (bad (ok done)), counted-balance (a .table .now) (ok done) (callsIn (a .calls .now)) _ counted)),
+      (λ z. counted, (λ bad. absurd (bad (ok done)), (counted-balance tb (ok done) ks _ counted, (screens-balance tb, promise3 tb)))),
     )
 
 pub count-screens-spec : {M : Type 1} → statement M

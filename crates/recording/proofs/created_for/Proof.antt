@@ -1,4 +1,4 @@
--- `recording::created_in` meets its contract, by the kind.
+-- `recording::created_for` meets its contract, by the kind.
 use mathlib.Core.Path.{_≡_}
 use mathlib.Core.Bool.{true, false}
 use borrow.Author.Needs.{needs}
@@ -6,8 +6,8 @@ use Rattle.model.specs.Player.{requestOf}
 use Rattle.session.proofs.Known.{Sized, sized}
 use Rattle.recording.specs.CallBytes.{callOf}
 use Rattle.recording.proofs.Creating.{launch-creates, launch-refused, start-creates, others-create}
-use Rattle.recording.proofs.created_in.Statement.{statement}
-use Rattle.recording.proofs.created_in.Tie as tie
+use Rattle.recording.proofs.created_for.Statement.{statement}
+use Rattle.recording.proofs.created_for.Tie as tie
 
 sizes : (c : tie.Start) → Sized (c .args .s)
 sizes c = sized (c .args .s) _ (c .good .1 .0)
@@ -45,8 +45,8 @@ returns-5 c bytes =
     let r = c .match .rest in
     others-create (a .table .now) (a .s) (sizes start) (start .pre) (a .kind) (a .b) (a .word) (r .0 .0 .1) (r .0 .1) (r .1) bytes
 
-pub created-in-spec : {M : Type 1} → statement M
-created-in-spec =
+pub created-for-spec : {M : Type 1} → statement M
+created-for-spec =
     tie.close
     (tie.spec
     returns
