@@ -90,8 +90,7 @@ fn refusals() {
     assert_eq!(screens.why(1, NONE), Err(Refusal::TaskFull));
 }
 
-/// A start by the rule that was told leaves what the rule says, and a
-/// finishing start has the same reason.
+/// The rule that is told displays its sentence.
 #[test]
 fn sentence_of_a_start() {
     let p4 = session(&[(4, &[4]), (3, &[3]), (0, &[1, 0])], 3);

@@ -66,7 +66,7 @@ why tb s b w = reasonBy (refusalOf tb s (start b w)) (chosen tb s b w)
 
 -- ---- what is to be proved of them
 
--- the rule that has a number; it is R18 where none has it
+-- the rule that has a number; where none has it, R1 for 0 and R18 for any other
 unfoldable pub ruleNumbered : ℕ → Rule
 ruleNumbered n = getD (rulesOf Group.Instance ++ rulesOf Group.Task ++ rulesOf Group.NotApart ++ rulesOf Group.Apart) (pred n) Rule.R18
 

@@ -1,4 +1,4 @@
-// Document 01 as definitions (specs/) and the theorems about them (proofs/). There is no function here: only the
+// Documents 01 and 02 as definitions (specs/) and the theorems about them (proofs/). There is no function here: only the
 // plain structs and enums that definitions and code share.
 
 // An answer is seven numbers: the refusal (0 if none); after the call, the front screen, the front root, the front height, the
