@@ -20,8 +20,8 @@
 //   every_rule              each of R1 to R18, and each refusal of a start under a good table
 // The reasons in every_rule, too, were written by hand from 01's rules, step by step with the stacks, and so were the lines of its
 // four starts before the look, of which two are finishing starts by R9 and R7. The reasons in the other inputs are from the
-// second navigator. The last number of each other line, the screens closed, was made twice, by a script written from the
-// documents and by the second navigator, and both agree.
+// second navigator. In all lines but these four the last number, the screens closed, was made twice, by a script written from
+// the documents and by the second navigator, and both agree.
 use libc::STDOUT_FILENO;
 use playing::Manner;
 
