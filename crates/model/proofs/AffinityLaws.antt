@@ -1,7 +1,7 @@
 -- Affinity 0 is no affinity, in every start: from what the searches find.
 use Prim.Native.Nat.{ℕ, zero, suc, _≤_}
 use mathlib.Core.Path.{_≡_, refl, sym, _∙_}
-use mathlib.Core.Bool.{false}
+use mathlib.Core.Bool.{true, false}
 use mathlib.Core.List.{List}
 use native.Mathlib.Omega.{arith}
 use Rattle.model.specs.declared.Choice.{Choice}
@@ -13,7 +13,7 @@ use Rattle.model.specs.Lists.{find, first}
 use Rattle.model.specs.Table.{isSingleTask, isSingleInstance}
 use Rattle.model.specs.Session.{Stack, State, noStack, taskAt}
 use Rattle.model.specs.Flags.{flagsOf}
-use Rattle.model.specs.Search.{hasRoot, seekRoot, seek}
+use Rattle.model.specs.Search.{hasRoot, seekRoot, seeksByRoot, seek}
 use Rattle.model.specs.Rules.{rulesOf, isApart, groupOf, soughtBy, fits, chooseIn, choose}
 use Rattle.model.specs.Calls.{chosen}
 use Rattle.model.specs.Reasons.{numberOf, reasonOf}
@@ -31,11 +31,15 @@ module _ (tb : List ℕ) (s : State ℕ) (b : ℕ) where
   abbrev Zero : Rule → Found → Type 0
   Zero r t = AffinityZero tb s b (reasonOf (record { rule = r; found = t }))
 
+  -- the edition seeks by root
+  abbrev Rooted : Type 0
+  Rooted = seeksByRoot tb (s .edition) b ≡ true
+
   -- what a search that begins with the roots tells
   abbrev Told : Found → Type 0
-  Told Found.Nowhere = byRoot ≡ 0
+  Told Found.Nowhere = Rooted → byRoot ≡ 0
   Told (Found.ByRoot p) = (1 ≤ p) × (byRoot ≡ p)
-  Told (Found.ByAffinity p) = (byRoot ≡ 0) × HasAffinity tb b (taskAt ts p)
+  Told (Found.ByAffinity p) = (Rooted → byRoot ≡ 0) × HasAffinity tb b (taskAt ts p)
 
   no-root : NoTask (HasRoot b) ts → byRoot ≡ 0
   no-root = find-nowhere noStack (root-decides b) ts .1
@@ -45,14 +49,14 @@ module _ (tb : List ℕ) (s : State ℕ) (b : ℕ) where
   first-told (suc k) h = (h .least, find-first noStack (root-decides b) ts k .1 h)
 
   root-told : (t : Found) → FindsByRoot b ts t → Told t
-  root-told Found.Nowhere h = no-root h
+  root-told Found.Nowhere h = λ _. no-root h
   root-told (Found.ByRoot p) h = first-told p h
   root-told (Found.ByAffinity p) h = absurd h
 
-  told : (t : Found) → Finds tb b ts t → Told t
-  told Found.Nowhere h = no-root (h .0)
-  told (Found.ByRoot p) h = first-told p h
-  told (Found.ByAffinity p) h = (no-root (h .0), h .1 .fits)
+  told : (t : Found) → Finds tb (s .edition) b ts t → Told t
+  told Found.Nowhere h = λ k. no-root (h .0 k)
+  told (Found.ByRoot p) h = first-told p (h .1)
+  told (Found.ByAffinity p) h = (λ k. no-root (h .0 k), h .1 .fits)
 
   -- a task was sought
   sought : (r : Rule) (t : Found) → Told t → Zero r t
@@ -60,21 +64,21 @@ module _ (tb : List ℕ) (s : State ℕ) (b : ℕ) where
       record {
         screen = λ z e. absurd (omega arith);
         task = λ e. absurd (omega arith);
-        root = λ _. (λ e. absurd (omega arith), λ l. absurd (omega (arith, h)));
+        root = λ _ k. (λ e. absurd (omega arith), λ l. absurd (omega (arith, h k)));
         first = λ e. absurd (omega arith);
       }
   sought r (Found.ByRoot p) h =
       record {
         screen = λ z e. absurd (omega arith);
         task = λ e. absurd (omega arith);
-        root = λ _. (λ e. omega (arith, h .0, h .1), λ l. refl);
+        root = λ _ k. (λ e. omega (arith, h .0, h .1), λ l. refl);
         first = λ e. sym (h .1);
       }
   sought r (Found.ByAffinity p) h =
       record {
         screen = λ z e. h .1 .1 z;
         task = λ e z. h .1 .1 (sym (h .1 .0 .1) ∙ z);
-        root = λ _. (λ e. absurd (omega arith), λ l. absurd (omega (arith, h .0)));
+        root = λ _ k. (λ e. absurd (omega arith), λ l. absurd (omega (arith, h .0 k)));
         first = λ e. absurd (omega arith);
       }
 
@@ -104,8 +108,8 @@ module _ (tb : List ℕ) (s : State ℕ) (b : ℕ) where
     by-root : (g : Group) → Zero (ruleIn g (seekRoot b ts)) (seekRoot b ts)
     by-root g = let t = seekRoot b ts in sought (ruleIn g t) t (root-told t (seekRoot-exact b ts t .0 refl))
 
-    by-both : (g : Group) → Zero (ruleIn g (seek tb b ts)) (seek tb b ts)
-    by-both g = let t = seek tb b ts in sought (ruleIn g t) t (told t (seek-exact tb b ts t .0 refl))
+    by-both : (g : Group) → Zero (ruleIn g (seek tb (s .edition) b ts)) (seek tb (s .edition) b ts)
+    by-both g = let t = seek tb (s .edition) b ts in sought (ruleIn g t) t (told t (seek-exact tb (s .edition) b ts t .0 refl))
 
     -- R7 to R10; R11, or what is sought
     near : Chosen (chooseIn tb s b f Group.NotApart)
@@ -115,7 +119,7 @@ module _ (tb : List ℕ) (s : State ℕ) (b : ℕ) where
     apart : Chosen (chooseIn tb s b f Group.Apart)
     unfolding chooseIn soughtBy fits rulesOf
     apart =
-        if-elim (λ t. Zero (ruleIn Group.Apart t) t) (f .mtk) Found.Nowhere (seek tb b ts)
+        if-elim (λ t. Zero (ruleIn Group.Apart t) t) (f .mtk) Found.Nowhere (seek tb (s .edition) b ts)
         (λ m. unsought-in Group.Apart (λ _. refl, contradiction m)) (λ _. by-both Group.Apart)
 
     choose-zero : Chosen (choose tb s b f)

@@ -17,11 +17,11 @@ use Rattle.model.specs.Table.{tableRefusal}
 use Rattle.model.specs.Session.{Stack, State, stack, noStack, taskAt, front, height, count, screensIn, fresh, mostHeight}
 use Rattle.model.specs.Flags.{flagsOf}
 use Rattle.model.specs.Search.{placeOf, holds}
-use Rattle.model.specs.Effects.{effectOf, changed, carryOut}
+use Rattle.model.specs.Effects.{changed, carryOut}
 use Rattle.model.specs.Counts.{createdIn, createdBy, closedIn, closedBy}
 use Rattle.model.specs.Answers.{outcome, settle}
 use Rattle.model.specs.Image.{Reading, unreadable, readAs, readMore, readTasks, tasksRead, countIn, bodyIn, sessionIn}
-use Rattle.model.specs.Calls.{Call, launch, start, finishingStart, back, look, restore, chosen, startedBy, started, finishedBy, finished, launched, backed, ownChecks, createdByChoice, closedByChoice, closedByFinish, createdOf, closedOf, done, refusalOf, answerTo, call}
+use Rattle.model.specs.Calls.{Call, launch, start, finishingStart, back, look, restore, chosen, effectIn, startedBy, started, finishedBy, finished, launched, backed, ownChecks, createdByChoice, closedByChoice, closedByFinish, createdOf, closedOf, done, refusalOf, answerTo, call}
 use Rattle.model.specs.Marks.{closeAt, closedAt, Stands}
 use Rattle.model.specs.Histories.{byRules, IsNoRestore}
 use Rattle.model.specs.Balance.{ifAccepted, created, ScreensBalance}
@@ -85,13 +85,13 @@ no-screens (t ∷ ts) e = contradiction e refl
 
 module _ (tb : List ℕ) (s : State ℕ) (h : Sound tb s) where
   start-standing : (b w : ℕ) → 1 ≤ count s
-      → standing (startedBy (chosen tb s b w) b s) + closedByChoice (chosen tb s b w) b s ≡ standing s + createdByChoice (chosen tb s b w)
+      → standing (startedBy (chosen tb s b w) b s) + closedByChoice (chosen tb s b w) b s ≡ standing s + createdByChoice (chosen tb s b w) s
   start-standing b w some =
       let c = chosen tb s b w in
-      carry-standing tb b (effectOf (c .rule)) (placeOf (c .found)) s (choose-ready tb s b (flagsOf w) h some)
+      carry-standing tb b (effectIn s c) (placeOf (c .found)) s (choose-ready tb s b (flagsOf w) h some)
 
   finish-standing : (b w : ℕ) → 1 ≤ count s
-      → standing (finishedBy (chosen tb s b w) b s) + closedByFinish (chosen tb s b w) b s ≡ standing s + createdByChoice (chosen tb s b w)
+      → standing (finishedBy (chosen tb s b w) b s) + closedByFinish (chosen tb s b w) b s ≡ standing s + createdByChoice (chosen tb s b w) s
   finish-standing b w some =
       let c = chosen tb s b w in
       let k = closed-standing (markOf c b s) (startedBy c b s) (marked-stands tb b (flagsOf w) s h some) in
@@ -101,8 +101,8 @@ module _ (tb : List ℕ) (s : State ℕ) (h : Sound tb s) where
   done-standing : (c : Call) → IsNoRestore c → refusal (ownChecks tb s c) ≡ 0
       → standing (done tb s c) + closedOf tb s c ≡ standing s + createdOf tb s c
   unfolding done ownChecks createdOf closedOf launched started finished backed
-  done-standing launch made e =
-      let z = no-screens (s .tasks) (not-false _ (refusal-skip 21 (not (isEmpty (s .tasks))) [] e .0)) in
+  done-standing (launch v) made e =
+      let z = no-screens (s .tasks) (not-false _ (refusal-skip 21 (not (isEmpty (s .tasks))) _ e .0)) in
       omega (arith, z)
   done-standing (start b w) made e = start-standing b w (start-accepted tb s b w e .some)
   done-standing (finishingStart b w) made e = finish-standing b w (start-accepted tb s b w e .some)
@@ -117,7 +117,7 @@ module _ (tb : List ℕ) (s : State ℕ) (h : Sound tb s) where
 
 -- at most one screen, or by a restore those of the image, a byte each
 abbrev pub mostBrought : Call → ℕ
-mostBrought launch = 1
+mostBrought (launch e) = 1
 mostBrought (start b w) = 1
 mostBrought (finishingStart b w) = 1
 mostBrought back = 1
@@ -140,9 +140,9 @@ created-effect (Effect.MoveAnd c) = created-change c
 
 created-one : (tb : List ℕ) (s : State ℕ) (c : Call) → createdOf tb s c ≤ 1
 unfolding createdOf
-created-one tb s launch = omega arith
-created-one tb s (start b w) = created-effect (effectOf (chosen tb s b w .rule))
-created-one tb s (finishingStart b w) = created-effect (effectOf (chosen tb s b w .rule))
+created-one tb s (launch e) = omega arith
+created-one tb s (start b w) = created-effect (effectIn s (chosen tb s b w))
+created-one tb s (finishingStart b w) = created-effect (effectIn s (chosen tb s b w))
 created-one tb s back = omega arith
 created-one tb s look = omega arith
 created-one tb s (restore bytes) = omega arith
@@ -194,7 +194,7 @@ module _ (tb : List ℕ) (ok : tableRefusal tb ≡ 0) where
 
   pub call-most : (s : State ℕ) → Sound tb s → (c : Call)
       → standing (call tb s c .session) + call tb s c .answer .closed ≤ standing s + mostBrought c
-  call-most s h launch = omega (arith, call-standing s h launch tt, created-most s launch)
+  call-most s h (launch e) = omega (arith, call-standing s h (launch e) tt, created-most s (launch e))
   call-most s h (start b w) = omega (arith, call-standing s h (start b w) tt, created-most s (start b w))
   call-most s h (finishingStart b w) = omega (arith, call-standing s h (finishingStart b w) tt, created-most s (finishingStart b w))
   call-most s h back = omega (arith, call-standing s h back tt, created-most s back)

@@ -7,21 +7,21 @@ use lib.ListN.{replicate}
 use Rattle.model.specs.Texts.{ascii}
 use Rattle.model.specs.Refusals.{refusal}
 use Rattle.model.specs.Table.{modeOf, affinityOf, isSingleTop, isSingleTask, isSingleInstance, rootsOnce, tableShaped, tableFilled}
-use Rattle.model.specs.Session.{State, stack, state, fresh, screensIn, heightFits, screensKnown, instanceAlone, taskSound, rootsDiffer, mainSound, sound}
+use Rattle.model.specs.Session.{State, stack, state, onEdition, fresh, screensIn, heightFits, screensKnown, instanceAlone, taskSound, rootsDiffer, mainSound, isEdition, editionSound, sound}
 use Rattle.model.specs.Flags.{NTK, STP, MTK, CTP, RTF, CTK, flagsOf, hasOtherBit}
-use Rattle.model.specs.Search.{hasRoot, akin, hasAffinity, seekRoot, seekAffinity, seek, holds}
+use Rattle.model.specs.Search.{hasRoot, akin, hasAffinity, seekRoot, seekAffinity, seeksByRoot, seek, holds}
 use Rattle.model.specs.Rules.{rulesOf, isSingle, isApart, groupOf, soughtBy, fits, chooseIn, choose}
-use Rattle.model.specs.Effects.{effectOf, mainMoved, mainWithout, move, changed, changeFront, putNew, carryOut, close}
+use Rattle.model.specs.Effects.{reordered, effectOf, mainMoved, mainWithout, move, changed, changeFront, putNew, carryOut, close}
 use Rattle.model.specs.Counts.{closedIn, closedBy}
 use Rattle.model.specs.Answers.{lookAt}
 use Rattle.model.specs.Image.{image, imageShaped, readTasks, imageReadable, sessionIn}
-use Rattle.model.specs.Calls.{Call, start, finishingStart, restore, started, mapState, markFront, closeMarked, finished, launched, backed, ownChecks, createdOf, closedOf, done, refusalOf, call, save}
+use Rattle.model.specs.Calls.{Call, launch, start, finishingStart, back, restore, started, mapState, markFront, closeMarked, finished, launched, backed, ownChecks, createdOf, closedOf, done, refusalOf, call, save}
 use Rattle.model.specs.Histories.{after, answers, along}
 use Rattle.model.specs.Balance.{createdAlong, closedAlong, standingAfter}
 use Rattle.model.specs.Player.{decimal, lineText, lineOf, requestOf, recordsIn, outcomeOf, textOf, startsWithTable, playerText}
 
 unfoldable computing : Unit {0}
-unfolding refusal modeOf affinityOf isSingleTop isSingleTask isSingleInstance rootsOnce tableShaped tableFilled heightFits screensKnown instanceAlone taskSound rootsDiffer mainSound sound flagsOf hasOtherBit hasRoot akin hasAffinity seekRoot seekAffinity seek holds rulesOf isSingle isApart groupOf soughtBy fits chooseIn choose effectOf mainMoved mainWithout move changed changeFront putNew carryOut close lookAt image imageShaped readTasks imageReadable sessionIn started mapState markFront closeMarked finished launched backed ownChecks done refusalOf call save screensIn closedIn closedBy createdOf closedOf after answers along decimal lineText lineOf requestOf recordsIn outcomeOf textOf startsWithTable playerText
+unfolding refusal modeOf affinityOf isSingleTop isSingleTask isSingleInstance rootsOnce tableShaped tableFilled heightFits screensKnown instanceAlone taskSound rootsDiffer mainSound isEdition editionSound sound flagsOf hasOtherBit hasRoot akin hasAffinity seekRoot seekAffinity seeksByRoot seek holds rulesOf isSingle isApart groupOf soughtBy fits chooseIn choose reordered effectOf mainMoved mainWithout move changed changeFront putNew carryOut close lookAt image imageShaped readTasks imageReadable sessionIn started mapState markFront closeMarked finished launched backed ownChecks done refusalOf call save screensIn closedIn closedBy createdOf closedOf after answers along decimal lineText lineOf requestOf recordsIn outcomeOf textOf startsWithTable playerText
 computing = tt
 
 -- "Table T, hex: 06 00 00 01 00 01 01 01 02 02 03 01 00 02"
@@ -56,42 +56,50 @@ hasImage s l = record { got = bytes (image s); said = bytes l }
 
 -- 0:[2,1,0], m 1
 abbrev three : State ℕ
-three = state (stack 0 (2 ∷ 1 ∷ 0 ∷ []) ∷ []) 1
+three = state (stack 0 (2 ∷ 1 ∷ 0 ∷ []) ∷ []) 1 8
 
 -- 4:[4] 3:[3] 0:[1,0], m 3
 abbrev instanceInFront : State ℕ
-instanceInFront = state (stack 4 (4 ∷ []) ∷ stack 3 (3 ∷ []) ∷ stack 0 (1 ∷ 0 ∷ []) ∷ []) 3
+instanceInFront = state (stack 4 (4 ∷ []) ∷ stack 3 (3 ∷ []) ∷ stack 0 (1 ∷ 0 ∷ []) ∷ []) 3 8
 
 -- 5:[1,5] 0:[0], m 2
 abbrev rootInFront : State ℕ
-rootInFront = state (stack 5 (1 ∷ 5 ∷ []) ∷ stack 0 (0 ∷ []) ∷ []) 2
+rootInFront = state (stack 5 (1 ∷ 5 ∷ []) ∷ stack 0 (0 ∷ []) ∷ []) 2 8
 
 -- 3:[3] 0:[0], m 2
 abbrev singleTaskInFront : State ℕ
-singleTaskInFront = state (stack 3 (3 ∷ []) ∷ stack 0 (0 ∷ []) ∷ []) 2
+singleTaskInFront = state (stack 3 (3 ∷ []) ∷ stack 0 (0 ∷ []) ∷ []) 2 8
 
 -- 0:[0], m 1
 abbrev one : State ℕ
-one = state (stack 0 (0 ∷ []) ∷ []) 1
+one = state (stack 0 (0 ∷ []) ∷ []) 1 8
+
+-- 5:[5] 3:[3] 0:[0], m 3; the screens 5 and 3 have affinity 2
+abbrev sameAffinity : State ℕ
+sameAffinity = state (stack 5 (5 ∷ []) ∷ stack 3 (3 ∷ []) ∷ stack 0 (0 ∷ []) ∷ []) 3 8
+
+-- the session in another edition
+abbrev of : ℕ → State ℕ → State ℕ
+of e s = onEdition (λ _. e) s
 
 -- a task whose root is the main screen 0, with screen 0 below n copies of screen 1
 abbrev tall : ℕ → State ℕ
-tall n = state (stack 0 (replicate n 1 ++ 0 ∷ []) ∷ []) 1
+tall n = state (stack 0 (replicate n 1 ++ 0 ∷ []) ∷ []) 1 8
 
 -- 16 tasks of the standard screen 0
 abbrev crowd : ℕ → State ℕ
-crowd n = state (replicate n (stack 0 (0 ∷ []))) 0
+crowd n = state (replicate n (stack 0 (0 ∷ []))) 0 8
 
 abbrev cases : List Case
 cases =
     -- P1, P2 in both its forms, P3
-    accepted three (start 1 RTF) (state (stack 0 (1 ∷ 2 ∷ 0 ∷ []) ∷ []) 1)
-    ∷ closing 1 three (start 1 CTP) (state (stack 0 (1 ∷ 0 ∷ []) ∷ []) 1)
-    ∷ closing 1 three (start 1 (CTP + RTF)) (state (stack 0 (1 ∷ 0 ∷ []) ∷ []) 1)
+    accepted three (start 1 RTF) (state (stack 0 (1 ∷ 2 ∷ 0 ∷ []) ∷ []) 1 8)
+    ∷ closing 1 three (start 1 CTP) (state (stack 0 (1 ∷ 0 ∷ []) ∷ []) 1 8)
+    ∷ closing 1 three (start 1 (CTP + RTF)) (state (stack 0 (1 ∷ 0 ∷ []) ∷ []) 1 8)
     ∷ accepted three (start 2 0) three
     -- P4, P5
-    ∷ accepted instanceInFront (start 1 0) (state (stack 0 (1 ∷ 1 ∷ 0 ∷ []) ∷ stack 4 (4 ∷ []) ∷ stack 3 (3 ∷ []) ∷ []) 1)
-    ∷ accepted instanceInFront (start 1 STP) (state (stack 0 (1 ∷ 0 ∷ []) ∷ stack 4 (4 ∷ []) ∷ stack 3 (3 ∷ []) ∷ []) 1)
+    ∷ accepted instanceInFront (start 1 0) (state (stack 0 (1 ∷ 1 ∷ 0 ∷ []) ∷ stack 4 (4 ∷ []) ∷ stack 3 (3 ∷ []) ∷ []) 1 8)
+    ∷ accepted instanceInFront (start 1 STP) (state (stack 0 (1 ∷ 0 ∷ []) ∷ stack 4 (4 ∷ []) ∷ stack 3 (3 ∷ []) ∷ []) 1 8)
     -- P6, P7
     ∷ accepted rootInFront (start 5 NTK) rootInFront
     ∷ accepted singleTaskInFront (start 3 (NTK + MTK)) singleTaskInFront
@@ -99,25 +107,41 @@ cases =
     ∷ closing 1 one (finishingStart 0 (NTK + CTK)) one
     ∷ closing 1 one (finishingStart 0 (NTK + STP)) fresh
     -- P10
-    ∷ hasImage (state (stack 3 (3 ∷ []) ∷ stack 0 (1 ∷ 0 ∷ []) ∷ []) 2)
+    ∷ hasImage (state (stack 3 (3 ∷ []) ∷ stack 0 (1 ∷ 0 ∷ []) ∷ []) 2 8)
     (0x03 ∷ 0x01 ∷ 0x03 ∷ 0x00 ∷ 0x02 ∷ 0x01 ∷ 0x00 ∷ 0x00 ∷ 0x07 ∷ 0x02 ∷ 0x02 ∷ 0x08 ∷ 0x42 ∷ [])
     -- "A task of 31 takes a push, one of 32 gives 24. RTF on a screen inside a task of 32 is accepted."
     ∷ accepted (tall 30) (start 1 0) (tall 31)
     ∷ refusedWith 24 (tall 31) (start 1 0)
-    ∷ accepted (tall 31) (start 0 RTF) (state (stack 0 (0 ∷ replicate 31 1) ∷ []) 1)
+    ∷ accepted (tall 31) (start 0 RTF) (state (stack 0 (0 ∷ replicate 31 1) ∷ []) 1 8)
     -- "23: a new task is needed and n = 16": 15 tasks take one, 16 do not
     ∷ accepted (crowd 15) (start 0 (NTK + MTK)) (crowd 16)
     ∷ refusedWith 23 (crowd 16) (start 0 (NTK + MTK))
     -- "testing in R15 for the main task by comparing the place found before the move with m after it": the task found
     -- is at 2, the main task at 1
-    ∷ accepted (state (stack 0 (0 ∷ []) ∷ stack 5 (1 ∷ 5 ∷ []) ∷ []) 1) (start 5 NTK) rootInFront
+    ∷ accepted (state (stack 0 (0 ∷ []) ∷ stack 5 (1 ∷ 5 ∷ []) ∷ []) 1 8) (start 5 NTK) rootInFront
     -- screens closed: above the topmost of two copies; by a finishing start, the caller, which a lift leaves and a clear may
     -- have closed; all of an emptied task of 32, also a B, and the caller
-    ∷ closing 1 (state (stack 0 (2 ∷ 1 ∷ 2 ∷ 1 ∷ 0 ∷ []) ∷ []) 1) (start 1 CTP) (state (stack 0 (1 ∷ 2 ∷ 1 ∷ 0 ∷ []) ∷ []) 1)
-    ∷ closing 1 three (finishingStart 1 RTF) (state (stack 0 (1 ∷ 0 ∷ []) ∷ []) 1)
-    ∷ closing 1 three (finishingStart 1 CTP) (state (stack 0 (1 ∷ 0 ∷ []) ∷ []) 1)
+    ∷ closing 1 (state (stack 0 (2 ∷ 1 ∷ 2 ∷ 1 ∷ 0 ∷ []) ∷ []) 1 8) (start 1 CTP) (state (stack 0 (1 ∷ 2 ∷ 1 ∷ 0 ∷ []) ∷ []) 1 8)
+    ∷ closing 1 three (finishingStart 1 RTF) (state (stack 0 (1 ∷ 0 ∷ []) ∷ []) 1 8)
+    ∷ closing 1 three (finishingStart 1 CTP) (state (stack 0 (1 ∷ 0 ∷ []) ∷ []) 1 8)
     ∷ closing 32 (tall 31) (start 0 (NTK + CTK)) one
-    ∷ closing 33 (state (stack 3 (3 ∷ []) ∷ tall 31 .tasks) 2) (finishingStart 0 (NTK + CTK)) one
+    ∷ closing 33 (state (stack 3 (3 ∷ []) ∷ tall 31 .tasks) 2 8) (finishingStart 0 (NTK + CTK)) one
+    -- editions (02, request 4): launch names one, 0 stands for 8, 22 comes before 30; an emptied session has edition 8
+    ∷ accepted fresh (launch 0) one
+    ∷ accepted fresh (launch 6) (of 6 one)
+    ∷ refusedWith 30 fresh (launch 5)
+    ∷ refusedWith 30 fresh (launch 9)
+    ∷ refusedWith 22 one (launch 9)
+    ∷ closing 1 (of 6 one) back fresh
+    ∷ closing 1 (of 7 one) (finishingStart 0 (NTK + STP)) fresh
+    -- edition 7: R9 empties the main task, and lifts in any other; the marked screen is gone, and a task of 32 takes the push
+    ∷ closing 3 (of 7 three) (start 1 RTF) (of 7 (state (stack 0 (1 ∷ []) ∷ []) 1 8))
+    ∷ closing 3 (of 7 three) (finishingStart 1 RTF) (of 7 (state (stack 0 (1 ∷ []) ∷ []) 1 8))
+    ∷ closing 32 (of 7 (tall 31)) (start 0 RTF) (of 7 one)
+    ∷ accepted (of 7 (state (three .tasks) 0 8)) (start 1 RTF) (of 7 (state (stack 0 (1 ∷ 2 ∷ 0 ∷ []) ∷ []) 0 8))
+    -- edition 6: a single-task screen with an affinity is sought by affinity alone, and the first task of that affinity is found
+    ∷ accepted (of 6 sameAffinity) (start 3 NTK) (of 6 (state (stack 5 (3 ∷ 5 ∷ []) ∷ stack 3 (3 ∷ []) ∷ stack 0 (0 ∷ []) ∷ []) 3 8))
+    ∷ accepted sameAffinity (start 3 NTK) (state (stack 3 (3 ∷ []) ∷ stack 5 (5 ∷ []) ∷ stack 0 (0 ∷ []) ∷ []) 3 8)
     ∷ []
 
 stacks : map (λ (c : Case). c .got) cases ≡ map (λ (c : Case). c .said) cases
@@ -136,7 +160,7 @@ example =
     ++ (0x04 ∷ 0x00 ∷ 0x00 ∷ 0x00 ∷ 0x00 ∷ 0x00 ∷ 0x04 ∷ 0x00 ∷ 0x00 ∷ 0x00 ∷ 0x00 ∷ 0x00 ∷ [])
 
 played : playerText example
-    ≡ ascii "1 0 0 0 1 1 1 0\n2 0 1 0 2 1 1 0\n2 0 3 3 1 2 2 0\n3 0 0 0 3 1 1 1\n4 0 1 0 2 1 1 1\n4 0 0 0 1 1 1 1\n4 0 0 0 0 0 0 1\n4 21 0 0 0 0 0 0\n"
+    ≡ ascii "1 0 0 0 1 1 1 0 8\n2 0 1 0 2 1 1 0 8\n2 0 3 3 1 2 2 0 8\n3 0 0 0 3 1 1 1 8\n4 0 1 0 2 1 1 1 8\n4 0 0 0 1 1 1 1 8\n4 0 0 0 0 0 0 1 8\n4 21 0 0 0 0 0 0 0\n"
 unfolding computing
 played = refl
 

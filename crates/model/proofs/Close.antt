@@ -11,12 +11,12 @@ use lib.Seq.{map-set-same}
 use borrow.Author.Tests.{eqb-false, ltb-true, ltb-false}
 use Rattle.model.specs.Lists.{isEmpty, omit, Pairwise}
 use Rattle.model.specs.Table.{sizeOf, rootsOnce}
-use Rattle.model.specs.Session.{Stack, State, noStack, onScreens, onTasks, taskAt}
+use Rattle.model.specs.Session.{Stack, State, noStack, onScreens, onTasks, taskAt, isEdition, editionKept}
 use Rattle.model.specs.Effects.{mainWithout, withoutTask, taskLeft, close}
 use Rattle.model.specs.Calls.{backed}
 use Rattle.model.proofs.Logic.{if-elim, All-at}
 use Rattle.model.proofs.ListLaws.{All-omit, All-set, Pairwise-of-map, Pairwise-omit, Pairwise-to-map, isEmpty-length, omit-before, omit-behind, omit-inside, omit-length, omit-length-le}
-use Rattle.model.proofs.Sound.{TaskSound, RootsDiffer, MainSound, Sound, Plain}
+use Rattle.model.proofs.Sound.{TaskSound, RootsDiffer, MainSound, EditionSound, Sound, Plain}
 
 -- ---- the two ways of closing
 
@@ -61,6 +61,14 @@ no-main tb ts = record { most = zero-le; root = λ l. absurd (not-suc-le-zero l)
 pub follows-main : (tb : List ℕ) (ts us : List (Stack ℕ)) (m n : ℕ) → n ≤ length us → taskAt us n ≡ taskAt ts (suc m)
     → MainSound tb ts (suc m) → MainSound tb us n
 follows-main tb ts us m n l e h = record { most = l; root = λ x. ap (λ (t : Stack ℕ). t .root) e ∙ h .root (suc-le-suc zero-le) }
+
+-- ---- the edition
+
+-- "the session keeps it until empty, when it is 8 again"
+pub kept-edition : (n e : ℕ) → isEdition e ≡ true → EditionSound n (editionKept n e)
+unfolding isEdition
+kept-edition zero e h = record { known = refl; kept = refl }
+kept-edition (suc n) e h = record { known = h; kept = refl }
 
 -- ---- soundness
 
@@ -108,6 +116,7 @@ module _ (tb : List ℕ) where
           each = All-omit (TaskSound tb) k (s .tasks) (h .each);
           pairs = Pairwise-omit (RootsDiffer tb) k (s .tasks) (h .pairs);
           place = without-main k (s .main) (s .tasks) (h .place);
+          edition = kept-edition (length (omit k (s .tasks))) (s .edition) (h .edition .known);
         }
 
     abbrev left : Stack ℕ
@@ -122,6 +131,7 @@ module _ (tb : List ℕ) where
               (λ l. shortened-sound (getD (s .tasks) k noStack) i e (All-at (TaskSound tb) (s .tasks) k noStack l (h .each))) (h .each);
           pairs = same-roots-pairs tb (s .tasks) ts (sym same) (h .pairs);
           place = same-roots-main tb (s .tasks) ts (sym same) (s .main) (h .place);
+          edition = rw (length-set (s .tasks) k left) (h .edition);
         }
       where
         ts : List (Stack ℕ)

@@ -20,7 +20,7 @@ use Rattle.model.specs.Calls.{makesTask, isPush, overfills}
 use Rattle.model.proofs.Logic.{if-elim, contradiction, All-at}
 use Rattle.model.proofs.ListLaws.{toFront-length, toFront-first, toFront-before, toFront-behind, onFirst-length, All-drop, All-toFront, All-onFirst, Pairwise-toFront, found-at}
 use Rattle.model.proofs.Sound.{TaskSound, RootsDiffer, MainSound, Sound, Plain}
-use Rattle.model.proofs.Close.{rootsOf, no-main, follows-main, same-roots-pairs, same-roots-main}
+use Rattle.model.proofs.Close.{rootsOf, no-main, follows-main, kept-edition, same-roots-pairs, same-roots-main}
 
 -- ---- what an effect needs, but for the limits
 
@@ -102,6 +102,7 @@ module _ (tb : List ℕ) where
         each = All-toFront (TaskSound tb) k (s .tasks) (h .each);
         pairs = Pairwise-toFront (RootsDiffer tb) differ-flip k (s .tasks) (h .pairs);
         place = moved-main k (s .main) (s .tasks) (l .1) (h .place);
+        edition = rw (toFront-length k (s .tasks)) (h .edition);
       }
 
   -- ---- a change of the front task's screens
@@ -116,6 +117,7 @@ module _ (tb : List ℕ) where
             All-onFirst (TaskSound tb) change noStack (s .tasks) (λ l. g (All-at (TaskSound tb) (s .tasks) 0 noStack l (h .each))) (h .each);
         pairs = same-roots-pairs tb (s .tasks) (onFirst change (s .tasks)) (same (s .tasks)) (h .pairs);
         place = same-roots-main tb (s .tasks) (onFirst change (s .tasks)) (same (s .tasks)) (s .main) (h .place);
+        edition = rw (onFirst-length change (s .tasks)) (h .edition);
       }
     where
       change : Stack ℕ → Stack ℕ
@@ -182,6 +184,7 @@ module _ (tb : List ℕ) where
           each = (new-task-sound, h .each);
           pairs = (r, h .pairs);
           place = further-main (s .main) (h .place);
+          edition = kept-edition (suc (count s)) (s .edition) (h .edition .known);
         }
       where
         further-main : (m : ℕ) → MainSound tb (s .tasks) m → MainSound tb (stack b (b ∷ []) ∷ s .tasks) (further m)

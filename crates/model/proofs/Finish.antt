@@ -16,9 +16,8 @@ use Rattle.model.specs.Refusals.{refusal}
 use Rattle.model.specs.Session.{Stack, State, stack, taskAt, front, frontScreen, count}
 use Rattle.model.specs.Flags.{flagsOf}
 use Rattle.model.specs.Search.{placeOf}
-use Rattle.model.specs.Effects.{effectOf}
 use Rattle.model.specs.Rules.{choose}
-use Rattle.model.specs.Calls.{chosen, startedBy, started, markFront, startMarked, finishedBy, finished, startChecks, closedMarked}
+use Rattle.model.specs.Calls.{chosen, effectIn, startedBy, started, markFront, startMarked, finishedBy, finished, startChecks, closedMarked}
 use Rattle.model.specs.Marks.{markAfter, closeAt, closedAt, Stands}
 use Rattle.model.proofs.Sessions.{withTasks}
 use Rattle.model.proofs.Sound.{Sound}
@@ -48,7 +47,7 @@ module _ (tb : List ℕ) (b : ℕ) where
 
 -- where the front screen from before stands after the start
 abbrev pub markOf : Choice → ℕ → State ℕ → Mark
-markOf c b s = markAfter (effectOf (c .rule)) (placeOf (c .found)) (eqb b (frontScreen s))
+markOf c b s = markAfter (effectIn s c) (placeOf (c .found)) (eqb b (frontScreen s))
 
 module _ (tb : List ℕ) (b : ℕ) (f : Flags) where
   -- what is shown of a sound session that is not empty, and of the choice that a start makes in it
@@ -56,14 +55,14 @@ module _ (tb : List ℕ) (b : ℕ) (f : Flags) where
       (shown : (o : State ℕ) (r x : ℕ) (xs : List ℕ) (ts : List (Stack ℕ))
       → let s = withTasks o (stack r (x ∷ xs) ∷ ts) in
       let c = choose tb s b f in
-      Able (effectOf (c .rule)) (placeOf (c .found)) b s → P s) where
+      Able (effectIn s c) (placeOf (c .found)) b s → P s) where
     in-task : (o : State ℕ) (r : ℕ) (xs : List ℕ) (ts : List (Stack ℕ)) → 1 ≤ length xs → Sound tb (withTasks o (stack r xs ∷ ts))
         → P (withTasks o (stack r xs ∷ ts))
     in-task o r [] ts l h = absurd (not-suc-le-zero l)
     in-task o r (x ∷ xs) ts l h =
         let s = withTasks o (stack r (x ∷ xs) ∷ ts) in
         let c = choose tb s b f in
-        shown o r x xs ts (ready-able tb b (effectOf (c .rule)) (placeOf (c .found)) s (choose-ready tb s b f h (omega arith)))
+        shown o r x xs ts (ready-able tb b (effectIn s c) (placeOf (c .found)) s (choose-ready tb s b f h (omega arith)))
 
     in-session : (o : State ℕ) (ts : List (Stack ℕ)) → Sound tb (withTasks o ts) → 1 ≤ length ts → P (withTasks o ts)
     in-session o [] h l = absurd (not-suc-le-zero l)
@@ -78,9 +77,9 @@ module _ (tb : List ℕ) (b : ℕ) (f : Flags) where
 
   -- which is one screen, if it stands
   pub finished-closes : (s : State ℕ) → Sound tb s → 1 ≤ count s
-      → closedMarked (startMarked (choose tb s b f) b (markFront s)) ≡ closedAt (markOf (choose tb s b f) b s)
+      → closedMarked (startMarked (effectIn s (choose tb s b f)) (placeOf (choose tb s b f .found)) b (markFront s)) ≡ closedAt (markOf (choose tb s b f) b s)
   finished-closes s h l =
-      in-session (λ s. closedMarked (startMarked (choose tb s b f) b (markFront s)) ≡ closedAt (markOf (choose tb s b f) b s))
+      in-session (λ s. closedMarked (startMarked (effectIn s (choose tb s b f)) (placeOf (choose tb s b f .found)) b (markFront s)) ≡ closedAt (markOf (choose tb s b f) b s))
       (λ o r x xs ts a. closed-carry o b r x xs ts _ _ a) s (s .tasks) h l
 
   -- at which a screen stands
@@ -88,8 +87,9 @@ module _ (tb : List ℕ) (b : ℕ) (f : Flags) where
   marked-stands s h l =
       in-session (λ s. Stands (markOf (choose tb s b f) b s) (startedBy (choose tb s b f) b s))
       (λ o r x xs ts a.
-      let c = choose tb (withTasks o (stack r (x ∷ xs) ∷ ts)) b f in
-      mark-stands o b r x xs ts (effectOf (c .rule)) (placeOf (c .found)) a) s (s .tasks) h l
+      let v = withTasks o (stack r (x ∷ xs) ∷ ts) in
+      let c = choose tb v b f in
+      mark-stands o b r x xs ts (effectIn v c) (placeOf (c .found)) a) s (s .tasks) h l
 
 close-at-sound : (tb : List ℕ) (k : Mark) (s : State ℕ) → Sound tb s → Sound tb (closeAt k s)
 close-at-sound tb Mark.Gone s h = h

@@ -13,13 +13,13 @@ use borrow.Author.Tests.{le-leb, not-false}
 use Rattle.model.specs.Lists.{if_then_else_, All}
 use Rattle.model.specs.Refusals.{refusal}
 use Rattle.model.specs.Table.{sizeOf, mostScreens, tableShaped, tableChecks, tableRefusal}
-use Rattle.model.specs.Session.{Stack, State, stack, height, count, mostTasks, mostHeight, sound}
-use Rattle.model.specs.Image.{bodyOf, trailer, image, longestImage, bodyIn, trailerIn, lengthIn, countIn, mainIn, imageShaped, Reading, unreadable, readAs, readMore, readTasks, isReadable, tasksRead, imageReadable, sessionIn, imageChecks}
+use Rattle.model.specs.Session.{Stack, State, stack, height, count, mostTasks, mostHeight, isEdition, sound}
+use Rattle.model.specs.Image.{bodyOf, trailer, image, longestImage, bodyIn, trailerIn, lengthIn, countIn, mainIn, editionIn, imageShaped, Reading, unreadable, readAs, readMore, readTasks, isReadable, tasksRead, imageReadable, sessionIn, imageChecks}
 use Rattle.model.specs.Histories.{IsByte}
 use Rattle.model.specs.Promises.{ImagesExact}
-use Rattle.model.proofs.Logic.{and-decides, leb-decides, eqb-decides, and-right, All-map}
+use Rattle.model.proofs.Logic.{and-decides, leb-decides, eqb-decides, self-decides, and-right, All-map}
 use Rattle.model.proofs.ListLaws.{All-append, All-drop}
-use Rattle.model.proofs.Sound.{TaskSound, Sound, sound-decides}
+use Rattle.model.proofs.Sound.{TaskSound, Sound, edition-between, sound-decides}
 use Rattle.model.proofs.RuleLaws.{refusal-none}
 
 -- what 5, 6 and 7 leave
@@ -59,7 +59,7 @@ module _ (s : State ℕ) where
   body = bodyOf (s .tasks)
 
   abbrev end : List ℕ
-  end = trailer (length (bodyOf (s .tasks))) (count s) (s .main)
+  end = trailer (length (bodyOf (s .tasks))) (count s) (s .main) (s .edition)
 
   pub image-length : length (image s) ≡ length body + 6
   unfolding image
@@ -76,10 +76,11 @@ module _ (s : State ℕ) where
   unfolding image
   image-end = drop-at body end (length (image s) - 6) body-length
 
-  image-shaped : imageShaped (image s) ≡ true
+  -- where its edition is one of the three
+  image-shaped : isEdition (s .edition) ≡ true → imageShaped (image s) ≡ true
   unfolding imageShaped
-  image-shaped =
-      rw (image-end, image-length)
+  image-shaped known =
+      rw (image-end, image-length, known)
       (and-decides (leb-decides 6 (length body + 6)) (eqb-decides (length body + 6) (256 * (length body / 256) + length body % 256 + 6)) .shows
       (omega arith, omega arith))
 
@@ -131,12 +132,12 @@ six (a ∷ b ∷ c ∷ d ∷ e ∷ f ∷ []) h = refl
 six (a ∷ b ∷ c ∷ d ∷ e ∷ f ∷ g ∷ l) h = absurd (omega arith)
 
 -- six numbers that close as a trailer does and name the length n are the trailer for n, if the low one of the two is a byte
-trailer-is : (t : List ℕ) (n : ℕ) → length t ≡ 6 → getD t 4 0 ≡ 0x08 → getD t 5 0 ≡ 0x42
-    → 256 * getD t 0 0 + getD t 1 0 ≡ n → IsByte (getD t 1 0) → trailer n (getD t 2 0) (getD t 3 0) ≡ t
-trailer-is t n l e f g small =
+trailer-is : (t : List ℕ) (n : ℕ) → length t ≡ 6 → getD t 5 0 ≡ 0x42
+    → 256 * getD t 0 0 + getD t 1 0 ≡ n → IsByte (getD t 1 0) → trailer n (getD t 2 0) (getD t 3 0) (getD t 4 0) ≡ t
+trailer-is t n l f g small =
     let p : n / 256 ≡ getD t 0 0 = omega arith in
     let q : n % 256 ≡ getD t 1 0 = omega arith in
-    rw (p, q, ← e, ← f) (sym (six t l))
+    rw (p, q, ← f) (sym (six t l))
 
 byte-at : (l : List ℕ) → All IsByte l → (i : ℕ) → IsByte (getD l i 0)
 byte-at [] h i = omega arith
@@ -145,11 +146,11 @@ byte-at (x ∷ l) h (suc i) = byte-at l (h .1) i
 
 module _ (bytes : List ℕ) (small : All IsByte bytes) (shaped : imageShaped bytes ≡ true) (readable : imageReadable bytes ≡ true) where
   shape : (6 ≤ length bytes)
-      × (((getD (trailerIn bytes) 4 0 ≡ 0x08) × (getD (trailerIn bytes) 5 0 ≡ 0x42)) × (length bytes ≡ lengthIn bytes + 6))
+      × (((isEdition (editionIn bytes) ≡ true) × (getD (trailerIn bytes) 5 0 ≡ 0x42)) × (length bytes ≡ lengthIn bytes + 6))
   unfolding imageShaped
   shape =
       and-decides (leb-decides 6 (length bytes))
-      (and-decides (and-decides (eqb-decides (getD (trailerIn bytes) 4 0) 0x08) (eqb-decides (getD (trailerIn bytes) 5 0) 0x42))
+      (and-decides (and-decides (self-decides (isEdition (editionIn bytes))) (eqb-decides (getD (trailerIn bytes) 5 0) 0x42))
       (eqb-decides (length bytes) (lengthIn bytes + 6)))
       .holds shaped
 
@@ -159,22 +160,26 @@ module _ (bytes : List ℕ) (small : All IsByte bytes) (shaped : imageShaped byt
       body-read (countIn bytes) (bodyIn bytes)
       (and-right (leb (countIn bytes) mostTasks) (isReadable (readTasks (countIn bytes) (bodyIn bytes))) readable)
 
-  trailer-read : trailer (length (bodyIn bytes)) (countIn bytes) (mainIn bytes) ≡ trailerIn bytes
+  trailer-read : trailer (length (bodyIn bytes)) (countIn bytes) (mainIn bytes) (editionIn bytes) ≡ trailerIn bytes
   trailer-read =
       let short : length bytes - 6 ≤ length bytes = omega arith in
       let named : lengthIn bytes ≡ length (bodyIn bytes) = omega (arith, length-take-le (length bytes - 6) bytes short, shape .1 .1) in
       let whole : length (trailerIn bytes) ≡ 6 = omega (arith, length-drop (length bytes - 6) bytes, shape .0) in
-      trailer-is (trailerIn bytes) (length (bodyIn bytes)) whole (shape .1 .0 .0) (shape .1 .0 .1) named
+      trailer-is (trailerIn bytes) (length (bodyIn bytes)) whole (shape .1 .0 .1) named
       (byte-at (trailerIn bytes) (All-drop IsByte (length bytes - 6) bytes small) 1)
 
   main-read : sessionIn bytes .main ≡ mainIn bytes
   unfolding sessionIn
   main-read = refl
 
+  edition-read : sessionIn bytes .edition ≡ editionIn bytes
+  unfolding sessionIn
+  edition-read = refl
+
   image-of-read : image (sessionIn bytes) ≡ bytes
   unfolding image
   image-of-read =
-      rw (tasks-read .0, tasks-read .1, main-read)
+      rw (tasks-read .0, tasks-read .1, main-read, edition-read)
       (ap (λ (t : List ℕ). bodyIn bytes ++ t) trailer-read ∙ take-append-drop (length bytes - 6) bytes)
 
 -- ---- promise 2
@@ -187,7 +192,7 @@ module _ (tb : List ℕ) where
         accepts = λ s h.
             checks-passed tb (image s) .1
             (record {
-              shaped = image-shaped s;
+              shaped = image-shaped s (sound-decides tb s .holds h .edition .known);
               readable = image-readable s tb (sound-decides tb s .holds h);
               soundly = ap (sound tb) (brings s h) ∙ h;
             });
@@ -247,5 +252,6 @@ image-bytes tb ok s h =
     let low : IsByte (length (body s) % 256) = omega arith in
     let n : IsByte (count s) = omega (arith, h .few) in
     let m : IsByte (s .main) = omega (arith, h .few, h .place .most) in
+    let v : IsByte (s .edition) = omega (arith, edition-between (s .edition) (h .edition .known) .1) in
     All-append IsByte (body s) (end s) (body-bytes tb (few-screens tb ok) (s .tasks) (h .each))
-    (high, (low, (n, (m, (omega arith, (omega arith, tt))))))
+    (high, (low, (n, (m, (v, (omega arith, tt))))))

@@ -5,12 +5,13 @@ use mathlib.Core.Bool.{true, not}
 use mathlib.Core.List.{List, [], _∷_}
 use native.Mathlib.Omega.{arith}
 use borrow.Author.Tests.{ltb-true, not-false}
+use Rattle.model.specs.Lists.{isEmpty}
 use Rattle.model.specs.Refusals.{refusal}
 use Rattle.model.specs.Table.{sizeOf, mainScreen, tableShaped, tableFilled, tableRefusal}
-use Rattle.model.specs.Session.{State, fresh, sound}
+use Rattle.model.specs.Session.{State, fresh, isEdition, sound}
 use Rattle.model.specs.Answers.{outcome, settle}
 use Rattle.model.specs.Image.{imageShaped, imageReadable, imageChecks, sessionIn}
-use Rattle.model.specs.Calls.{Call, launch, start, finishingStart, back, look, restore, launched, ownChecks, done, answerTo, refusalOf, call}
+use Rattle.model.specs.Calls.{Call, launch, start, finishingStart, back, look, restore, editionNamed, launched, launchChecks, ownChecks, done, answerTo, refusalOf, call}
 use Rattle.model.specs.Histories.{after, byRules}
 use Rattle.model.proofs.Logic.{and-left}
 use Rattle.model.proofs.RefusalLaws.{refusal-skip, checks-own}
@@ -53,22 +54,31 @@ settled tb ok s h c = ap (λ (k : ℕ). settle outcome k s (done tb s c) (answer
 -- ---- soundness
 
 pub fresh-sound : (tb : List ℕ) → Sound tb fresh
-fresh-sound tb = record { few = zero-le; each = tt; pairs = tt; place = no-main tb [] }
+unfolding isEdition
+fresh-sound tb = record { few = zero-le; each = tt; pairs = tt; place = no-main tb []; edition = record { known = refl; kept = refl } }
 
-pub launched-sound : (tb : List ℕ) → tableRefusal tb ≡ 0 → Sound tb (launched tb)
+-- of an edition that a launch accepts
+pub launched-sound : (tb : List ℕ) → tableRefusal tb ≡ 0 → (e : ℕ) → isEdition (editionNamed e) ≡ true → Sound tb (launched tb e)
 unfolding launched
-launched-sound tb ok =
+launched-sound tb ok e known =
     record {
       few = omega arith;
       each = (new-task-sound tb (mainScreen tb) (main-known tb ok), tt);
       pairs = (tt, tt);
       place = record { most = omega arith; root = λ l. refl };
+      edition = record { known = known; kept = refl };
     }
+
+-- what a launch that is not refused is given
+pub launch-edition : (s : State ℕ) (e : ℕ) → refusal (launchChecks s e) ≡ 0 → isEdition (editionNamed e) ≡ true
+launch-edition s e r =
+    let c₂₂ = refusal-skip 21 (not (isEmpty (s .tasks))) _ r in
+    not-false _ (refusal-skip 29 (not (isEdition (editionNamed e))) [] (c₂₂ .1) .0)
 
 module _ (tb : List ℕ) (ok : tableRefusal tb ≡ 0) where
   pub done-sound : (s : State ℕ) → Sound tb s → (c : Call) → refusal (ownChecks tb s c) ≡ 0 → Sound tb (done tb s c)
   unfolding done ownChecks
-  done-sound s h launch e = launched-sound tb ok
+  done-sound s h (launch v) e = launched-sound tb ok v (launch-edition s v e)
   done-sound s h (start b w) e = started-sound tb s b w h e
   done-sound s h (finishingStart b w) e = finished-sound tb s b w h e
   done-sound s h back e = backed-sound tb s h

@@ -24,6 +24,7 @@ pub mod HistoryLaws
 pub mod Balance
 pub mod Backs
 pub mod ImageLaws
+pub mod EditionLaws
 pub mod Same
 pub mod Promise3
 pub mod Cases

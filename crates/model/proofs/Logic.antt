@@ -81,6 +81,14 @@ pub or-false-right : (a b : Bool) → (a || b) ≡ false → b ≡ false
 or-false-right true b e = absurd (true≢false e)
 or-false-right false b e = e
 
+pub or-true-left : (a b : Bool) → b ≡ false → (a || b) ≡ true → a ≡ true
+or-true-left true b f e = refl
+or-true-left false b f e = sym f ∙ e
+
+pub and-false-right : (a b : Bool) → a ≡ true → (a && b) ≡ false → b ≡ false
+and-false-right true b f e = e
+and-false-right false b f e = absurd (true≢false (sym f))
+
 -- from a test that was both true and false
 pub contradiction : {A : Type 0} {b : Bool} → b ≡ true → b ≡ false → A
 contradiction e f = absurd (true≢false (sym e ∙ f))

@@ -35,7 +35,7 @@ module _ {A B : Type 0} (f : A → B) where
     where
       go : (b : Bool) → mapState f (if b then withoutTask p s else onTasks (λ ts. set ts (pred p) (taskLeft p i s)) s)
           ≡ (if b then withoutTask p (mapState f s) else onTasks (λ ts. set ts (pred p) (mapScreens f (taskLeft p i s))) (mapState f s))
-      go true = rw (map-omit (mapScreens f) (pred p) (s .tasks))
+      go true = rw (← (map-omit (mapScreens f) (pred p) (s .tasks)), length-map (omit (pred p) (s .tasks)) (mapScreens f))
       go false = rw (map-set (mapScreens f) (pred p) (taskLeft p i s) (s .tasks))
 
   map-close-at : (k : Mark) (s : State A) → mapState f (closeAt k s) ≡ closeAt k (mapState f s)

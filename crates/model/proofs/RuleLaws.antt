@@ -172,9 +172,9 @@ refusal-none cs differ = (λ e. go 0 (refusal-first cs 0 .0 e) refl, λ h. refus
 
 -- ---- the order of the checks
 
--- "The checks go in the order 1, 2, 20, then those named for the call."
+-- "The checks go in the order 1, 2, 20, then those named for the call." "launch gives 30, after 22"
 abbrev pub checkOrder : Call → List ℕ
-checkOrder launch = 1 ∷ 2 ∷ 20 ∷ 22 ∷ []
+checkOrder (launch e) = 1 ∷ 2 ∷ 20 ∷ 22 ∷ 30 ∷ []
 checkOrder (start b w) = 1 ∷ 2 ∷ 20 ∷ 3 ∷ 4 ∷ 21 ∷ 23 ∷ 24 ∷ []
 checkOrder (finishingStart b w) = 1 ∷ 2 ∷ 20 ∷ 3 ∷ 4 ∷ 21 ∷ 23 ∷ 24 ∷ []
 checkOrder back = 1 ∷ 2 ∷ 20 ∷ 21 ∷ []
@@ -189,7 +189,7 @@ module _ (tb : List ℕ) (s : State ℕ) where
   -- their numbers stand in 01's order
   pub check-order : (c : Call) → checkNumbers (checksOf c) ≡ checkOrder c
   unfolding ownChecks
-  check-order launch = refl
+  check-order (launch e) = refl
   check-order (start b w) = refl
   check-order (finishingStart b w) = refl
   check-order back = refl
@@ -201,7 +201,7 @@ module _ (tb : List ℕ) (s : State ℕ) where
 
   checks-differ : (c : Call) → numbersDiffer (checksOf c) ≡ true
   unfolding ownChecks
-  checks-differ launch = refl
+  checks-differ (launch e) = refl
   checks-differ (start b w) = refl
   checks-differ (finishingStart b w) = refl
   checks-differ back = refl

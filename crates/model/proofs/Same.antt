@@ -17,7 +17,7 @@ use Rattle.model.proofs.Backs.{look-gives, back-gives, back-screens, ba
 
 -- a look or a Back
 abbrev pub IsLookOrBack : Call → Type 0
-IsLookOrBack launch = ⊥
+IsLookOrBack (launch e) = ⊥
 IsLookOrBack (start b w) = ⊥
 IsLookOrBack (finishingStart b w) = ⊥
 IsLookOrBack back = Unit {0}
@@ -25,7 +25,7 @@ IsLookOrBack look = Unit {0}
 IsLookOrBack (restore bytes) = ⊥
 
 is-later : (c : Call) → IsLookOrBack c → IsLater c
-is-later launch h = tt
+is-later (launch e) h = absurd h
 is-later (start b w) h = absurd h
 is-later (finishingStart b w) h = absurd h
 is-later back h = tt

@@ -3,7 +3,7 @@
 use Prim.Native.Nat.{ℕ, zero, suc, pred, _≤_, _<_}
 use mathlib.Core.Path.{_≡_, refl, _∙_}
 use mathlib.Core.Logic.{_↔_}
-use mathlib.Core.Bool.{Bool, true, false, false≢true}
+use mathlib.Core.Bool.{Bool, true, false, _&&_, false≢true}
 use mathlib.Core.List.{List, [], _∷_}
 use native.Mathlib.Omega.{arith}
 use lib.Dec.{ltb, eqb}
@@ -13,7 +13,7 @@ use Rattle.model.specs.declared.Found.{Found}
 use Rattle.model.specs.Lists.{if_then_else_, isPlace, find, All}
 use Rattle.model.specs.Table.{affinityOf, isSingleInstance}
 use Rattle.model.specs.Session.{Stack, noStack}
-use Rattle.model.specs.Search.{hasRoot, akin, hasAffinity, isFound, seekRoot, seekAffinity, seek, holds}
+use Rattle.model.specs.Search.{hasRoot, akin, hasAffinity, isFound, seekRoot, seekAffinity, seeksByRoot, seek, holds}
 use Rattle.model.proofs.Logic.{Decides, and-decides, not-decides, eqb-decides, false-decides, refuted, contradiction, All-map, All-at}
 use Rattle.model.proofs.ListLaws.{FoundAt, find-spec, find-none}
 
@@ -89,11 +89,15 @@ FindsByRoot b ts Found.Nowhere = NoTask (HasRoot b) ts
 FindsByRoot b ts (Found.ByRoot p) = FirstTask (HasRoot b) ts p
 FindsByRoot b ts (Found.ByAffinity p) = ⊥
 
--- what "sought by root, then by affinity" finds
-abbrev pub Finds : List ℕ → ℕ → List (Stack ℕ) → Found → Type 0
-Finds tb b ts Found.Nowhere = NoTask (HasRoot b) ts × NoTask (HasAffinity tb b) ts
-Finds tb b ts (Found.ByRoot p) = FirstTask (HasRoot b) ts p
-Finds tb b ts (Found.ByAffinity p) = NoTask (HasRoot b) ts × FirstTask (HasAffinity tb b) ts p
+-- no task was found by root, where the edition e seeks by root
+abbrev pub NoneByRoot : List ℕ → ℕ → ℕ → List (Stack ℕ) → Type 0
+NoneByRoot tb e b ts = seeksByRoot tb e b ≡ true → NoTask (HasRoot b) ts
+
+-- what "sought by root, then by affinity" finds in the edition e
+abbrev pub Finds : List ℕ → ℕ → ℕ → List (Stack ℕ) → Found → Type 0
+Finds tb e b ts Found.Nowhere = NoneByRoot tb e b ts × NoTask (HasAffinity tb b) ts
+Finds tb e b ts (Found.ByRoot p) = (seeksByRoot tb e b ≡ true) × FirstTask (HasRoot b) ts p
+Finds tb e b ts (Found.ByAffinity p) = NoneByRoot tb e b ts × FirstTask (HasAffinity tb b) ts p
 
 pub root-decides : (b : ℕ) (t : Stack ℕ) → Decides (hasRoot b t) (HasRoot b t)
 unfolding hasRoot
@@ -130,35 +134,49 @@ module _ (b : ℕ) (ts : List (Stack ℕ)) where
   pub seekRoot-exact : (t : Found) → (seekRoot b ts ≡ t) ↔ FindsByRoot b ts t
   seekRoot-exact t = (λ e. rw e at seekRoot-finds, finds-seekRoot t)
 
-module _ (tb : List ℕ) (b : ℕ) (ts : List (Stack ℕ)) where
+module _ (tb : List ℕ) (v b : ℕ) (ts : List (Stack ℕ)) where
   finds-affinity : (k : ℕ) → (find (hasAffinity tb b) ts ≡ suc k) ↔ FirstTask (HasAffinity tb b) ts (suc k)
   finds-affinity = find-first noStack (affinity-decides tb b) ts
 
   no-affinity : (find (hasAffinity tb b) ts ≡ 0) ↔ NoTask (HasAffinity tb b) ts
   no-affinity = find-nowhere noStack (affinity-decides tb b) ts
 
-  seek-finds : Finds tb b ts (seek tb b ts)
-  unfolding seek seekRoot seekAffinity
-  seek-finds = go (find (hasRoot b) ts) refl (find (hasAffinity tb b) ts) refl
-    where
-      go : (n : ℕ) → find (hasRoot b) ts ≡ n → (m : ℕ) → find (hasAffinity tb b) ts ≡ m
-          → Finds tb b ts
-          (if isFound (if isPlace n then Found.ByRoot n else Found.Nowhere) then (if isPlace n then Found.ByRoot n else Found.Nowhere) else
-          if isPlace m then Found.ByAffinity m else Found.Nowhere)
-      go zero e zero f = (no-root b ts .0 e, no-affinity .0 f)
-      go zero e (suc j) f = (no-root b ts .0 e, finds-affinity j .0 f)
-      go (suc k) e m f = finds-root b ts k .0 e
+  -- the search, by whether it is by root, the place found by root, and the place found by affinity
+  abbrev sought : Bool → ℕ → ℕ → Found
+  sought x n m =
+      if x && isFound (if isPlace n then Found.ByRoot n else Found.Nowhere) then (if isPlace n then Found.ByRoot n else Found.Nowhere) else
+      if isPlace m then Found.ByAffinity m else Found.Nowhere
 
-  finds-seek : (t : Found) → Finds tb b ts t → seek tb b ts ≡ t
+  seek-finds : Finds tb v b ts (seek tb v b ts)
   unfolding seek seekRoot seekAffinity
-  finds-seek Found.Nowhere h = rw (no-root b ts .1 (h .0), no-affinity .1 (h .1))
-  finds-seek (Found.ByRoot zero) h = absurd (omega (arith, h .least))
-  finds-seek (Found.ByRoot (suc k)) h = rw (finds-root b ts k .1 h)
+  seek-finds = go (seeksByRoot tb v b) refl (find (hasRoot b) ts) refl (find (hasAffinity tb b) ts) refl
+    where
+      go : (x : Bool) → seeksByRoot tb v b ≡ x → (n : ℕ) → find (hasRoot b) ts ≡ n → (m : ℕ) → find (hasAffinity tb b) ts ≡ m
+          → Finds tb v b ts (sought x n m)
+      go true g zero e zero f = (λ _. no-root b ts .0 e, no-affinity .0 f)
+      go true g zero e (suc j) f = (λ _. no-root b ts .0 e, finds-affinity j .0 f)
+      go true g (suc k) e m f = (g, finds-root b ts k .0 e)
+      go false g n e zero f = (λ x. contradiction x g, no-affinity .0 f)
+      go false g n e (suc j) f = (λ x. contradiction x g, finds-affinity j .0 f)
+
+  -- nothing is found by root: no root is sought, or there is none
+  only-affinity : (m : ℕ) → NoneByRoot tb v b ts → sought (seeksByRoot tb v b) (find (hasRoot b) ts) m ≡ (if isPlace m then Found.ByAffinity m else Found.Nowhere)
+  only-affinity m h = go (seeksByRoot tb v b) refl
+    where
+      go : (x : Bool) → seeksByRoot tb v b ≡ x → sought x (find (hasRoot b) ts) m ≡ (if isPlace m then Found.ByAffinity m else Found.Nowhere)
+      go true g = rw (no-root b ts .1 (h g))
+      go false g = refl
+
+  finds-seek : (t : Found) → Finds tb v b ts t → seek tb v b ts ≡ t
+  unfolding seek seekRoot seekAffinity
+  finds-seek Found.Nowhere h = only-affinity (find (hasAffinity tb b) ts) (h .0) ∙ rw (no-affinity .1 (h .1))
+  finds-seek (Found.ByRoot zero) h = absurd (omega (arith, h .1 .least))
+  finds-seek (Found.ByRoot (suc k)) h = rw (h .0, finds-root b ts k .1 (h .1))
   finds-seek (Found.ByAffinity zero) h = absurd (omega (arith, h .1 .least))
-  finds-seek (Found.ByAffinity (suc k)) h = rw (no-root b ts .1 (h .0), finds-affinity k .1 (h .1))
+  finds-seek (Found.ByAffinity (suc k)) h = only-affinity (find (hasAffinity tb b) ts) (h .0) ∙ rw (finds-affinity k .1 (h .1))
 
   -- the search by root, then by affinity, finds exactly that
-  pub seek-exact : (t : Found) → (seek tb b ts ≡ t) ↔ Finds tb b ts t
+  pub seek-exact : (t : Found) → (seek tb v b ts ≡ t) ↔ Finds tb v b ts t
   seek-exact t = (λ e. rw e at seek-finds, finds-seek t)
 
 -- "holds B": B is one of the screens

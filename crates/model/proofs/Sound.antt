@@ -10,7 +10,7 @@ use lib.Dec.{leb, ltb, eqb}
 use borrow.Author.Tests.{ne-eqb}
 use Rattle.model.specs.Lists.{if_then_else_, all, pairwise, All, Pairwise}
 use Rattle.model.specs.Table.{sizeOf, mainScreen, isSingleInstance, rootsOnce}
-use Rattle.model.specs.Session.{Stack, State, taskAt, height, count, isAlone, heightFits, screensKnown, instanceAlone, taskSound, rootsDiffer, mainSound, sound, mostTasks, mostHeight}
+use Rattle.model.specs.Session.{Stack, State, taskAt, height, count, isAlone, heightFits, screensKnown, instanceAlone, taskSound, rootsDiffer, mainSound, editionSound, sound, mostTasks, mostHeight, isEdition, editionKept}
 use Rattle.model.proofs.Logic.{Decides, and-decides, not-decides, leb-decides, ltb-decides, eqb-decides, self-decides, false-decides, all-decides, pairwise-decides}
 
 -- not single-instance
@@ -33,11 +33,16 @@ pub record MainSound (tb : List ℕ) (ts : List (Stack ℕ)) (m : ℕ) : Type 0 
   pub most : m ≤ length ts
   pub root : 1 ≤ m → taskAt ts m .root ≡ mainScreen tb
 
+pub record EditionSound (n e : ℕ) : Type 0 where
+  pub known : isEdition e ≡ true
+  pub kept : editionKept n e ≡ e
+
 pub record Sound (tb : List ℕ) (s : State ℕ) : Type 0 where
   pub few : count s ≤ mostTasks
   pub each : All (TaskSound tb) (s .tasks)
   pub pairs : Pairwise (RootsDiffer tb) (s .tasks)
   pub place : MainSound tb (s .tasks) (s .main)
+  pub edition : EditionSound (count s) (s .edition)
 
 alone-decides : (r : ℕ) (xs : List ℕ) → Decides (isAlone r xs) (xs ≡ r ∷ [])
 alone-decides r [] = record { holds = λ h. absurd (false≢true h); shows = λ h. absurd (nil≢cons h) }
@@ -55,6 +60,11 @@ branch-decides true x y d e =
     record { holds = λ h. (λ z. d .holds h, λ z. absurd (true≢false z)); shows = λ h. d .shows (h .0 refl) }
 branch-decides false x y d e =
     record { holds = λ h. (λ z. absurd (false≢true z), λ z. e .holds h); shows = λ h. e .shows (h .1 refl) }
+
+-- 6, 7 and 8 are those between 6 and 8
+pub edition-between : (e : ℕ) → isEdition e ≡ true → (6 ≤ e) × (e ≤ 8)
+unfolding isEdition
+edition-between e h = and-decides (leb-decides 6 e) (leb-decides e 8) .holds h
 
 -- m is 0, or the statement holds
 or-decides : {P : Type 0} (m : ℕ) (b : Bool) → Decides b P → Decides (eqb m 0 || b) (1 ≤ m → P)
@@ -102,20 +112,32 @@ module _ (tb : List ℕ) where
           ((m ≤ length ts) × (1 ≤ m → taskAt ts m .root ≡ mainScreen tb))
       d = and-decides (leb-decides m (length ts)) (or-decides m _ (eqb-decides (taskAt ts m .root) (mainScreen tb)))
 
+  edition-decides : (n e : ℕ) → Decides (editionSound n e) (EditionSound n e)
+  unfolding editionSound
+  edition-decides n e =
+      record { holds = λ h. let r = d .holds h in record { known = r .0; kept = r .1 }; shows = λ k. d .shows (k .known, k .kept) }
+    where
+      d : Decides (isEdition e && eqb (editionKept n e) e) ((isEdition e ≡ true) × (editionKept n e ≡ e))
+      d = and-decides (self-decides (isEdition e)) (eqb-decides (editionKept n e) e)
+
   pub sound-decides : (s : State ℕ) → Decides (sound tb s) (Sound tb s)
   unfolding sound
   sound-decides s =
       record {
         holds = λ h.
             let r = d .holds h in
-            record { few = r .0 .0; each = r .0 .1; pairs = r .1 .0; place = r .1 .1 };
-        shows = λ k. d .shows ((k .few, k .each), (k .pairs, k .place));
+            record { few = r .0 .0 .0; each = r .0 .0 .1; pairs = r .0 .1 .0; place = r .0 .1 .1; edition = r .1 };
+        shows = λ k. d .shows (((k .few, k .each), (k .pairs, k .place)), k .edition);
       }
     where
       d : Decides
-          ((leb (count s) mostTasks && all (taskSound tb) (s .tasks))
+          (((leb (count s) mostTasks && all (taskSound tb) (s .tasks))
           && (pairwise (rootsDiffer tb) (s .tasks) && mainSound tb (s .tasks) (s .main)))
-          (((count s ≤ mostTasks) × All (TaskSound tb) (s .tasks)) × (Pairwise (RootsDiffer tb) (s .tasks) × MainSound tb (s .tasks) (s .main)))
+          && editionSound (count s) (s .edition))
+          ((((count s ≤ mostTasks) × All (TaskSound tb) (s .tasks)) × (Pairwise (RootsDiffer tb) (s .tasks) × MainSound tb (s .tasks) (s .main)))
+          × EditionSound (count s) (s .edition))
       d =
-          and-decides (and-decides (leb-decides (count s) mostTasks) (all-decides task-decides (s .tasks)))
-          (and-decides (pairwise-decides differ-decides (s .tasks)) (main-decides (s .tasks) (s .main)))
+          and-decides
+          (and-decides (and-decides (leb-decides (count s) mostTasks) (all-decides task-decides (s .tasks)))
+          (and-decides (pairwise-decides differ-decides (s .tasks)) (main-decides (s .tasks) (s .main))))
+          (edition-decides (count s) (s .edition))

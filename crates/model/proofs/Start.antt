@@ -1,31 +1,32 @@
 -- The first rule that fits is ready to be carried out; so a start keeps a session sound.
 use Prim.Native.Nat.{ℕ, zero, suc, _≤_, _<_, zero-le, suc-le-suc, pred}
 use mathlib.Core.Path.{_≡_, refl, sym, _∙_, ap}
-use mathlib.Core.Bool.{Bool, true, false, not, _&&_, false≢true}
+use mathlib.Core.Bool.{Bool, true, false, not, _&&_, _||_, false≢true}
 use mathlib.Core.List.{List}
 use lib.Dec.{eqb, ltb}
 use lib.ListN.{getD}
 use borrow.Author.Tests.{eqb-true, eqb-false, not-false, ltb-true}
+use Rattle.model.specs.declared.Change.{Change}
 use Rattle.model.specs.declared.Flags.{Flags}
 use Rattle.model.specs.declared.Found.{Found}
 use Rattle.model.specs.declared.Group.{Group}
 use Rattle.model.specs.declared.Rule.{Rule}
 use Rattle.model.specs.declared.Choice.{Choice}
-use Rattle.model.specs.Lists.{isEmpty, isPlace, find, first}
+use Rattle.model.specs.Lists.{if_then_else_, isEmpty, isPlace, find, first}
 use Rattle.model.specs.Refusals.{refusal}
-use Rattle.model.specs.Table.{sizeOf, isSingleTask, isSingleInstance, rootsOnce}
+use Rattle.model.specs.Table.{sizeOf, affinityOf, isSingleTask, isSingleInstance, rootsOnce}
 use Rattle.model.specs.Session.{Stack, State, noStack, taskAt, front, frontScreen, count, mostTasks}
 use Rattle.model.specs.Flags.{flagsOf, hasOtherBit}
-use Rattle.model.specs.Search.{placeOf, isFound, isFoundByRoot, hasRoot, hasAffinity, seekRoot, seekAffinity, seek, holds}
+use Rattle.model.specs.Search.{placeOf, isFound, isFoundByRoot, hasRoot, hasAffinity, seekRoot, seekAffinity, seeksByRoot, seek, holds}
 use Rattle.model.specs.Rules.{rulesOf, isApart, groupOf, soughtBy, taskFound, fits, chooseIn, choose}
-use Rattle.model.specs.Effects.{effectOf}
-use Rattle.model.specs.Calls.{chosen, started, startChecks, makesTask, overfills}
-use Rattle.model.proofs.Logic.{All-map, All-of, All-at, if-elim, first-elim, never, contradiction, and-left, and-right, or-false-right}
-use Rattle.model.proofs.ListLaws.{found-at, found-none, isEmpty-length}
+use Rattle.model.specs.Effects.{effectOf, reordered}
+use Rattle.model.specs.Calls.{chosen, effectIn, started, startChecks, makesTask, overfills}
+use Rattle.model.proofs.Logic.{All-map, All-of, All-at, if-elim, first-elim, never, contradiction, and-left, and-right, and-false-right, or-false-right, or-true-left}
+use Rattle.model.proofs.ListLaws.{found-at, found-none, find-none, isEmpty-length}
 use Rattle.model.proofs.RefusalLaws.{refusal-skip}
 use Rattle.model.proofs.SearchLaws.{affinity-decides}
 use Rattle.model.proofs.Sound.{TaskSound, Sound, Plain}
-use Rattle.model.proofs.Effects.{IsPlaceIn, Takes, RootFree, Ready, carry-sound}
+use Rattle.model.proofs.Effects.{IsPlaceIn, Takes, Suits, RootFree, Ready, carry-sound}
 
 -- ---- what a search tells
 
@@ -50,12 +51,16 @@ module _ (tb : List ℕ) (s : State ℕ) (b : ℕ) where
       (λ e. (found-place (hasRoot b) e, eqb-true _ b (found-at (hasRoot b) noStack (s .tasks) e .fits)))
       (λ e. All-map (λ t f q r. eqb-false (t .root) b f (sym r)) (s .tasks) (found-none (hasRoot b) noStack (s .tasks) e))
 
-  seekAffinity-sought : RootFree tb b (s .tasks) → Sought (seekAffinity tb b (s .tasks))
+  seekAffinity-sought : (find (hasAffinity tb b) (s .tasks) ≡ 0 → RootFree tb b (s .tasks)) → Sought (seekAffinity tb b (s .tasks))
   unfolding seekAffinity
   seekAffinity-sought h =
       if-elim Sought (isPlace (find (hasAffinity tb b) (s .tasks))) _ Found.Nowhere
       (λ e. (found-place (hasAffinity tb b) e, affinity-decides tb b _ .holds (found-at (hasAffinity tb b) noStack (s .tasks) e .fits) .0 .0))
-      (λ e. h)
+      (λ e. h (no-place (find (hasAffinity tb b) (s .tasks)) e))
+    where
+      no-place : (p : ℕ) → isPlace p ≡ false → p ≡ 0
+      no-place zero e = refl
+      no-place (suc k) e = never e
 
   -- nothing found: a new task of b clashes with none
   nowhere-free : (t : Found) → isFound t ≡ false → Sought t → RootFree tb b (s .tasks)
@@ -63,11 +68,29 @@ module _ (tb : List ℕ) (s : State ℕ) (b : ℕ) where
   nowhere-free (Found.ByRoot p) e h = never e
   nowhere-free (Found.ByAffinity p) e h = never e
 
-  pub seek-sought : Sought (seek tb b (s .tasks))
+  -- where none is sought by root: a task whose root is the single-task screen b has b's affinity, and would be found by that
+  affinity-free : Plain tb b → seeksByRoot tb (s .edition) b ≡ false → find (hasAffinity tb b) (s .tasks) ≡ 0 → RootFree tb b (s .tasks)
+  unfolding rootsOnce seeksByRoot
+  affinity-free plain e z =
+      All-map (λ t f q r. contradiction (affinity-decides tb b t .shows ((ap (isSingleInstance tb) (sym r) ∙ plain, ap (affinityOf tb) (sym r)), kin q)) f)
+      (s .tasks) (find-none (hasAffinity tb b) noStack (s .tasks) z)
+    where
+      single : (isSingleTask tb b || isSingleInstance tb b) ≡ true → isSingleTask tb b ≡ true
+      single q = or-true-left (isSingleTask tb b) _ plain q
+
+      kin : (isSingleTask tb b || isSingleInstance tb b) ≡ true → affinityOf tb b ≡ 0 → ⊥
+      kin q y = eqb-false (affinityOf tb b) 0 (and-false-right (isSingleTask tb b) _ (single q) (or-false-right (isSingleInstance tb b || not (eqb (s .edition) 6)) _ e)) y
+
+  pub seek-sought : Plain tb b → Sought (seek tb (s .edition) b (s .tasks))
   unfolding seek
-  seek-sought =
-      if-elim Sought (isFound (seekRoot b (s .tasks))) _ _ (λ e. seekRoot-sought)
-      (λ e. seekAffinity-sought (nowhere-free (seekRoot b (s .tasks)) e seekRoot-sought))
+  seek-sought plain = go (seeksByRoot tb (s .edition) b) refl
+    where
+      go : (x : Bool) → seeksByRoot tb (s .edition) b ≡ x
+          → Sought (if x && isFound (seekRoot b (s .tasks)) then seekRoot b (s .tasks) else seekAffinity tb b (s .tasks))
+      go true e =
+          if-elim Sought (isFound (seekRoot b (s .tasks))) _ _ (λ f. seekRoot-sought)
+          (λ f. seekAffinity-sought (λ _. nowhere-free (seekRoot b (s .tasks)) f seekRoot-sought))
+      go false e = seekAffinity-sought (affinity-free plain e)
 
   found-inside : (t : Found) → isFound t ≡ true → Sought t → IsPlaceIn s (placeOf t)
   found-inside Found.Nowhere e h = absurd (false≢true e)
@@ -83,7 +106,7 @@ module _ (tb : List ℕ) (s : State ℕ) (b : ℕ) where
 module _ (tb : List ℕ) (s : State ℕ) (b : ℕ) where
   -- the rule can be carried out, where t was found
   abbrev pub RuleReady : Found → Rule → Type 0
-  RuleReady t r = Ready tb b s (effectOf r) (placeOf t)
+  RuleReady t r = Ready tb b s (effectOf (s .edition) (s .main) r) (placeOf t)
 
   abbrev pub ChoiceReady : Choice → Type 0
   ChoiceReady c = RuleReady (c .found) (c .rule)
@@ -157,13 +180,22 @@ module _ (tb : List ℕ) (s : State ℕ) (b : ℕ) (f : Flags) where
               sym q ∙ ap (isSingleInstance tb) (sym (ap (λ (l : List ℕ). getD l 0 0) (k .lone q))) ∙ e
           go false q = refl
 
+      -- what R9 does suits the front task, in each edition
+      reordered-suits : Takes tb b (front s) → holds b (front s .screens) ≡ true → Suits tb b (reordered (s .edition) (s .main)) (front s)
+      unfolding reordered
+      reordered-suits k x =
+          if-elim (λ c. Suits tb b c (front s)) (eqb (s .edition) 7 && eqb (s .main) 1) Change.Renew Change.Lift (λ _. k) (λ _. (k, x))
+
       near-ready : Plain tb (frontScreen s) → FirstReady Group.NotApart Found.Nowhere
       unfolding fits rulesOf effectOf
       near-ready e =
           let k : Takes tb b (front s) = record { plainRoot = front-root e; plainScreen = plain } in
           first-elim (RuleReady tb s b Found.Nowhere) Rule.R18 (fits tb s b f Found.Nowhere) (rulesOf Group.NotApart) (
             λ _. (some, tt),
-            λ _. (λ x. (some, (k, and-right (f .ctp) _ x)), λ _. (λ x. (some, (k, and-right (f .rtf) _ x)), λ _. (λ _. (some, k), never))),
+            λ _. (
+              λ x. (some, (k, and-right (f .ctp) _ x)),
+              λ _. (λ x. (some, reordered-suits k (and-right (f .rtf) _ x)), λ _. (λ _. (some, k), never)),
+            ),
           )
 
   -- the choice of a start in a sound session that is not empty can be carried out, but for the limits
@@ -171,12 +203,12 @@ module _ (tb : List ℕ) (s : State ℕ) (b : ℕ) (f : Flags) where
   unfolding choose chooseIn groupOf soughtBy isApart rootsOnce
   choose-ready h some =
       if-elim (λ g. ChoiceReady tb s b (chooseIn tb s b f g)) (isSingleInstance tb b) _ _ (λ e. instance-ready _ (seekRoot-sought tb s b))
-      (λ e. if-elim (λ g. ChoiceReady tb s b (chooseIn tb s b f g)) (isSingleTask tb b) _ _ (λ k. task-ready e _ (seek-sought tb s b))
+      (λ e. if-elim (λ g. ChoiceReady tb s b (chooseIn tb s b f g)) (isSingleTask tb b) _ _ (λ k. task-ready e _ (seek-sought tb s b e))
       (λ k. if-elim (λ g. ChoiceReady tb s b (chooseIn tb s b f g)) (isApart tb s b f) _ _ (λ _. apart e (standard-free tb s b (rw k e)))
       (λ a. near-ready e h some (or-false-right (f .ntk) _ a))))
     where
       apart : Plain tb b → RootFree tb b (s .tasks) → ChoiceReady tb s b (chooseIn tb s b f Group.Apart)
-      apart e free = apart-ready e _ (if-elim (Sought tb s b) (f .mtk) Found.Nowhere _ (λ _. free) (λ _. seek-sought tb s b)) free
+      apart e free = apart-ready e _ (if-elim (Sought tb s b) (f .mtk) Found.Nowhere _ (λ _. free) (λ _. seek-sought tb s b e)) free
 
 -- ---- start and finishing start
 
@@ -186,8 +218,8 @@ module _ (tb : List ℕ) (s : State ℕ) (b w : ℕ) where
     pub known : b < sizeOf tb
     pub sixOnly : hasOtherBit w ≡ false
     pub some : 1 ≤ count s
-    pub taskFits : (makesTask (effectOf (chosen tb s b w .rule)) && eqb (count s) mostTasks) ≡ false
-    pub screenFits : overfills (effectOf (chosen tb s b w .rule)) (placeOf (chosen tb s b w .found)) s ≡ false
+    pub taskFits : (makesTask (effectIn s (chosen tb s b w)) && eqb (count s) mostTasks) ≡ false
+    pub screenFits : overfills (effectIn s (chosen tb s b w)) (placeOf (chosen tb s b w .found)) s ≡ false
 
   pub start-accepted : refusal (startChecks tb s b w) ≡ 0 → Accepted
   start-accepted e =
@@ -209,5 +241,5 @@ pub started-sound : (tb : List ℕ) (s : State ℕ) (b w : ℕ)
 unfolding started
 started-sound tb s b w h e =
     let a = start-accepted tb s b w e in
-    carry-sound tb b (a .known) (effectOf (chosen tb s b w .rule)) (placeOf (chosen tb s b w .found)) s
+    carry-sound tb b (a .known) (effectIn s (chosen tb s b w)) (placeOf (chosen tb s b w .found)) s
     (choose-ready tb s b (flagsOf w) h (a .some)) (a .taskFits) (a .screenFits) h

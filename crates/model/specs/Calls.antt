@@ -1,4 +1,5 @@
--- Document 01, "Calls" and "Refusals": each call, its checks, the session and the answer that it gives.
+-- Document 01, "Calls" and "Refusals": each call, its checks, the session and the answer that it gives. Launch names an edition
+-- (document 02, request 4).
 use Prim.Native.Nat.{ℕ, zero, suc, pred, _+_}
 use mathlib.Core.Bool.{Bool, true, false, not, _&&_}
 use mathlib.Core.List.{List, [], _∷_, _++_, map}
@@ -11,7 +12,7 @@ use Rattle.model.specs.declared.Effect.{Effect}
 use Rattle.model.specs.Lists.{if_then_else_, isEmpty, isPlace, find, onFirst}
 use Rattle.model.specs.Refusals.{Check, check, refusal}
 use Rattle.model.specs.Table.{sizeOf, mainScreen, tableChecks}
-use Rattle.model.specs.Session.{Stack, State, stack, state, taskAt, front, height, count, mostTasks, mostHeight, sound}
+use Rattle.model.specs.Session.{Stack, State, stack, state, taskAt, front, height, count, mostTasks, mostHeight, isEdition, sound}
 use Rattle.model.specs.Flags.{flagsOf, hasOtherBit}
 use Rattle.model.specs.Search.{placeOf}
 use Rattle.model.specs.Rules.{choose}
@@ -20,9 +21,9 @@ use Rattle.model.specs.Counts.{createdBy, closedBy}
 use Rattle.model.specs.Answers.{Outcome, outcome, lookAt, withClosed, settle}
 use Rattle.model.specs.Image.{image, imageChecks, sessionIn}
 
--- "with any screen, flag word or image bytes"
+-- "with any screen, flag word or image bytes"; a launch with any edition
 pub data Call : Type 0 where
-  launch : Call
+  launch : ℕ → Call
   start finishingStart : ℕ → ℕ → Call
   back look : Call
   restore : List ℕ → Call
@@ -33,13 +34,13 @@ pub data Call : Type 0 where
 abbrev pub chosen : List ℕ → State ℕ → ℕ → ℕ → Choice
 chosen tb s b w = choose tb s b (flagsOf w)
 
--- the choice carried out, on screens of any kind
-abbrev pub carryChoice : {A : Type 0} → (A → Bool) → ℕ → A → Choice → State A → State A
-carryChoice isB b newB c s = carryOut isB b newB (effectOf (c .rule)) (placeOf (c .found)) s
+-- what the rule chosen does in the session s
+abbrev pub effectIn : State ℕ → Choice → Effect
+effectIn s c = effectOf (s .edition) (s .main) (c .rule)
 
 -- a start by the rule chosen
 abbrev pub startedBy : Choice → ℕ → State ℕ → State ℕ
-startedBy c b s = carryChoice (eqb b) b b c s
+startedBy c b s = carryOut (eqb b) b b (effectIn s c) (placeOf (c .found)) s
 
 -- "Start of B": "The first rule that fits is used."
 unfoldable pub started : List ℕ → State ℕ → ℕ → ℕ → State ℕ
@@ -64,15 +65,16 @@ module _ {A B : Type 0} (f : A → B) where
   mapScreens t = stack (t .root) (map f (t .screens))
 
   unfoldable pub mapState : State A → State B
-  mapState s = state (map mapScreens (s .tasks)) (s .main)
+  mapState s = state (map mapScreens (s .tasks)) (s .main) (s .edition)
 
 -- "mark the front screen"
 unfoldable pub markFront : State ℕ → State Marked
 markFront s = changeFront markTop (mapState unmarked s)
 
--- "start B": "A mark travels with its screen; .. the pushed B is unmarked."
-abbrev pub startMarked : Choice → ℕ → State Marked → State Marked
-startMarked c b s = carryChoice (λ x. eqb b (x .screen)) b (unmarked b) c s
+-- "start B": "A mark travels with its screen; .. the pushed B is unmarked." The effect d is that of the rule chosen, and p the
+-- place of the task found.
+abbrev pub startMarked : Effect → ℕ → ℕ → State Marked → State Marked
+startMarked d p b s = carryOut (λ x. eqb b (x .screen)) b (unmarked b) d p s
 
 -- the place of the marked screen in a task, counted from the top, or 0
 abbrev pub placeOfMark : Stack Marked → ℕ
@@ -97,16 +99,21 @@ closeMarked s = if markStands s then close (markedTask s) (aboveMarked s) s else
 -- "Finishing start: mark the front screen, start B, then remove the marked screen if it still stands, as Back would
 -- in its task. A mark travels with its screen; an emptied screen is gone, and the pushed B is unmarked."
 abbrev pub finishedBy : Choice → ℕ → State ℕ → State ℕ
-finishedBy c b s = mapState (λ x. x .screen) (closeMarked (startMarked c b (markFront s)))
+finishedBy c b s = mapState (λ x. x .screen) (closeMarked (startMarked (effectIn s c) (placeOf (c .found)) b (markFront s)))
 
 unfoldable pub finished : List ℕ → State ℕ → ℕ → ℕ → State ℕ
 finished tb s b w = finishedBy (chosen tb s b w) b s
 
 -- ---- launch and Back
 
+-- "Launch names one, 0 standing for 8" (02, request 4)
+abbrev pub editionNamed : ℕ → ℕ
+editionNamed zero = 8
+editionNamed (suc k) = suc k
+
 -- "Launch: on an empty session, one task whose root and only screen is the main screen; m = 1."
-unfoldable pub launched : List ℕ → State ℕ
-launched tb = state (stack (mainScreen tb) (mainScreen tb ∷ []) ∷ []) 1
+unfoldable pub launched : List ℕ → ℕ → State ℕ
+launched tb e = state (stack (mainScreen tb) (mainScreen tb ∷ []) ∷ []) 1 (editionNamed e)
 
 -- "Back: removes the front screen; a task left empty goes, and m follows its task or becomes 0."
 unfoldable pub backed : State ℕ → State ℕ
@@ -135,8 +142,8 @@ overfills (Effect.MoveAnd c) p s = isPush c && eqb (height (taskAt (s .tasks) p)
 -- "23: a new task is needed and n = 16", "24: a push onto a task of 32 (not after empty)"
 abbrev pub roomChecks : Choice → State ℕ → List Check
 roomChecks c s =
-    check 23 (makesTask (effectOf (c .rule)) && eqb (count s) mostTasks)
-    ∷ check 24 (overfills (effectOf (c .rule)) (placeOf (c .found)) s)
+    check 23 (makesTask (effectIn s c) && eqb (count s) mostTasks)
+    ∷ check 24 (overfills (effectIn s c) (placeOf (c .found)) s)
     ∷ []
 
 -- "Start checks 3, 4, 21, then 23 or 24." "3: start: B not below N", "4: start: a bit outside the six",
@@ -146,9 +153,14 @@ startChecks tb s b w =
     check 3 (not (ltb b (sizeOf tb))) ∷ check 4 (hasOtherBit w) ∷ check 21 (isEmpty (s .tasks))
     ∷ roomChecks (chosen tb s b w) s
 
--- "those named for the call". "A finishing start has the same checks, made before the removal." "22: launch: not empty"
+-- "22: launch: not empty", and as 01's table would have it "30: launch: edition not 0, 6, 7 or 8": "launch gives 30, after 22, for
+-- another edition" (02, request 4)
+abbrev pub launchChecks : State ℕ → ℕ → List Check
+launchChecks s e = check 22 (not (isEmpty (s .tasks))) ∷ check 30 (not (isEdition (editionNamed e))) ∷ []
+
+-- "those named for the call". "A finishing start has the same checks, made before the removal."
 unfoldable pub ownChecks : List ℕ → State ℕ → Call → List Check
-ownChecks tb s launch = check 22 (not (isEmpty (s .tasks))) ∷ []
+ownChecks tb s (launch e) = launchChecks s e
 ownChecks tb s (start b w) = startChecks tb s b w
 ownChecks tb s (finishingStart b w) = startChecks tb s b w
 ownChecks tb s back = check 21 (isEmpty (s .tasks)) ∷ []
@@ -162,31 +174,31 @@ checksIn tb isSound own = tableChecks tb ++ check 20 (not isSound) ∷ own
 -- ---- screens created and closed (document 02, request 2)
 
 -- of a start by the rule chosen
-abbrev pub createdByChoice : Choice → ℕ
-createdByChoice c = createdBy (effectOf (c .rule))
+abbrev pub createdByChoice : Choice → State ℕ → ℕ
+createdByChoice c s = createdBy (effectIn s c)
 
 abbrev pub closedByChoice : Choice → ℕ → State ℕ → ℕ
-closedByChoice c b s = closedBy (eqb b) (effectOf (c .rule)) (placeOf (c .found)) s
+closedByChoice c b s = closedBy (eqb b) (effectIn s c) (placeOf (c .found)) s
 
 -- the marked screen, "if it still stands"
 abbrev pub closedMarked : State Marked → ℕ
 closedMarked s = if markStands s then 1 else 0
 
 abbrev pub closedByFinish : Choice → ℕ → State ℕ → ℕ
-closedByFinish c b s = closedByChoice c b s + closedMarked (startMarked c b (markFront s))
+closedByFinish c b s = closedByChoice c b s + closedMarked (startMarked (effectIn s c) (placeOf (c .found)) b (markFront s))
 
 -- the screens that a call creates where it is not refused: "one for launch, each new task and each push"
 unfoldable pub createdOf : List ℕ → State ℕ → Call → ℕ
-createdOf tb s launch = 1
-createdOf tb s (start b w) = createdByChoice (chosen tb s b w)
-createdOf tb s (finishingStart b w) = createdByChoice (chosen tb s b w)
+createdOf tb s (launch e) = 1
+createdOf tb s (start b w) = createdByChoice (chosen tb s b w) s
+createdOf tb s (finishingStart b w) = createdByChoice (chosen tb s b w) s
 createdOf tb s back = 0
 createdOf tb s look = 0
 createdOf tb s (restore bytes) = 0
 
 -- the screens that it closes: "screens removed by this call, 0 when refused and for a restore"
 unfoldable pub closedOf : List ℕ → State ℕ → Call → ℕ
-closedOf tb s launch = 0
+closedOf tb s (launch e) = 0
 closedOf tb s (start b w) = closedByChoice (chosen tb s b w) b s
 closedOf tb s (finishingStart b w) = closedByFinish (chosen tb s b w) b s
 closedOf tb s back = 1
@@ -197,7 +209,7 @@ closedOf tb s (restore bytes) = 0
 
 -- the session that a call makes where it is not refused. "Look: changes nothing."
 unfoldable pub done : List ℕ → State ℕ → Call → State ℕ
-done tb s launch = launched tb
+done tb s (launch e) = launched tb e
 done tb s (start b w) = started tb s b w
 done tb s (finishingStart b w) = finished tb s b w
 done tb s back = backed s
@@ -207,8 +219,8 @@ done tb s (restore bytes) = sessionIn bytes
 unfoldable pub refusalOf : List ℕ → State ℕ → Call → ℕ
 refusalOf tb s c = refusal (checksIn tb (sound tb s) (ownChecks tb s c))
 
--- the answer to a call that is not refused: "front screen, front root, front height, n, m, after the call", and "screens
--- removed by this call"
+-- the answer to a call that is not refused: "front screen, front root, front height, n, m, after the call", "screens removed by
+-- this call", and the edition
 abbrev pub answerTo : List ℕ → State ℕ → Call → Answer
 answerTo tb s c = withClosed (closedOf tb s c) (lookAt (done tb s c))
 

@@ -1,7 +1,8 @@
--- Document 01, "Calls": move, clear to B, lift, new, empty, push; what each rule does; and closing a screen.
+-- Document 01, "Calls": move, clear to B, lift, new, empty, push; what each rule does, by edition (document 02, request 4); and
+-- closing a screen.
 -- Screens may be of any kind: `isB` tells which of them are B, and `newB` is the B that is pushed.
 use Prim.Native.Nat.{ℕ, suc, pred}
-use mathlib.Core.Bool.{Bool}
+use mathlib.Core.Bool.{Bool, _&&_}
 use mathlib.Core.List.{List, [], _∷_}
 use lib.Dec.{eqb, ltb}
 use lib.ListN.{set, drop}
@@ -9,29 +10,35 @@ use Rattle.model.specs.declared.Rule.{Rule}
 use Rattle.model.specs.declared.Change.{Change}
 use Rattle.model.specs.declared.Effect.{Effect}
 use Rattle.model.specs.Lists.{if_then_else_, isEmpty, further, find, omit, toFront, onFirst}
-use Rattle.model.specs.Session.{Stack, State, stack, onScreens, onTasks, onMain, taskAt}
+use Rattle.model.specs.Session.{Stack, State, stack, onScreens, onTasks, onMain, onEdition, taskAt, count, editionKept}
+
+-- what R9 does with the front task: "lift"; and "Edition 7 ..: where R9 fits and the front task is the main one, the task is
+-- emptied and B pushed" (02, request 4)
+unfoldable pub reordered : ℕ → ℕ → Change
+reordered e m = if eqb e 7 && eqb m 1 then Change.Renew else Change.Lift
 
 -- what 01 writes behind each rule's colon. A change is what is done with the screens of the front task: nothing
 -- (`Keep`), "empty, push B" (`Renew`), "clear to B", "lift" or "push B".
-unfoldable pub effectOf : Rule → Effect
-effectOf Rule.R1 = Effect.MoveAnd Change.Keep
-effectOf Rule.R2 = Effect.New
-effectOf Rule.R3 = Effect.MoveAnd Change.Renew
-effectOf Rule.R4 = Effect.MoveAnd Change.Clear
-effectOf Rule.R5 = Effect.MoveAnd Change.Push
-effectOf Rule.R6 = Effect.New
-effectOf Rule.R7 = Effect.InFront Change.Keep
-effectOf Rule.R8 = Effect.InFront Change.Clear
-effectOf Rule.R9 = Effect.InFront Change.Lift
-effectOf Rule.R10 = Effect.InFront Change.Push
-effectOf Rule.R11 = Effect.New
-effectOf Rule.R12 = Effect.MoveAnd Change.Renew
-effectOf Rule.R13 = Effect.MoveAnd Change.Clear
-effectOf Rule.R14 = Effect.MoveAnd Change.Push
-effectOf Rule.R15 = Effect.MoveAnd Change.Keep
-effectOf Rule.R16 = Effect.MoveAnd Change.Keep
-effectOf Rule.R17 = Effect.MoveAnd Change.Push
-effectOf Rule.R18 = Effect.New
+-- e is the edition, m the main place.
+unfoldable pub effectOf : ℕ → ℕ → Rule → Effect
+effectOf e m Rule.R1 = Effect.MoveAnd Change.Keep
+effectOf e m Rule.R2 = Effect.New
+effectOf e m Rule.R3 = Effect.MoveAnd Change.Renew
+effectOf e m Rule.R4 = Effect.MoveAnd Change.Clear
+effectOf e m Rule.R5 = Effect.MoveAnd Change.Push
+effectOf e m Rule.R6 = Effect.New
+effectOf e m Rule.R7 = Effect.InFront Change.Keep
+effectOf e m Rule.R8 = Effect.InFront Change.Clear
+effectOf e m Rule.R9 = Effect.InFront (reordered e m)
+effectOf e m Rule.R10 = Effect.InFront Change.Push
+effectOf e m Rule.R11 = Effect.New
+effectOf e m Rule.R12 = Effect.MoveAnd Change.Renew
+effectOf e m Rule.R13 = Effect.MoveAnd Change.Clear
+effectOf e m Rule.R14 = Effect.MoveAnd Change.Push
+effectOf e m Rule.R15 = Effect.MoveAnd Change.Keep
+effectOf e m Rule.R16 = Effect.MoveAnd Change.Keep
+effectOf e m Rule.R17 = Effect.MoveAnd Change.Push
+effectOf e m Rule.R18 = Effect.New
 
 -- m when the task at place p comes to the front: "the others keeping their order, m following"
 unfoldable pub mainMoved : ℕ → ℕ → ℕ
@@ -69,9 +76,13 @@ module _ {A : Type 0} where
   carryOut isB b newB (Effect.InFront c) p s = changeFront (changed isB newB c) s
   carryOut isB b newB (Effect.MoveAnd c) p s = changeFront (changed isB newB c) (move p s)
 
+  -- "the session keeps it until empty, when it is 8 again" (02, request 4)
+  abbrev pub keepEdition : State A → State A
+  keepEdition s = onEdition (editionKept (count s)) s
+
   -- the task at place p "goes, and m follows its task or becomes 0"
   abbrev pub withoutTask : ℕ → State A → State A
-  withoutTask p s = onTasks (omit (pred p)) (onMain (mainWithout p) s)
+  withoutTask p s = keepEdition (onTasks (omit (pred p)) (onMain (mainWithout p) s))
 
   -- the task at place p without the screen that stands below i others
   abbrev pub taskLeft : ℕ → ℕ → State A → Stack A

@@ -17,7 +17,7 @@ unfoldable pub reasonFor : List ℕ → State ℕ → Request → Reason
 reasonFor tb s unplayable = noReason 9
 reasonFor tb s (asks (start b w)) = why tb s b w
 reasonFor tb s (asks (finishingStart b w)) = why tb s b w
-reasonFor tb s (asks launch) = noReason 0
+reasonFor tb s (asks (launch e)) = noReason 0
 reasonFor tb s (asks back) = noReason 0
 reasonFor tb s (asks look) = noReason 0
 reasonFor tb s (asks (restore bytes)) = noReason 0

@@ -48,9 +48,9 @@ wordCount = 0x100000000
 abbrev pub IsWord : ℕ → Type 0
 IsWord w = w < wordCount
 
--- "with any screen, flag word or image bytes": the calls that can be made
+-- "with any screen, flag word or image bytes", and with any edition byte: the calls that can be made
 abbrev pub Passable : Call → Type 0
-Passable launch = Unit {0}
+Passable (launch e) = IsByte e
 Passable (start b w) = IsByte b × IsWord w
 Passable (finishingStart b w) = IsByte b × IsWord w
 Passable back = Unit {0}
@@ -59,7 +59,7 @@ Passable (restore bytes) = All IsByte bytes
 
 -- "later launches, starts, finishing starts, Backs and looks": all of these but restore
 abbrev pub IsLater : Call → Type 0
-IsLater launch = Unit {0}
+IsLater (launch e) = IsByte e
 IsLater (start b w) = IsByte b × IsWord w
 IsLater (finishingStart b w) = IsByte b × IsWord w
 IsLater back = Unit {0}
@@ -68,7 +68,7 @@ IsLater (restore bytes) = ⊥
 
 -- "calls without restores"
 abbrev pub IsNoRestore : Call → Type 0
-IsNoRestore launch = Unit {0}
+IsNoRestore (launch e) = Unit {0}
 IsNoRestore (start b w) = Unit {0}
 IsNoRestore (finishingStart b w) = Unit {0}
 IsNoRestore back = Unit {0}

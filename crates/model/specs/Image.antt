@@ -1,4 +1,4 @@
--- Document 01, "Image", and refusals 5, 6 and 7.
+-- Document 01, "Image", and refusals 5, 6 and 7; "the image carries" the edition "in the byte that was 8" (02, request 4).
 use Prim.Native.Nat.{ℕ, zero, suc, _+_, _-_, _*_, _/_, _%_}
 use mathlib.Core.Bool.{Bool, true, false, not, _&&_}
 use mathlib.Core.List.{List, [], _∷_, _++_}
@@ -6,23 +6,23 @@ use lib.Dec.{leb, eqb}
 use lib.ListN.{length, getD, take, drop}
 use Rattle.model.specs.Lists.{if_then_else_}
 use Rattle.model.specs.Refusals.{Check, check}
-use Rattle.model.specs.Session.{Stack, State, stack, state, height, count, mostTasks, mostHeight, sound}
+use Rattle.model.specs.Session.{Stack, State, stack, state, height, count, mostTasks, mostHeight, isEdition, sound}
 
 -- "For each task, front first: root, height, screens top first."
 abbrev pub bodyOf : List (Stack ℕ) → List ℕ
 bodyOf [] = []
 bodyOf (t ∷ ts) = t .root ∷ height t ∷ (t .screens ++ bodyOf ts)
 
--- "8, hex 42"
-abbrev pub closing : List ℕ
-closing = 0x08 ∷ 0x42 ∷ []
+-- "8, hex 42", where 8 was the edition
+abbrev pub closing : ℕ → List ℕ
+closing e = e ∷ 0x42 ∷ []
 
 -- "Then six trailer bytes pointing back: the length L of all that precedes (2 bytes, high first), n, m, 8, hex 42."
-abbrev pub trailer : ℕ → ℕ → ℕ → List ℕ
-trailer l n m = l / 256 ∷ l % 256 ∷ n ∷ m ∷ closing
+abbrev pub trailer : ℕ → ℕ → ℕ → ℕ → List ℕ
+trailer l n m e = l / 256 ∷ l % 256 ∷ n ∷ m ∷ closing e
 
 unfoldable pub image : State ℕ → List ℕ
-image s = bodyOf (s .tasks) ++ trailer (length (bodyOf (s .tasks))) (count s) (s .main)
+image s = bodyOf (s .tasks) ++ trailer (length (bodyOf (s .tasks))) (count s) (s .main) (s .edition)
 
 -- as long as an image of 16 tasks of 32 screens, which no sound session's image passes
 abbrev pub longestImage : ℕ
@@ -44,11 +44,15 @@ countIn bytes = getD (trailerIn bytes) 2 0
 abbrev pub mainIn : List ℕ → ℕ
 mainIn bytes = getD (trailerIn bytes) 3 0
 
--- not "5: restore: under 6 bytes, last two bytes not hex 08 42, or length not L + 6"
+abbrev pub editionIn : List ℕ → ℕ
+editionIn bytes = getD (trailerIn bytes) 4 0
+
+-- not "5: restore: under 6 bytes, last two bytes not hex 06 42, 07 42 or 08 42, or length not L + 6": of 01's condition, hex 08 is
+-- any edition now, "restore gives 5 when the byte is none of the three" (02, request 4)
 unfoldable pub imageShaped : List ℕ → Bool
 imageShaped bytes =
     leb 6 (length bytes)
-    && ((eqb (getD (trailerIn bytes) 4 0) 0x08 && eqb (getD (trailerIn bytes) 5 0) 0x42)
+    && ((isEdition (editionIn bytes) && eqb (getD (trailerIn bytes) 5 0) 0x42)
     && eqb (length bytes) (lengthIn bytes + 6))
 
 -- the tasks read from a body, or that they cannot be read
@@ -85,7 +89,7 @@ imageReadable bytes = leb (countIn bytes) mostTasks && isReadable (readTasks (co
 
 -- "the session read from the image"
 unfoldable pub sessionIn : List ℕ → State ℕ
-sessionIn bytes = state (tasksRead (readTasks (countIn bytes) (bodyIn bytes))) (mainIn bytes)
+sessionIn bytes = state (tasksRead (readTasks (countIn bytes) (bodyIn bytes))) (mainIn bytes) (editionIn bytes)
 
 -- 5, 6, and "7: restore: the session read from the image is not sound under the table"
 abbrev pub imageChecks : List ℕ → List ℕ → List Check

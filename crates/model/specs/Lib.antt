@@ -17,6 +17,7 @@ pub mod Histories
 pub mod Player
 pub mod Reasons
 pub mod Affinity
+pub mod Editions
 pub mod Sentences
 pub mod Explained
 pub mod Promises

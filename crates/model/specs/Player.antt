@@ -57,10 +57,11 @@ pub record Record : Type 0 where
 abbrev pub recordOf : ℕ → Request → Record
 recordOf k r = record { kind = k; request = r }
 
--- "kind (1 launch, 2 start, 3 finishing start, 4 Back, 5 look)"; "9: player only: unknown kind, or a cut record"
+-- "kind (1 launch, 2 start, 3 finishing start, 4 Back, 5 look)"; "9: player only: unknown kind, or a cut record". Launch names an
+-- edition: "in a player's launch record the screen byte does" (02, request 4)
 unfoldable pub requestOf : ℕ → ℕ → ℕ → Request
 requestOf kind b w =
-    if eqb kind 1 then asks launch else
+    if eqb kind 1 then asks (launch b) else
     if eqb kind 2 then asks (start b w) else
     if eqb kind 3 then asks (finishingStart b w) else
     if eqb kind 4 then asks back else
@@ -74,8 +75,8 @@ isStart kind = eqb kind 2 || eqb kind 3
 abbrev pub wordOf : ℕ → ℕ → ℕ → ℕ → ℕ
 wordOf w₃ w₂ w₁ w₀ = 0x1000000 * w₃ + 0x10000 * w₂ + 0x100 * w₁ + w₀
 
--- "records of 6 bytes: kind .., screen, flag word high byte first; kinds 1, 4, 5 ignore the last five." A last record
--- of fewer bytes is cut.
+-- "records of 6 bytes: kind .., screen, flag word high byte first; kinds 1, 4, 5 ignore the last five", but for the
+-- edition of kind 1. A last record of fewer bytes is cut.
 unfoldable pub recordsIn : List ℕ → List Record
 recordsIn [] = []
 recordsIn (k ∷ []) = recordOf k unplayable ∷ []
@@ -114,8 +115,8 @@ unfoldable pub startsWithTable : List ℕ → Bool
 startsWithTable input =
     (leb 1 (sizeOf input) && leb (sizeOf input) mostScreens) && leb (2 + 2 * sizeOf input) (length input)
 
--- "With N bad or the table cut it prints 0 and the answer of refusal 1, `0 1 0 0 0 0 0`, and stops." With the seventh number the
--- line has one zero more.
+-- "With N bad or the table cut it prints 0 and the answer of refusal 1, `0 1 0 0 0 0 0`, and stops." With the seventh and
+-- the eighth number the line has two zeros more.
 unfoldable pub playerText : List ℕ → List ℕ
 playerText input =
     if startsWithTable input then textOf (tableIn input) fresh (recordsIn (recordBytes input)) else lineOf 0 (refused 1)

@@ -92,6 +92,6 @@ module _ (tb : List ℕ) (s : State ℕ) (b w : ℕ) where
     pub how : h ≡ howFound taskSought
 
 -- a start of b with the flag word w in s, carried out by a rule; p is the place of the task found. Once the rule is known, the
--- flags say no more.
+-- flags say no more; the edition says what the rule does.
 unfoldable pub carriedBy : State ℕ → ℕ → ℕ → Rule → ℕ → State ℕ
-carriedBy s b w r p = carryOut (eqb b) b b (effectOf r) p s
+carriedBy s b w r p = carryOut (eqb b) b b (effectOf (s .edition) (s .main) r) p s

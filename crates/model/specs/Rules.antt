@@ -40,9 +40,9 @@ module _ (tb : List ℕ) (s : State ℕ) (b : ℕ) (f : Flags) where
   -- sought by root, then by affinity."
   unfoldable pub soughtBy : Group → Found
   soughtBy Group.Instance = seekRoot b (s .tasks)
-  soughtBy Group.Task = seek tb b (s .tasks)
+  soughtBy Group.Task = seek tb (s .edition) b (s .tasks)
   soughtBy Group.NotApart = Found.Nowhere
-  soughtBy Group.Apart = if f .mtk then Found.Nowhere else seek tb b (s .tasks)
+  soughtBy Group.Apart = if f .mtk then Found.Nowhere else seek tb (s .edition) b (s .tasks)
 
   -- the task found
   abbrev pub taskFound : Found → Stack ℕ

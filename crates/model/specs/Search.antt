@@ -1,11 +1,11 @@
--- Document 01, "Calls": the searches for a task, and for a screen in a task.
+-- Document 01, "Calls": the searches for a task, and for a screen in a task; and how the editions of document 02 seek.
 use Prim.Native.Nat.{ℕ}
-use mathlib.Core.Bool.{Bool, true, false, not, _&&_}
+use mathlib.Core.Bool.{Bool, true, false, not, _&&_, _||_}
 use mathlib.Core.List.{List}
 use lib.Dec.{eqb}
 use Rattle.model.specs.declared.Found.{Found}
 use Rattle.model.specs.Lists.{if_then_else_, isPlace, find}
-use Rattle.model.specs.Table.{affinityOf, isSingleInstance}
+use Rattle.model.specs.Table.{affinityOf, isSingleTask, isSingleInstance}
 use Rattle.model.specs.Session.{Stack}
 
 -- "By root: the first task from the front whose root is B."
@@ -44,9 +44,14 @@ unfoldable pub seekAffinity : List ℕ → ℕ → List (Stack ℕ) → Found
 seekAffinity tb b ts =
     if isPlace (find (hasAffinity tb b) ts) then Found.ByAffinity (find (hasAffinity tb b) ts) else Found.Nowhere
 
--- "sought by root, then by affinity": all tasks by root first
-unfoldable pub seek : List ℕ → ℕ → List (Stack ℕ) → Found
-seek tb b ts = if isFound (seekRoot b ts) then seekRoot b ts else seekAffinity tb b ts
+-- "Edition 6 ..: except for single-instance screens, search is by affinity only ..; a single-task screen of affinity 0 is still
+-- sought by root" (02, request 4). The other editions seek by root; e is the edition.
+unfoldable pub seeksByRoot : List ℕ → ℕ → ℕ → Bool
+seeksByRoot tb e b = (isSingleInstance tb b || not (eqb e 6)) || (isSingleTask tb b && eqb (affinityOf tb b) 0)
+
+-- "sought by root, then by affinity": all tasks by root first, where the edition seeks by root
+unfoldable pub seek : List ℕ → ℕ → ℕ → List (Stack ℕ) → Found
+seek tb e b ts = if seeksByRoot tb e b && isFound (seekRoot b ts) then seekRoot b ts else seekAffinity tb b ts
 
 -- "holds B": B stands among the task's screens
 unfoldable pub holds : ℕ → List ℕ → Bool

@@ -20,7 +20,7 @@ ruleSentences =
     ∷ "no task is found for the single-task screen: a new task of it alone comes to the front"
     ∷ "the screen is in front already: the start moves nothing"
     ∷ "the front task holds the screen, and CLEAR_TOP is set: what lay above the screen closes"
-    ∷ "the front task holds the screen, and REORDER_TO_FRONT is set: the screen comes to its top"
+    ∷ "the front task holds the screen, and REORDER_TO_FRONT is set: it comes to the top; edition 7 empties a main task first"
     ∷ "the screen opens on top of the front task"
     ∷ "MULTIPLE_TASK is set: a new task of the screen alone comes to the front"
     ∷ "a task is found for it, and CLEAR_TASK is set: it comes to the front, all in it closes, and the screen opens in it"

@@ -1,7 +1,7 @@
--- Document 01, "Session": tasks, limits, soundness.
+-- Document 01, "Session": tasks, limits, soundness; and document 02, request 4: the edition.
 -- A task is here a `Stack` and a session a `State`; `Task` and `Session` are the structs that store them.
 -- What stands in a task may be of any kind A: screens are numbers, and a finishing start puts marked ones there.
-use Prim.Native.Nat.{ℕ, pred}
+use Prim.Native.Nat.{ℕ, zero, suc, pred}
 use mathlib.Core.Bool.{Bool, false, not, _&&_, _||_}
 use mathlib.Core.List.{List, [], _∷_}
 use lib.Dec.{leb, ltb, eqb}
@@ -22,17 +22,18 @@ pub record Stack (A : Type 0) : Type 0 where
   pub screens : List A
 
 -- "A session is a list of n tasks, front first, and a main place m: the place (from 1) of the task made by launch, or
--- 0 if that task is gone." The main place is 01's own term.
+-- 0 if that task is gone." The main place is 01's own term. "Launch names" an edition; "the session keeps it" (02, request 4).
 pub record State (A : Type 0) : Type 0 where
   pub tasks : List (Stack A)
   pub main : ℕ
+  pub edition : ℕ
 
 module _ {A : Type 0} where
   abbrev pub stack : ℕ → List A → Stack A
   stack r xs = record { root = r; screens = xs }
 
-  abbrev pub state : List (Stack A) → ℕ → State A
-  state ts m = record { tasks = ts; main = m }
+  abbrev pub state : List (Stack A) → ℕ → ℕ → State A
+  state ts m e = record { tasks = ts; main = m; edition = e }
 
   -- ---- one field changed, the others kept
 
@@ -42,11 +43,15 @@ module _ {A : Type 0} where
 
   -- a session with its tasks changed
   abbrev pub onTasks : (List (Stack A) → List (Stack A)) → State A → State A
-  onTasks f s = record { tasks = f (s .tasks); main = s .main }
+  onTasks f s = record { tasks = f (s .tasks); main = s .main; edition = s .edition }
 
   -- a session with its main place changed
   abbrev pub onMain : (ℕ → ℕ) → State A → State A
-  onMain f s = record { tasks = s .tasks; main = f (s .main) }
+  onMain f s = record { tasks = s .tasks; main = f (s .main); edition = s .edition }
+
+  -- a session with its edition changed
+  abbrev pub onEdition : (ℕ → ℕ) → State A → State A
+  onEdition f s = record { tasks = s .tasks; main = s .main; edition = f (s .edition) }
 
   -- ---- what is read of a task and of a session
 
@@ -79,9 +84,26 @@ frontScreen s = top (front s)
 unfoldable pub screensIn : List (Stack ℕ) → ℕ
 screensIn ts = sumOf height ts
 
+-- ---- the edition
+
+-- "three editions are kept: 6, 7 and 8"
+unfoldable pub isEdition : ℕ → Bool
+isEdition e = leb 6 e && leb e 8
+
+-- the edition of a session that had e, where n tasks stand: "the session keeps it until empty, when it is 8 again"
+abbrev pub editionKept : ℕ → ℕ → ℕ
+editionKept zero e = 8
+editionKept (suc n) e = e
+
+-- ---- soundness
+
 -- "Fresh means empty and sound: n = 0, m = 0."
 abbrev pub fresh : State ℕ
-fresh = state [] 0
+fresh = state [] 0 8
+
+-- the edition of a sound session in which n tasks stand
+unfoldable pub editionSound : ℕ → ℕ → Bool
+editionSound n e = isEdition e && eqb (editionKept n e) e
 
 -- that screen alone
 abbrev pub isAlone : ℕ → List ℕ → Bool
@@ -115,8 +137,10 @@ module _ (tb : List ℕ) where
   unfoldable pub mainSound : List (Stack ℕ) → ℕ → Bool
   mainSound ts m = leb m (length ts) && (eqb m 0 || eqb (taskAt ts m .root) (mainScreen tb))
 
-  -- "A session is sound under a table when .."; what is said of storage is said where sessions are stored
+  -- "A session is sound under a table when .."; what is said of storage is said where sessions are stored. An empty session with
+  -- another edition than 8, "or with none of the three, gives 20" (02, request 4)
   unfoldable pub sound : State ℕ → Bool
   sound s =
-      (leb (count s) mostTasks && all taskSound (s .tasks))
-      && (pairwise rootsDiffer (s .tasks) && mainSound (s .tasks) (s .main))
+      ((leb (count s) mostTasks && all taskSound (s .tasks))
+      && (pairwise rootsDiffer (s .tasks) && mainSound (s .tasks) (s .main)))
+      && editionSound (count s) (s .edition)

@@ -1,8 +1,8 @@
 // Documents 01 and 02 as definitions (specs/) and the theorems about them (proofs/). There is no function here: only the
 // plain structs and enums that definitions and code share.
 
-// An answer is seven numbers: the refusal (0 if none); after the call, the front screen, the front root, the front height, the
-// number of tasks and the main place; and the screens that the call closed.
+// An answer is eight numbers: the refusal (0 if none); after the call, the front screen, the front root, the front height, the
+// number of tasks and the main place; the screens that the call closed; and the edition after it.
 #[repr(C)]
 pub struct Answer {
     pub refusal: u8,
@@ -12,10 +12,11 @@ pub struct Answer {
     pub tasks: u8,
     pub main: u8,
     pub closed: u8,
+    pub edition: u8,
 }
 
 impl Answer {
-    pub const NUMBERS: usize = 7;
+    pub const NUMBERS: usize = 8;
 }
 
 // The six flags of a flag word: new task, single top, multiple task, clear top, reorder to front, clear task.
