@@ -16,7 +16,7 @@ abbrev pub blankTask : Task
 blankTask = record { root = 0; height = 0; screens = replicate mostHeight 0 }
 
 abbrev pub freshSession : Session
-freshSession = record { tasks = replicate mostTasks blankTask; n = 0; main = 0 }
+freshSession = record { tasks = replicate mostTasks blankTask; n = 0; main = 0; edition = 8 }
 
 -- what the language says that code reads past the end of an array of tasks
 abbrev pub noTask : Task
@@ -42,15 +42,19 @@ withScreens t xs = record { root = t .root; height = t .height; screens = xs }
 
 -- a session with these tasks
 abbrev pub withTasks : Session → List Task → Session
-withTasks c ts = record { tasks = ts; n = c .n; main = c .main }
+withTasks c ts = record { tasks = ts; n = c .n; main = c .main; edition = c .edition }
 
 -- a session with this n
 abbrev pub withCount : Session → ℕ → Session
-withCount c n = record { tasks = c .tasks; n = n; main = c .main }
+withCount c n = record { tasks = c .tasks; n = n; main = c .main; edition = c .edition }
 
 -- a session with this main place
 abbrev pub withMain : Session → ℕ → Session
-withMain c m = record { tasks = c .tasks; n = c .n; main = m }
+withMain c m = record { tasks = c .tasks; n = c .n; main = m; edition = c .edition }
+
+-- a session with this edition
+abbrev pub withEdition : Session → ℕ → Session
+withEdition c e = record { tasks = c .tasks; n = c .n; main = c .main; edition = e }
 
 -- ---- what is stored
 
@@ -60,7 +64,7 @@ viewTask t = stack (t .root) (reverse (take (t .height) (t .screens)))
 
 -- the session that is stored
 unfoldable pub view : Session → State ℕ
-view c = state (map viewTask (take (c .n) (c .tasks))) (c .main)
+view c = state (map viewTask (take (c .n) (c .tasks))) (c .main) (c .edition)
 
 -- the root of each task
 abbrev pub root : Task → ℕ
@@ -80,7 +84,13 @@ unfoldable pub holdTask : Stack ℕ → Task
 holdTask t = record { root = t .root; height = length (t .screens); screens = pad mostHeight 0 (reverse (t .screens)) }
 
 unfoldable pub hold : State ℕ → Session
-hold s = record { tasks = pad mostTasks blankTask (map holdTask (s .tasks)); n = length (s .tasks); main = s .main }
+hold s =
+    record {
+      tasks = pad mostTasks blankTask (map holdTask (s .tasks));
+      n = length (s .tasks);
+      main = s .main;
+      edition = s .edition;
+    }
 
 -- ---- push and pop
 

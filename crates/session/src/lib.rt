@@ -2,7 +2,7 @@
 
 ghost use Prim.Native.Nat.{_<_, _≤_};
 ghost use mathlib.Core.Path.{_≡_};
-ghost use Rattle.model.specs.Session.{top as topOf, mostHeight};
+ghost use Rattle.model.specs.Session.{top as topOf, mostHeight, isEdition};
 ghost use Rattle.session.specs.Stored.{freshSession, viewTask, pushed, popped};
 
 // A task: the screen that created it, and its screens, bottom first.
@@ -13,12 +13,13 @@ pub struct Task {
     pub screens: [u8; Session::SCREENS],
 }
 
-// A session: n tasks, front first, and the main place.
+// A session: n tasks, front first, the main place, and the edition: 6, 7 or 8, and 8 where no task stands.
 #[repr(C)]
 pub struct Session {
     pub tasks: [Task; Session::TASKS],
     pub n: u8,
     pub main: u8,
+    pub edition: u8,
 }
 
 impl Session {
@@ -40,7 +41,15 @@ impl Session {
             tasks: [blank; Session::TASKS],
             n: 0,
             main: 0,
+            edition: 8,
         }
+    }
+
+    // The editions are 6, 7 and 8.
+    pub fn is_edition(edition: u8) -> bool
+        ensures { λ r. ⌜ r ≡ isEdition edition ⌝ }
+    {
+        (6 <= edition) & (edition <= 8)
     }
 }
 

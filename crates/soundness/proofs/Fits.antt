@@ -1,16 +1,16 @@
 -- Soundness of a stored session, in the terms in which the code tests it: each test of the code by itself.
-use Prim.Native.Nat.{ℕ, pred, _≤_, _<_}
-use mathlib.Core.Path.{_≡_, sym, _∙_}
-use mathlib.Core.Bool.{Bool, true, false, _&&_}
+use Prim.Native.Nat.{ℕ, zero, suc, pred, _≤_, _<_}
+use mathlib.Core.Path.{_≡_, refl, sym, _∙_}
+use mathlib.Core.Bool.{Bool, true, false, not, _&&_, _||_}
 use mathlib.Core.List.{List, map}
 use native.Mathlib.Omega.{arith}
 use lib.Dec.{leb, ltb, eqb}
 use lib.ListN.{length, take, drop, length-take, length-map, List·getD-map}
-use borrow.Author.Tests.{eqb-true, ne-eqb}
+use borrow.Author.Tests.{eqb-true, eq-eqb, ne-eqb}
 use Rattle.model.specs.Lists.{all, pairwise, if_then_else_}
 use Rattle.model.specs.Table.{sizeOf, rootsOnce}
-use Rattle.model.specs.Session.{mostTasks, mostHeight, taskSound, rootsDiffer, mainSound, sound}
-use Rattle.model.proofs.Logic.{Decides, and-decides, leb-decides, ltb-decides, self-decides, all-decides, same-test, and-left, and-right, All-map}
+use Rattle.model.specs.Session.{mostTasks, mostHeight, editionKept, editionSound, taskSound, rootsDiffer, mainSound, sound}
+use Rattle.model.proofs.Logic.{Decides, and-decides, leb-decides, ltb-decides, eqb-decides, self-decides, all-decides, same-test, and-left, and-right, All-map}
 use Rattle.model.proofs.Sound.{task-decides}
 use Rattle.model.proofs.Walks.{all-map, all-both, all-cong, all-true, pairwise-map}
 use Rattle.session.specs.declared.Task.{Task}
@@ -81,6 +81,14 @@ pub blank-root-0 : (t : Task) → isBlank t ≡ true → t .root ≡ 0
 unfolding isBlank
 blank-root-0 t e = eqb-true (t .root) 0 (and-left (eqb (t .root) 0) (eqb (t .height) 0 && all (eqb 0) (t .screens)) e)
 
+-- ---- the edition
+
+-- the edition is the one kept exactly where a task stands or it is 8
+pub edition-kept : (n e : ℕ) → eqb (editionKept n e) e ≡ (not (eqb n 0) || eqb e 8)
+edition-kept zero e =
+    same-test (eqb-decides 8 e) (record { holds = λ h. sym (eqb-decides e 8 .holds h); shows = λ k. eqb-decides e 8 .shows (sym k) })
+edition-kept (suc n) e = rw (eq-eqb e e refl, ne-eqb (suc n) 0 (λ z. omega arith))
+
 -- ---- a session
 
 pub record SessionFits (tb : List ℕ) (c : Session) : Type 0 where
@@ -89,6 +97,7 @@ pub record SessionFits (tb : List ℕ) (c : Session) : Type 0 where
   pub rest : all isBlank (drop (c .n) (c .tasks)) ≡ true
   pub pairs : pairwise (mayBeRoots tb) (rootsOf (take (c .n) (c .tasks))) ≡ true
   pub place : mainRootSound tb (rootsOf (take (c .n) (c .tasks))) (c .main) ≡ true
+  pub edition : editionSound (length (take (c .n) (c .tasks))) (c .edition) ≡ true
 
 module _ (tb : List ℕ) (c : Session) where
   abbrev ts : List Task
@@ -112,6 +121,9 @@ module _ (tb : List ℕ) (c : Session) where
         List·getD-map root ts (pred (c .main)) noTask,
       )
 
+  edition-is : editionSound (length (map viewTask ts)) (c .edition) ≡ editionSound (length ts) (c .edition)
+  edition-is = rw (length-map ts viewTask)
+
   pub session-fits : Decides (soundStored tb c) (SessionFits tb c)
   unfolding soundStored storageBlank sound view
   session-fits =
@@ -120,15 +132,16 @@ module _ (tb : List ℕ) (c : Session) where
             let r = d .holds h in
             record {
               few = r .0 .0;
-              each = sym each-is ∙ both .shows (r .0 .1 .0, r .1 .0 .1);
+              each = sym each-is ∙ both .shows (r .0 .1 .0, r .1 .0 .0 .1);
               rest = r .0 .1 .1;
-              pairs = sym pairs-is ∙ r .1 .1 .0;
-              place = sym place-is ∙ r .1 .1 .1;
+              pairs = sym pairs-is ∙ r .1 .0 .1 .0;
+              place = sym place-is ∙ r .1 .0 .1 .1;
+              edition = sym edition-is ∙ r .1 .1;
             };
         shows = λ f.
             let b = both .holds (each-is ∙ f .each) in
             let few : length (map viewTask ts) ≤ mostTasks = omega (arith, f .few, length-take (c .n) (c .tasks), length-map ts viewTask) in
-            d .shows ((f .few, (b .0, f .rest)), ((few, b .1), (pairs-is ∙ f .pairs, place-is ∙ f .place)));
+            d .shows ((f .few, (b .0, f .rest)), (((few, b .1), (pairs-is ∙ f .pairs, place-is ∙ f .place)), edition-is ∙ f .edition));
       }
     where
       both : Decides (all blankAbove ts && all (taskSound tb) (map viewTask ts)) ((all blankAbove ts ≡ true) × (all (taskSound tb) (map viewTask ts) ≡ true))
@@ -136,12 +149,14 @@ module _ (tb : List ℕ) (c : Session) where
 
       d : Decides
           ((leb (c .n) mostTasks && (all blankAbove ts && all isBlank (drop (c .n) (c .tasks))))
-          && ((leb (length (map viewTask ts)) mostTasks && all (taskSound tb) (map viewTask ts))
-          && (pairwise (rootsDiffer tb) (map viewTask ts) && mainSound tb (map viewTask ts) (c .main))))
+          && (((leb (length (map viewTask ts)) mostTasks && all (taskSound tb) (map viewTask ts))
+          && (pairwise (rootsDiffer tb) (map viewTask ts) && mainSound tb (map viewTask ts) (c .main)))
+          && editionSound (length (map viewTask ts)) (c .edition)))
           (((c .n ≤ mostTasks) × ((all blankAbove ts ≡ true) × (all isBlank (drop (c .n) (c .tasks)) ≡ true)))
-          × (((length (map viewTask ts) ≤ mostTasks) × (all (taskSound tb) (map viewTask ts) ≡ true))
-          × ((pairwise (rootsDiffer tb) (map viewTask ts) ≡ true) × (mainSound tb (map viewTask ts) (c .main) ≡ true))))
+          × ((((length (map viewTask ts) ≤ mostTasks) × (all (taskSound tb) (map viewTask ts) ≡ true))
+          × ((pairwise (rootsDiffer tb) (map viewTask ts) ≡ true) × (mainSound tb (map viewTask ts) (c .main) ≡ true)))
+          × (editionSound (length (map viewTask ts)) (c .edition) ≡ true)))
       d =
           and-decides (and-decides (leb-decides (c .n) mostTasks) (and-decides (self-decides _) (self-decides _)))
-          (and-decides (and-decides (leb-decides (length (map viewTask ts)) mostTasks) (self-decides _))
-          (and-decides (self-decides _) (self-decides _)))
+          (and-decides (and-decides (and-decides (leb-decides (length (map viewTask ts)) mostTasks) (self-decides _))
+          (and-decides (self-decides _) (self-decides _))) (self-decides _))

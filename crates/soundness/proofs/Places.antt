@@ -11,7 +11,7 @@ use lib.Seq.{getD-set-same, getD-set-other, set-getD, getD-take, getD-drop, leng
 use borrow.Author.Tests.{ltb-true, ltb-false, lt-ltb, le-ltb, ne-eqb}
 use Rattle.model.specs.Lists.{all, All, if_then_else_}
 use Rattle.model.specs.Table.{tableRefusal}
-use Rattle.model.specs.Session.{mostTasks}
+use Rattle.model.specs.Session.{mostTasks, editionSound}
 use Rattle.model.proofs.Logic.{refuted, contradiction, and-left, and-right, All-at}
 use Rattle.model.proofs.Tables.{good-shaped}
 use Rattle.model.proofs.Walks.{all-at, all-take-at}
@@ -180,6 +180,12 @@ module _ {tb : List ℕ} {s : Session} where
   -- ---- after the last place
 
   module _ {roots : List ℕ} (b : Before tb s roots 16) where
+    taken : length (take (s .n) (s .tasks)) ≡ s .n
+    taken = length-take-le (s .n) (s .tasks) (omega (arith, b .few, b .sized))
+
+    pub edition-read : editionSound (length (take (s .n) (s .tasks))) (s .edition) ≡ editionSound (s .n) (s .edition)
+    edition-read = rw taken
+
     root-read : (j : ℕ) → j < mostTasks → isRoot (getD roots j 0) ≡ placeSound tb (ltb j (s .n)) (task s j)
     root-read j h = ap isRoot (b .read j h) ∙ read-root tb (b .good) (task s j) (fits-at b j h) (ltb j (s .n))
 
@@ -196,9 +202,6 @@ module _ {tb : List ℕ} {s : Session} where
     module _ (e : all isRoot roots ≡ true) where
       place-sound : (j : ℕ) → j < mostTasks → placeSound tb (ltb j (s .n)) (task s j) ≡ true
       place-sound j h = sym (root-read j h) ∙ all-at isRoot roots j 0 (omega (arith, b .long)) e
-
-      taken : length (take (s .n) (s .tasks)) ≡ s .n
-      taken = length-take-le (s .n) (s .tasks) (omega (arith, b .few, b .sized))
 
       pub each-sound : all (storedTaskSound tb) (take (s .n) (s .tasks)) ≡ true
       each-sound =

@@ -6,7 +6,7 @@ ghost use mathlib.Core.Bool.{true};
 ghost use lib.ListN.{take, drop};
 ghost use Rattle.model.specs.Lists.{all, pairwise};
 ghost use Rattle.model.specs.Table.{tableRefusal};
-ghost use Rattle.model.specs.Session.{mostTasks};
+ghost use Rattle.model.specs.Session.{mostTasks, editionSound};
 ghost use Rattle.session.specs.Stored.{soundStored};
 ghost use Rattle.places.specs.PlaceTests.{isRoot};
 ghost use Rattle.soundness.specs.Tests.{otherRoot, rootsKnown, mayBeRoots, mainRootSound};
@@ -74,6 +74,13 @@ fn main_sound(table: &[u8], roots: [u8; Session::TASKS], n: u8, m: u8) -> bool
     roots[i] == table::main_screen(table)
 }
 
+// The edition is 6, 7 or 8, and 8 where n is 0.
+fn edition_sound(n: u8, edition: u8) -> bool
+    ensures { λ r. ⌜ r ≡ editionSound n edition ⌝ }
+{
+    Session::is_edition(edition) & ((n != 0) | (edition == 8))
+}
+
 // The session is sound under a good table.
 pub fn sound(table: &[u8], s: Session) -> bool
     requires { ⌜ tableRefusal (now table) ≡ 0 ⌝ }
@@ -116,5 +123,5 @@ pub fn sound(table: &[u8], s: Session) -> bool
     if !roots_differ(table, roots, n) {
         return false;
     }
-    main_sound(table, roots, s.n, s.main)
+    main_sound(table, roots, s.n, s.main) & edition_sound(s.n, s.edition)
 }

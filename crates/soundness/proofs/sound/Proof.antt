@@ -1,5 +1,5 @@
 -- The places are tested four by four, then the roots read there. Each test is a part of what the definition comes to: a
--- failed one refutes it, and the last one decides.
+-- failed one refutes it, and the last two decide.
 use Prim.Native.Nat.{ℕ}
 use mathlib.Core.Path.{_≡_, sym, _∙_}
 use mathlib.Core.Logic.{⊎-elim}
@@ -9,13 +9,13 @@ use native.Mathlib.Omega.{arith}
 use lib.ListN.{length}
 use borrow.Author.Needs.{needs}
 use Rattle.model.specs.Lists.{all}
-use Rattle.model.proofs.Logic.{refuted, same-test, contradiction}
+use Rattle.model.proofs.Logic.{refuted, same-test, contradiction, and-left, and-right}
 use Rattle.model.proofs.Walks.{said-yes, said-no}
 use Rattle.session.proofs.Known.{long}
 use Rattle.places.specs.PlaceTests.{isRoot}
 use Rattle.soundness.proofs.Bytes.{sums-fit}
 use Rattle.soundness.proofs.Fits.{session-fits}
-use Rattle.soundness.proofs.Places.{Before, before-first, after-four, after-blanks, blanks-fail, roots-fail, each-sound, rest-blank, roots-read, read-known}
+use Rattle.soundness.proofs.Places.{Before, before-first, after-four, after-blanks, blanks-fail, roots-fail, each-sound, rest-blank, roots-read, read-known, edition-read}
 use Rattle.soundness.proofs.sound.Statement.{statement}
 use Rattle.soundness.proofs.sound.Tie as tie
 
@@ -86,16 +86,26 @@ returns-6 c =
 
 returns-7 : tie.Need-returns-7
 returns-7 c =
-    let test = c .before .before .before in
+    let test = c .before .before .before .before in
     let b = fourth (test .before .before) in
     let y = are-roots test in
     let r = roots-read b y in
-    let p = rw r at (said-yes (c .before .before .roots-differ .ensures) (c .before .if9 .left)) in
-    let m = rw r at (c .main-sound .ensures) in
+    let p = rw r at (said-yes (c .before .before .before .roots-differ .ensures) (c .before .before .if9 .left)) in
+    let main = c .before .main-sound .result in
+    let m = rw r at (c .before .main-sound .ensures) in
+    let d = c .edition-sound .ensures ∙ sym (edition-read b) in
     same-test
     (record {
-      holds = λ e. record { few = b .few; each = each-sound b y; rest = rest-blank b y; pairs = p; place = sym m ∙ e };
-      shows = λ f. m ∙ f .place;
+      holds = λ e.
+          record {
+            few = b .few;
+            each = each-sound b y;
+            rest = rest-blank b y;
+            pairs = p;
+            place = sym m ∙ and-left main _ e;
+            edition = sym d ∙ and-right main _ e;
+          };
+      shows = λ f. rw (m ∙ f .place, d ∙ f .edition);
     })
     (session-fits _ _)
 
@@ -148,5 +158,6 @@ sound-spec =
     returns-5
     roots-differ-requires
     returns-6
+    (λ c κs. search needs)
     (λ c κs. search needs)
     returns-7)
