@@ -50,7 +50,7 @@ module _ (c : Session) (z : Sized c) (e : storageBlank c ≡ true) where
 
   -- and the trailer behind them
   pub image-wrote : (i : ℕ) → i ≡ c .n → {d d′ d″ : List ℕ} {at next : ℕ} → Wrote d 0 (bodyOf (take i (view c .tasks))) d′ at
-      → at ≤ length d → Wrote d′ at (trailer at (c .n) (c .main)) d″ next → Wrote d 0 (image (view c)) d″ next
+      → at ≤ length d → Wrote d′ at (trailer at (c .n) (c .main) (c .edition)) d″ next → Wrote d 0 (image (view c)) d″ next
   unfolding image view
   image-wrote i k {at} v fits w =
       let b = bodyOf (view c .tasks) in

@@ -1,3 +1,4 @@
+pub mod Closing
 pub mod ReadTrailer
 pub mod ReadTask
 pub mod ReadTasks

@@ -9,7 +9,7 @@ use lib.ListN.{length, getD}
 use lib.Seq.{getD-drop}
 use borrow.Author.Tests.{leb-true, le-leb, lt-leb}
 use Rattle.model.specs.Lists.{if_then_else_}
-use Rattle.model.specs.Session.{state, mostTasks}
+use Rattle.model.specs.Session.{state, mostTasks, isEdition}
 use Rattle.model.specs.Image.{bodyIn, trailerIn, imageShaped, Reading, unreadable, readAs, readTasks, isReadable, tasksRead, imageReadable, sessionIn}
 use Rattle.model.proofs.Logic.{and-left}
 use Rattle.session.specs.Stored.{freshSession, hold}
@@ -29,7 +29,7 @@ module _ (bytes : List ℕ) where
 
   pub shaped-long : 6 ≤ length bytes
       → imageShaped bytes
-      ≡ ((eqb (getD bytes (end + 4) 0) 0x08 && eqb (getD bytes (end + 5) 0) 0x42)
+      ≡ ((isEdition (getD bytes (end + 4) 0) && eqb (getD bytes (end + 5) 0) 0x42)
       && eqb (length bytes) (256 * getD bytes end 0 + getD bytes (end + 1) 0 + 6))
   unfolding imageShaped
   shaped-long h = rw (le-leb 6 (length bytes) h, trailer-at 0, trailer-at 1, trailer-at 4, trailer-at 5, add-zero end)
@@ -46,13 +46,14 @@ module _ (bytes : List ℕ) where
   read-many h = rw (trailer-at bytes 2, lt-leb (getD bytes (end bytes + 2) 0) mostTasks h)
 
   pub read-few : getD bytes (end bytes + 2) 0 ≤ mostTasks
-      → contentsOf (readTasks (getD bytes (end bytes + 2) 0) (bodyIn bytes)) (getD bytes (end bytes + 3) 0) ≡ readStored bytes
+      → contentsOf (readTasks (getD bytes (end bytes + 2) 0) (bodyIn bytes)) (getD bytes (end bytes + 3) 0) (getD bytes (end bytes + 4) 0)
+      ≡ readStored bytes
   unfolding readStored imageReadable sessionIn
   read-few h =
-      rw (trailer-at bytes 2, trailer-at bytes 3, le-leb (getD bytes (end bytes + 2) 0) mostTasks h)
-      (go (readTasks (getD bytes (end bytes + 2) 0) (bodyIn bytes)))
+      rw (trailer-at bytes 2, trailer-at bytes 3, trailer-at bytes 4, le-leb (getD bytes (end bytes + 2) 0) mostTasks h)
+      (go (readTasks (getD bytes (end bytes + 2) 0) (bodyIn bytes)) (getD bytes (end bytes + 3) 0) (getD bytes (end bytes + 4) 0))
     where
-      go : (q : Reading) → contentsOf q (getD bytes (end bytes + 3) 0)
-          ≡ contents (isReadable q) (if isReadable q then hold (state (tasksRead q) (getD bytes (end bytes + 3) 0)) else freshSession)
-      go unreadable = refl
-      go (readAs ts) = refl
+      go : (q : Reading) (m e : ℕ)
+          → contentsOf q m e ≡ contents (isReadable q) (if isReadable q then hold (state (tasksRead q) m e) else freshSession)
+      go unreadable m e = refl
+      go (readAs ts) m e = refl

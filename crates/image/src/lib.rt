@@ -3,10 +3,11 @@
 
 ghost use Prim.Native.Nat.{_+_, _<_, _≤_};
 ghost use mathlib.Core.Path.{_≡_};
-ghost use mathlib.Core.Bool.{true};
+ghost use mathlib.Core.Bool.{true, _&&_};
+ghost use lib.Dec.{eqb};
 ghost use mathlib.Core.List.{[], _∷_, _++_};
 ghost use lib.ListN.{length, drop};
-ghost use Rattle.model.specs.Session.{mostTasks, mostHeight};
+ghost use Rattle.model.specs.Session.{mostTasks, mostHeight, isEdition};
 ghost use Rattle.model.specs.Image.{bodyOf, trailer, image, imageShaped, readTasks};
 ghost use Rattle.model.specs.Written.{written};
 ghost use Rattle.session.specs.Stored.{view, viewTask, storageBlank, holdTask};
@@ -14,8 +15,8 @@ ghost use Rattle.image.specs.Readings.{taskIn, unreadableContents, conte
 use session::Session;
 use session::Task;
 
-// The bytes that close an image.
-const CLOSING: [u8; 2] = *b"\x08\x42";
+// The two bytes that close an image, for each edition: 6, 7 and 8.
+const CLOSING: [u8; 6] = *b"\x06\x42\x07\x42\x08\x42";
 
 fn wide(x: u8) -> usize
     ensures { λ r. ⌜ (r ≡ x) × (r < 256) ⌝ }
@@ -71,23 +72,24 @@ fn write_task(out: &mut [u8], at: usize, t: Task) -> usize
 }
 
 // Writes the trailer behind `at` bytes. Yields the place after it.
-fn write_trailer(out: &mut [u8], at: usize, n: u8, main: u8) -> usize
-    requires { ⌜ (at < 65536) × (at + 6 ≤ length (now out)) ⌝ }
+fn write_trailer(out: &mut [u8], at: usize, n: u8, main: u8, edition: u8) -> usize
+    requires { ⌜ (at < 65536) × ((at + 6 ≤ length (now out)) × (isEdition edition ≡ true)) ⌝ }
     ensures place { λ r. ⌜ r ≡ at + 6 ⌝ }
-    ensures bytes { λ r. ⌜ now (out .exit) ≡ written (now (out .entry)) at (trailer at n main) ⌝ }
+    ensures bytes { λ r. ⌜ now (out .exit) ≡ written (now (out .entry)) at (trailer at n main edition) ⌝ }
 {
+    let place = 2 * (wide(edition) - 6);
     out[at] = (at / 256) as u8;
     out[at + 1] = (at % 256) as u8;
     out[at + 2] = n;
     out[at + 3] = main;
-    out[at + 4] = CLOSING[0];
-    out[at + 5] = CLOSING[1];
+    out[at + 4] = CLOSING[place];
+    out[at + 5] = CLOSING[place + 1];
     at + 6
 }
 
 // Writes a session's image at the start of a lent buffer; the bytes beyond it stay. Yields its length.
 pub fn write(s: Session, out: &mut [u8]) -> usize
-    requires { ⌜ (storageBlank s ≡ true) × (length (image (view s)) ≤ length (now out)) ⌝ }
+    requires { ⌜ (storageBlank s ≡ true) × ((length (image (view s)) ≤ length (now out)) × (isEdition (s .edition) ≡ true)) ⌝ }
     ensures length { λ r. ⌜ r ≡ length (image (view s)) ⌝ }
     ensures bytes { λ r. ⌜ now (out .exit) ≡ image (view s) ++ drop (length (image (view s))) (now (out .entry)) ⌝ }
 {
@@ -99,10 +101,20 @@ pub fn write(s: Session, out: &mut [u8]) -> usize
         at = write_task(out, at, t);
         i += 1;
     }
-    write_trailer(out, at, s.n, s.main)
+    write_trailer(out, at, s.n, s.main, s.edition)
 }
 
 // ---- reading
+
+// These two bytes close an image: they are an edition's.
+fn closes(edition: u8, last: u8) -> bool
+    ensures { λ r. ⌜ r ≡ (isEdition edition && eqb last 0x42) ⌝ }
+{
+    let six = (edition == CLOSING[0]) & (last == CLOSING[1]);
+    let seven = (edition == CLOSING[2]) & (last == CLOSING[3]);
+    let eight = (edition == CLOSING[4]) & (last == CLOSING[5]);
+    six | (seven | eight)
+}
 
 // Not refusal 5: a trailer stands at the end, and it names the length of what precedes.
 pub fn shaped(image: &[u8]) -> bool
@@ -115,7 +127,7 @@ pub fn shaped(image: &[u8]) -> bool
     let end = long - 6;
     let high = wide(image[end]);
     let low = wide(image[end + 1]);
-    (image[end + 4] == CLOSING[0]) & (image[end + 5] == CLOSING[1]) & (long == 256 * high + low + 6)
+    closes(image[end + 4], image[end + 5]) & (long == 256 * high + low + 6)
 }
 
 // What is read from an image: whether its tasks can be read, and the session, a fresh one if they cannot.
@@ -155,9 +167,9 @@ fn read_task(body: &[u8], at: usize, height: u8) -> Task
 }
 
 // The session that the body is of: exactly n tasks of height 1 to 32, front first.
-fn read_tasks(body: &[u8], n: u8, main: u8) -> Contents
+fn read_tasks(body: &[u8], n: u8, main: u8, edition: u8) -> Contents
     requires { ⌜ n ≤ mostTasks ⌝ }
-    ensures { λ r. ⌜ r ≡ contentsOf (readTasks n (now (body .entry))) main ⌝ }
+    ensures { λ r. ⌜ r ≡ contentsOf (readTasks n (now (body .entry))) main edition ⌝ }
 {
     let mut s = Session::fresh();
     let mut at: usize = 0;
@@ -183,13 +195,14 @@ fn read_tasks(body: &[u8], n: u8, main: u8) -> Contents
     }
     s.n = n;
     s.main = main;
+    s.edition = edition;
     Contents {
         readable: true,
         session: s,
     }
 }
 
-// Reads an image: n tasks, 16 at most, and the main place.
+// Reads an image: n tasks, 16 at most, the main place and the edition.
 pub fn read(image: &[u8]) -> Contents
     requires { ⌜ imageShaped (now image) ≡ true ⌝ }
     ensures { λ r. ⌜ r ≡ readStored (now (image .entry)) ⌝ }
@@ -197,8 +210,9 @@ pub fn read(image: &[u8]) -> Contents
     let end = image.len() - 6;
     let n = image[end + 2];
     let main = image[end + 3];
+    let edition = image[end + 4];
     if wide(n) > Session::TASKS {
         return unreadable();
     }
-    read_tasks(&image[..end], n, main)
+    read_tasks(&image[..end], n, main, edition)
 }

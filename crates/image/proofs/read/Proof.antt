@@ -9,29 +9,35 @@ use Rattle.image.proofs.ReadTrailer.{shaped-six, read-many, read-few}
 use Rattle.image.proofs.read.Statement.{statement}
 use Rattle.image.proofs.read.Tie as tie
 
+six : (c : tie.Start) → 6 ≤ length (c .args .image .now)
+six c = shaped-six (c .args .image .now) (c .pre)
+
 sub-end : tie.Need-sub-end
-sub-end c = shaped-six (c .before .args .image .now) (c .before .pre)
+sub-end c = six (c .before)
 
 shared-slice-read-n : tie.Need-shared-slice-read-n
-shared-slice-read-n c = let l = shaped-six (c .before .before .args .image .now) (c .before .before .pre) in omega arith
+shared-slice-read-n c = omega (arith, six (c .before .before))
 
 shared-slice-read-main : tie.Need-shared-slice-read-main
-shared-slice-read-main c = let l = shaped-six (c .before .before .before .args .image .now) (c .before .before .before .pre) in omega arith
+shared-slice-read-main c = omega (arith, six (c .before .before .before))
+
+shared-slice-read-edition : tie.Need-shared-slice-read-edition
+shared-slice-read-edition c = omega (arith, six (c .before .before .before .before))
 
 returns : tie.Need-returns
 returns c =
-    let a = c .before .before .before .before .before .before .args in
+    let a = c .before .before .before .before .before .before .before .args in
     c .unreadable .ensures ∙ read-many (a .image .now) (omega (arith, c .before .before .wide .ensures .0))
 
 slice-aggregate-read-tasks : tie.Need-slice-aggregate-read-tasks
 slice-aggregate-read-tasks c =
-    let image = c .before .before .before .before .before .before .args .image .now in
+    let image = c .before .before .before .before .before .before .before .args .image .now in
     let l : length image - 6 ≤ length image = omega arith in
     sym (length-take-le _ _ l)
 
 returns-2 : tie.Need-returns-2
 returns-2 c =
-    let a = c .before .before .before .before .before .before .before .args in
+    let a = c .before .before .before .before .before .before .before .before .args in
     c .read-tasks .ensures ∙ read-few (a .image .now) (omega (arith, c .before .before .before .wide .ensures .0))
 
 pub read-spec : {M : Type 1} → statement M
@@ -43,6 +49,8 @@ read-spec =
     shared-slice-read-n
     (λ c. search needs)
     shared-slice-read-main
+    (λ c. search needs)
+    shared-slice-read-edition
     (λ c κs. search needs)
     (λ c κs. search needs)
     returns

@@ -10,9 +10,9 @@ returns c = sym (shaped-short (c .before .before .args .image .now) (c .if1 .tak
 
 returns-2 : tie.Need-returns-2
 returns-2 c =
-    let image = c .before .before .before .before .before .before .before .before .args .image .now in
-    rw (c .before .before .before .before .wide .ensures .0, c .before .before .wide2 .ensures .0)
-    (sym (shaped-long image (c .before .before .before .before .before .before .if1 .left)))
+    let image = c .before .before .before .before .before .before .before .before .before .args .image .now in
+    rw (c .closes .ensures, c .before .before .before .before .before .wide .ensures .0, c .before .before .before .wide2 .ensures .0)
+    (sym (shaped-long image (c .before .before .before .before .before .before .before .if1 .left)))
 
 pub shaped-spec : {M : Type 1} → statement M
 shaped-spec =
@@ -28,8 +28,7 @@ shaped-spec =
     (λ c. search needs)
     (λ c. search needs)
     (λ c. search needs)
-    (λ c. search needs)
-    (λ c. search needs)
+    (λ c κs. search needs)
     (λ c. search needs)
     (λ c. search needs)
     (λ c. search needs)

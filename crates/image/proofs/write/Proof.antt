@@ -38,7 +38,7 @@ next c lt =
 fits : (c : tie.At-loop Inv-loop μ-loop) → c .loop .at + 6 ≤ length (c .before .before .args .out .now)
 fits c =
     let start = c .before .before in
-    let room = start .pre .1 in
+    let room = start .pre .1 .0 in
     let at = c .loop .inv .1 .1 .1 .place in
     omega (arith, image-length (view (start .args .t1)), body-part (c .loop .i) (view (start .args .t1) .tasks))
 
@@ -66,7 +66,7 @@ write-trailer-requires : tie.Need-write-trailer-requires Inv-loop μ-loop
 write-trailer-requires c κs =
     let here = c .before .before in
     let k = kept here in
-    (omega arith, omega (arith, fits here))
+    (omega arith, (omega (arith, fits here), here .before .before .pre .1 .1))
 
 same-length : tie.Need-same-length Inv-loop μ-loop
 same-length c = c .before .before .write-trailer .kept .0 ∙ kept (c .before .before .before .before .before)

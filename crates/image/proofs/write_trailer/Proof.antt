@@ -1,13 +1,26 @@
 -- `image::write_trailer` meets its contract: six stores one after the other are the bytes written.
+use Prim.Native.Nat.{_≤_}
 use mathlib.Core.Path.{refl}
 use native.Mathlib.Numerals.{towards-suc}
 use native.Mathlib.Omega.{arith}
 use lib.ListN.{length-set}
 use Rattle.model.specs.Image.{trailer}
+use Rattle.model.proofs.Sound.{edition-between}
 use Rattle.model.proofs.WrittenLaws.{written-sets}
 use borrow.Author.Needs.{needs}
+use Rattle.image.proofs.Closing.{pair-at}
 use Rattle.image.proofs.write_trailer.Statement.{statement}
 use Rattle.image.proofs.write_trailer.Tie as tie
+
+-- the edition, as it was read
+known : (c : tie.After-wide) → (6 ≤ c .wide .result) × (c .wide .result ≤ 8)
+known c =
+    let b = edition-between (c .before .before .args .edition) (c .before .before .pre .1 .1) in
+    let e = c .wide .ensures .0 in
+    (omega arith, omega arith)
+
+sub-place : tie.Need-sub-place
+sub-place c = known c .0
 
 slice-write-out-2 : tie.Need-slice-write-out-2
 slice-write-out-2 c = simp length-set (omega arith)
@@ -18,22 +31,36 @@ slice-write-out-3 c = simp length-set (omega arith)
 slice-write-out-4 : tie.Need-slice-write-out-4
 slice-write-out-4 c = simp length-set (omega arith)
 
+array-read-out : tie.Need-array-read-out
+array-read-out c = omega (arith, known c)
+
 slice-write-out-5 : tie.Need-slice-write-out-5
 slice-write-out-5 c = simp length-set (omega arith)
+
+array-read-out-2 : tie.Need-array-read-out-2
+array-read-out-2 c = omega (arith, known c)
 
 slice-write-out-6 : tie.Need-slice-write-out-6
 slice-write-out-6 c = simp length-set (omega arith)
 
+same-length : tie.Need-same-length
+same-length c = simp length-set
+
 returns : tie.Need-returns
 returns c =
-    let a = c .args in
-    let w = written-sets (a .out .now) (a .at) (trailer (a .at) (a .n) (a .main)) (omega arith) in
-    (refl, simp towards-suc w)
+    let start = c .before .before in
+    let a = start .args in
+    let p = pair-at (a .edition) (start .pre .1 .1) (c .wide .result) (c .wide .ensures .0) in
+    let w = written-sets (a .out .now) (a .at) (trailer (a .at) (a .n) (a .main) (a .edition)) (omega arith) in
+    (refl, rw (p .0, p .1) (simp towards-suc w))
 
 pub write-trailer-spec : {M : Type 1} → statement M
 write-trailer-spec =
     tie.close
     (tie.spec
+    (λ c κs. search needs)
+    sub-place
+    (λ c. search needs)
     (λ c. search needs)
     (λ c. search needs)
     (λ c. search needs)
@@ -43,12 +70,13 @@ write-trailer-spec =
     slice-write-out-3
     (λ c. search needs)
     slice-write-out-4
-    (λ c. search needs)
+    array-read-out
     (λ c. search needs)
     slice-write-out-5
     (λ c. search needs)
+    array-read-out-2
     (λ c. search needs)
     slice-write-out-6
     (λ c. search needs)
-    (λ c. search needs)
+    same-length
     returns)
