@@ -10,11 +10,11 @@ use model::Answer;
 use session::Session;
 use session::Task;
 
-// The answer of a call that closed so many screens, where n tasks stand after it, t is the front one, and the main place is so:
-// zeros where none stands.
-pub fn of_front(t: Task, n: u8, main: u8, closed: u8) -> Answer
+// The answer of a call that closed so many screens, where n tasks stand after it, t is the front one, and the main place and the
+// edition are so: zeros for the front task where none stands.
+pub fn of_front(t: Task, n: u8, main: u8, closed: u8, edition: u8) -> Answer
     requires { ⌜ (1 ≤ n → (1 ≤ t .height) × (t .height ≤ mostHeight)) ⌝ }
-    ensures { λ r. ⌜ r ≡ answerOf t n main closed ⌝ }
+    ensures { λ r. ⌜ r ≡ answerOf t n main closed edition ⌝ }
 {
     if n == 0 {
         return Answer {
@@ -25,6 +25,7 @@ pub fn of_front(t: Task, n: u8, main: u8, closed: u8) -> Answer
             tasks: 0,
             main: main,
             closed: closed,
+            edition: edition,
         };
     }
     Answer {
@@ -35,6 +36,7 @@ pub fn of_front(t: Task, n: u8, main: u8, closed: u8) -> Answer
         tasks: n,
         main: main,
         closed: closed,
+        edition: edition,
     }
 }
 
@@ -44,7 +46,7 @@ pub fn look_at(s: Session) -> Answer
     ensures { λ r. ⌜ r ≡ lookAt (view s) ⌝ }
 {
     let t = s.tasks[0];
-    of_front(t, s.n, s.main, 0)
+    of_front(t, s.n, s.main, 0, s.edition)
 }
 
 // The answer of a refused call: its number and zeros.
@@ -59,5 +61,6 @@ pub fn refused(number: u8) -> Answer
         tasks: 0,
         main: 0,
         closed: 0,
+        edition: 0,
     }
 }

@@ -11,7 +11,7 @@ use Rattle.model.specs.Refusals.{refusal}
 use Rattle.model.specs.Session.{mostTasks}
 use Rattle.model.specs.Flags.{flagsOf}
 use Rattle.model.specs.Answers.{refused}
-use Rattle.model.specs.Calls.{Call, chosen, launch, back, look, launched, started, finished, startChecks, roomChecks, ownChecks, closedOf, done}
+use Rattle.model.specs.Calls.{Call, chosen, launch, back, look, editionNamed, launched, started, finished, startChecks, roomChecks, ownChecks, closedOf, done}
 use Rattle.model.proofs.RefusalLaws.{refusal-append-refused, refusal-append-passed}
 use Rattle.session.specs.declared.Session.{Session}
 use Rattle.session.specs.Stored.{view, hold, holdTask, pad, blankTask, Ready, taskBehind}
@@ -118,57 +118,57 @@ module _ (tb : List ℕ) (c : Session) (z : Sized c) where
 -- ---- launch
 
 -- no task stands where the check passes
-launch-empty : (n : ℕ) → _≡_ {A = ℕ} (if not (eqb n 0) then 22 else 0) 0 → n ≡ 0
-launch-empty zero e = refl
-launch-empty (suc n) e = absurd (let f : 22 ≡ 0 = rw (ne-eqb (suc n) 0 (λ q. omega arith)) at e in omega arith)
+launch-empty : (n e : ℕ) → launchRefusal n e ≡ 0 → n ≡ 0
+launch-empty zero e r = refl
+launch-empty (suc n) e r = absurd (let f : 22 ≡ 0 = rw (ne-eqb (suc n) 0 (λ q. omega arith)) at r in omega arith)
 
-module _ (tb : List ℕ) (c : Session) (z : Sized c) where
-  launch-number : Ready tb c → launchRefusal c ≡ refusal (ownChecks tb (view c) launch)
+module _ (tb : List ℕ) (c : Session) (z : Sized c) (v : ℕ) where
+  pub launch-number : Ready tb c → launchRefusal (c .n) v ≡ refusal (ownChecks tb (view c) (launch v))
   launch-number h = go (c .n) refl
     where
-      go : (n : ℕ) → c .n ≡ n → (if not (eqb n 0) then 22 else 0) ≡ refusal (ownChecks tb (view c) launch)
-      go zero e = sym (launch-own tb c (empty-view tb c e))
-      go (suc n) e = rw (ne-eqb (suc n) 0 (λ q. omega arith)) (sym (launch-22 tb c (filled-view tb c z h (λ none. omega arith))))
+      go : (n : ℕ) → c .n ≡ n → launchRefusal n v ≡ refusal (ownChecks tb (view c) (launch v))
+      go zero e = sym (launch-own tb c v (empty-view tb c e))
+      go (suc n) e = rw (ne-eqb (suc n) 0 (λ q. omega arith)) (sym (launch-22 tb c v (filled-view tb c z h (λ none. omega arith))))
 
   -- the main task in front of none
-  launch-put : Ready tb c → c .n ≡ 0 → putOf c (keeps (mainTask tb) 0 1 1) ≡ hold (launched tb)
+  launch-put : Ready tb c → c .n ≡ 0 → putOf c (keeps (mainTask tb) 0 1 1 (editionNamed v)) ≡ hold (launched tb v)
   unfolding view hold holdTask pad launched
   launch-put h e =
       let none : c .tasks ≡ pad mostTasks blankTask [] = sym (ap (λ (d : Session). d .tasks) (held c z (sound-blank tb c (h .sound)))) ∙ rw e in
       rw none
 
-  pub launch-gives : (m : ℕ) → m ≡ sharedRefusal tb c → Gives c (launchPlan m tb c) (callStored tb c launch)
+  pub launch-gives : (m : ℕ) → m ≡ sharedRefusal tb c → Gives c (launchPlan m tb c v) (callStored tb c (launch v))
   unfolding closedOf done
   launch-gives m shared =
-      gives-plan tb c z launch m (launchRefusal c) shared launch-number (keeps (mainTask tb) 0 1 1) (λ h e.
+      gives-plan tb c z (launch v) m (launchRefusal (c .n) v) shared launch-number (keeps (mainTask tb) 0 1 1 (editionNamed v)) (λ h e.
       record {
         accepted = refl;
         puttable = record { few = omega arith; second = λ p. absurd (false≢true p) };
         uncovers = λ g. absurd (omega (arith, g));
-        makes = launch-put h (launch-empty (c .n) e);
+        makes = launch-put h (launch-empty (c .n) v e);
         closes = refl;
       })
 
 -- ---- Back
 
-back-uncovers : (c : Session) (one : Bool) → Uncovers (closes backMark one (leb 0 1) (taskBehind c 0) 0 (c .n) (c .main))
+back-uncovers : (c : Session) (one : Bool) → Uncovers (closes backMark one (leb 0 1) (taskBehind c 0) 0 (c .n) (c .main) (c .edition))
 back-uncovers c true e = (refl, refl)
 back-uncovers c false e = absurd (omega (arith, e))
 
-back-accepted : (c : Session) (one : Bool) → closes backMark one (leb 0 1) (taskBehind c 0) 0 (c .n) (c .main) .refusal ≡ 0
+back-accepted : (c : Session) (one : Bool) → closes backMark one (leb 0 1) (taskBehind c 0) 0 (c .n) (c .main) (c .edition) .refusal ≡ 0
 back-accepted c true = refl
 back-accepted c false = refl
 
 -- a task stands where the check passes
-pub back-some : (n : ℕ) → _≡_ {A = ℕ} (if eqb n 0 then 21 else 0) 0 → 1 ≤ n
+pub back-some : (n : ℕ) → backRefusal n ≡ 0 → 1 ≤ n
 back-some zero e = absurd (omega arith)
 back-some (suc n) e = omega arith
 
 module _ (tb : List ℕ) (c : Session) (z : Sized c) where
-  back-number : Ready tb c → backRefusal c ≡ refusal (ownChecks tb (view c) back)
+  back-number : Ready tb c → backRefusal (c .n) ≡ refusal (ownChecks tb (view c) back)
   back-number h = go (c .n) refl
     where
-      go : (n : ℕ) → c .n ≡ n → (if eqb n 0 then 21 else 0) ≡ refusal (ownChecks tb (view c) back)
+      go : (n : ℕ) → c .n ≡ n → backRefusal n ≡ refusal (ownChecks tb (view c) back)
       go zero e = sym (back-21 tb c (empty-view tb c e))
       go (suc n) e = rw (ne-eqb (suc n) 0 (λ q. omega arith)) (sym (back-own tb c (filled-view tb c z h (λ none. omega arith))))
 

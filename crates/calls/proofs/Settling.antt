@@ -1,18 +1,18 @@
 -- A call on a stored session, by its refusal and by what its first checks said; and that what it leaves is sound.
 use Prim.Native.Nat.{ℕ, zero, suc, _≤_}
 use mathlib.Core.Path.{_≡_, refl, sym, _∙_, ap}
-use mathlib.Core.Bool.{true, false, not}
+use mathlib.Core.Bool.{Bool, true, false, not}
 use mathlib.Core.List.{List, [], _∷_}
 use native.Mathlib.Nat.{not-suc-le-zero}
 use native.Mathlib.Omega.{arith}
 use lib.ListN.{length}
 use borrow.Author.Tests.{not-false}
-use Rattle.model.specs.Lists.{isEmpty}
-use Rattle.model.specs.Refusals.{Check, refusal}
+use Rattle.model.specs.Lists.{if_then_else_, isEmpty}
+use Rattle.model.specs.Refusals.{Check, check, accepted, refusal}
 use Rattle.model.specs.Table.{tableRefusal, tableShaped, tableFilled}
-use Rattle.model.specs.Session.{Stack, State}
+use Rattle.model.specs.Session.{Stack, State, isEdition}
 use Rattle.model.specs.Answers.{lookAt, withClosed, refused, answerBy}
-use Rattle.model.specs.Calls.{Call, launch, back, look, checksIn, ownChecks, closedOf, done}
+use Rattle.model.specs.Calls.{Call, launch, back, look, editionNamed, checksIn, ownChecks, closedOf, done}
 use Rattle.model.proofs.RefusalLaws.{refusal-skip, refusal-passes, refusal-append-refused, checks-bad-table, checks-unsound, checks-own}
 use Rattle.model.proofs.Keeps.{done-sound}
 use Rattle.session.specs.declared.Session.{Session}
@@ -164,13 +164,18 @@ module _ (tb : List ℕ) (c : Session) where
       filled [] l = absurd (not-suc-le-zero l)
       filled (t ∷ ts) l = refl
 
-  pub launch-own : isEmpty (view c .tasks) ≡ true → refusal (ownChecks tb (view c) launch) ≡ 0
+  pub launch-own : (e : ℕ) → isEmpty (view c .tasks) ≡ true
+      → refusal (ownChecks tb (view c) (launch e)) ≡ (if isEdition (editionNamed e) then 0 else 30)
   unfolding ownChecks refusal
-  launch-own e = rw e
+  launch-own e none = rw none (go (isEdition (editionNamed e)))
+    where
+      go : (b : Bool) → (if not b then check 30 (not b) else accepted) .number ≡ (if b then 0 else 30)
+      go true = refl
+      go false = refl
 
-  pub launch-22 : isEmpty (view c .tasks) ≡ false → refusal (ownChecks tb (view c) launch) ≡ 22
+  pub launch-22 : (e : ℕ) → isEmpty (view c .tasks) ≡ false → refusal (ownChecks tb (view c) (launch e)) ≡ 22
   unfolding ownChecks refusal
-  launch-22 e = rw e
+  launch-22 e some = rw some
 
   pub back-own : isEmpty (view c .tasks) ≡ false → refusal (ownChecks tb (view c) back) ≡ 0
   unfolding ownChecks refusal

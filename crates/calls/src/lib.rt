@@ -4,15 +4,14 @@
 
 ghost use Prim.Native.Nat.{_≤_};
 ghost use mathlib.Core.Path.{_≡_};
-ghost use Rattle.model.specs.Lists.{if_then_else_};
 ghost use Rattle.model.specs.Answers.{refused as refusedAnswer};
-ghost use Rattle.model.specs.Calls.{Call};
+ghost use Rattle.model.specs.Calls.{Call, editionNamed};
 ghost use Rattle.model.specs.Table.{tableRefusal};
 ghost use Rattle.session.specs.Stored.{taskBehind};
 ghost use Rattle.plans.specs.Plans.{Opens};
 ghost use Rattle.starts.specs.Steps.{orElse};
 ghost use Rattle.calls.specs.StoredCalls.{reply, sharedRefusal, callStored};
-ghost use Rattle.calls.specs.CallPlans.{launchPlan, backMark, backPlan};
+ghost use Rattle.calls.specs.CallPlans.{launchRefusal, launchPlan, backRefusal, backMark, backPlan};
 use model::Answer;
 use model::Effect;
 use model::Mark;
@@ -52,32 +51,62 @@ pub fn look(table: &[u8], s: Session, shared: u8) -> Reply
 
 // ---- launch and Back
 
-// The first of the shared refusal and the call's own, which may apply.
-fn first_refusal(shared: u8, applies: bool, own: u8) -> u8
-    ensures { λ r. ⌜ r ≡ orElse shared (if applies then own else 0) ⌝ }
+// The first of the shared refusal and the call's own.
+fn first_refusal(shared: u8, own: u8) -> u8
+    ensures { λ r. ⌜ r ≡ orElse shared own ⌝ }
 {
     if shared != 0 {
         return shared;
     }
-    if applies {
-        return own;
+    own
+}
+
+// The edition that a launch names: 0 stands for 8.
+fn edition_named(edition: u8) -> u8
+    ensures { λ r. ⌜ r ≡ editionNamed edition ⌝ }
+{
+    if edition == 0 {
+        return 8;
+    }
+    edition
+}
+
+// A launch's own refusal: 22 where a task stands, 30 for another edition, or 0.
+pub fn launch_refusal(n: u8, edition: u8) -> u8
+    ensures { λ r. ⌜ r ≡ launchRefusal n edition ⌝ }
+{
+    if n != 0 {
+        return 22;
+    }
+    if Session::is_edition(edition_named(edition)) {
+        return 0;
+    }
+    30
+}
+
+// A Back's own refusal: 21 where no task stands, or 0.
+fn back_refusal(n: u8) -> u8
+    ensures { λ r. ⌜ r ≡ backRefusal n ⌝ }
+{
+    if n == 0 {
+        return 21;
     }
     0
 }
 
-// The plan of a launch: on an empty session, a new task of the main screen.
-pub fn launch_plan(table: &[u8], s: Session, shared: u8) -> Plan
+// The plan of a launch: on an empty session, a new task of the main screen, in the edition that is named.
+pub fn launch_plan(table: &[u8], s: Session, edition: u8, shared: u8) -> Plan
     requires { ⌜ (shared ≡ 0 → tableRefusal (now table) ≡ 0) ⌝ }
-    ensures { λ r. ⌜ r ≡ launchPlan shared (now (table .entry)) s ⌝ }
+    ensures { λ r. ⌜ r ≡ launchPlan shared (now (table .entry)) s edition ⌝ }
 {
-    let number = first_refusal(shared, s.n != 0, 22);
+    let number = first_refusal(shared, launch_refusal(s.n, edition));
     if number != 0 {
         return plans::still(s, number);
     }
     let b = table::main_screen(table);
     let blank = s.tasks[0];
     let front = effects::front_after(blank, b, Effect::New, 0);
-    plans::closing_plan(Mark::Gone, front, 0, 0, 1, 1, 0)
+    plans::closing_plan(Mark::Gone, front, 0, 0, 1, 1, edition_named(edition), 0)
 }
 
 // The plan of a Back: the top screen of the front task closes, as a marked one does.
@@ -85,25 +114,26 @@ pub fn back_plan(s: Session, shared: u8) -> Plan
     requires { ⌜ (shared ≡ 0 → 1 ≤ s .n → Opens backMark (taskBehind s 0)) ⌝ }
     ensures { λ r. ⌜ r ≡ backPlan shared s ⌝ }
 {
-    let number = first_refusal(shared, s.n == 0, 21);
+    let number = first_refusal(shared, back_refusal(s.n));
     if number != 0 {
         return plans::still(s, number);
     }
     let front = s.tasks[0];
-    plans::closing_plan(Mark::Stands(0, 0), front, 0, 0, s.n, s.main, 0)
+    plans::closing_plan(Mark::Stands(0, 0), front, 0, 0, s.n, s.main, s.edition, 0)
 }
 
-// Launch, on an empty session.
-pub fn launch(table: &[u8], s: Session, shared: u8) -> Reply
+// Launch, on an empty session, in an edition.
+pub fn launch(table: &[u8], s: Session, edition: u8, shared: u8) -> Reply
     requires { ⌜ shared ≡ sharedRefusal (now table) s ⌝ }
-    ensures { λ r. ⌜ r ≡ callStored (now (table .entry)) s Call.launch ⌝ }
+    ensures { λ r. ⌜ r ≡ callStored (now (table .entry)) s (Call.launch edition) ⌝ }
 {
     let mut out = s;
-    let plan = launch_plan(table, s, shared);
+    let plan = launch_plan(table, s, edition, shared);
     let second = out.tasks[1];
     let answer = plans::answer_of(plan, second);
     out.n = plan.n;
     out.main = plan.main;
+    out.edition = plan.edition;
     Reply {
         session: plans::put(out, plan),
         answer: answer,
@@ -121,6 +151,7 @@ pub fn back(table: &[u8], s: Session, shared: u8) -> Reply
     let answer = plans::answer_of(plan, second);
     out.n = plan.n;
     out.main = plan.main;
+    out.edition = plan.edition;
     Reply {
         session: plans::put(out, plan),
         answer: answer,
@@ -143,6 +174,7 @@ pub fn start(table: &[u8], s: Session, b: u8, word: u32, shared: u8) -> Reply
     let answer = plans::answer_of(plan, second);
     out.n = plan.n;
     out.main = plan.main;
+    out.edition = plan.edition;
     Reply {
         session: plans::put(out, plan),
         answer: answer,
@@ -163,6 +195,7 @@ pub fn finish_start(table: &[u8], s: Session, b: u8, word: u32, shared: u8) -> R
     let answer = plans::answer_of(plan, second);
     out.n = plan.n;
     out.main = plan.main;
+    out.edition = plan.edition;
     Reply {
         session: plans::put(out, plan),
         answer: answer,

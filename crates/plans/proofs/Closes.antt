@@ -13,7 +13,7 @@ use Rattle.model.specs.Calls.{backed}
 use Rattle.model.specs.Marks.{closeAt, Stands}
 use Rattle.session.specs.declared.Session.{Session}
 use Rattle.session.specs.declared.Task.{Task}
-use Rattle.session.specs.Stored.{view, hold, noTask, withTasks, withCount, withMain, storageBlank, Ready, taskBehind}
+use Rattle.session.specs.Stored.{view, hold, noTask, withTasks, withCount, withMain, withEdition, storageBlank, Ready, taskBehind}
 use Rattle.session.proofs.Known.{Sized}
 use Rattle.session.proofs.StoredLaws.{held, stored-height}
 use Rattle.effects.specs.Rows.{shifted}
@@ -27,16 +27,16 @@ use Rattle.plans.proofs.Gone.{task-goes}
 
 -- ---- a marked screen
 
-module _ (c : Session) (t : Task) (k n m : ℕ) where
+module _ (c : Session) (t : Task) (k n m v : ℕ) where
   -- the session before it closes
   abbrev pub putIn : Session
-  putIn = withMain (withCount (withTasks c (shifted t k (c .tasks))) n) m
+  putIn = withEdition (withMain (withCount (withTasks c (shifted t k (c .tasks))) n) m) v
 
   module _ (z : Sized putIn) (blank : storageBlank putIn ≡ true) where
     pub plan-closes : (mark : Mark) → NearFront mark → Stands mark (view putIn)
         → (one one′ : Bool) → leb (t .height) 1 ≡ one
         → ((j i : ℕ) → mark ≡ Mark.Stands (suc j) i → leb (taskBehind putIn 1 .height) 1 ≡ one′)
-        → putOf c (closes mark one one′ t k n m) ≡ hold (closeAt mark (view putIn))
+        → putOf c (closes mark one one′ t k n m v) ≡ hold (closeAt mark (view putIn))
     plan-closes Mark.Gone near there one one′ e f = sym (held putIn z blank)
     plan-closes (Mark.Stands zero i) near there true one′ e f =
         task-goes putIn z 0 i (record { blank = blank; there = there }) (leb-true _ _ e)
@@ -52,7 +52,7 @@ module _ (c : Session) (t : Task) (k n m : ℕ) where
 
     -- and it can be put
     pub plan-puttable : k < mostTasks → (mark : Mark) → NearFront mark → Stands mark (view putIn) → (one one′ : Bool)
-        → ((j i : ℕ) → mark ≡ Mark.Stands (suc j) i → leb (taskBehind putIn 1 .height) 1 ≡ one′) → Puttable c (closes mark one one′ t k n m)
+        → ((j i : ℕ) → mark ≡ Mark.Stands (suc j) i → leb (taskBehind putIn 1 .height) 1 ≡ one′) → Puttable c (closes mark one one′ t k n m v)
     plan-puttable l Mark.Gone near there one one′ f = record { few = l; second = λ e. absurd (false≢true e) }
     plan-puttable l (Mark.Stands zero i) near there true one′ f = record { few = l; second = λ e. absurd (false≢true e) }
     plan-puttable l (Mark.Stands zero i) near there false one′ f = record { few = l; second = λ e. absurd (false≢true e) }
@@ -77,7 +77,7 @@ module _ (s : Session) (z : Sized s) where
   filled = let l = z .tasks in omega arith
 
   -- the front task is put where it stood
-  pub put-same : putIn s (taskBehind s 0) 0 (s .n) (s .main) ≡ s
+  pub put-same : putIn s (taskBehind s 0) 0 (s .n) (s .main) (s .edition) ≡ s
   put-same = ap (withTasks s) (same-row (s .tasks) filled)
 
   pub still-put : (k : ℕ) → putOf s (stillOf s k) ≡ s
@@ -96,7 +96,7 @@ module _ (tb : List ℕ) (s : Session) (z : Sized s) (h : Ready tb s) (some : 1 
   front = taskBehind s 0
 
   abbrev pub backPlan : Plan
-  backPlan = closes backMark (leb (front .height) 1) one′ front 0 (s .n) (s .main)
+  backPlan = closes backMark (leb (front .height) 1) one′ front 0 (s .n) (s .main) (s .edition)
 
   there : Closable s 0 0
   there = back-closable tb s z h some
@@ -104,19 +104,19 @@ module _ (tb : List ℕ) (s : Session) (z : Sized s) (h : Ready tb s) (some : 1 
   not-behind : (j i : ℕ) → backMark ≡ Mark.Stands (suc j) i → ⊥
   not-behind j i e = let q : 0 ≡ suc j = cc in omega arith
 
-  same : putIn s front 0 (s .n) (s .main) ≡ s
+  same : putIn s front 0 (s .n) (s .main) (s .edition) ≡ s
   same = put-same s z
 
   pub back-put : putOf s backPlan ≡ hold (backed (view s))
   unfolding backed
   back-put =
-      plan-closes s front 0 (s .n) (s .main) (rw same z) (rw same (there .blank)) backMark tt (rw same (there .there))
+      plan-closes s front 0 (s .n) (s .main) (s .edition) (rw same z) (rw same (there .blank)) backMark tt (rw same (there .there))
       (leb (front .height) 1) one′ refl (λ j i e. absurd (not-behind j i e))
       ∙ ap (λ (c : Session). hold (closeAt backMark (view c))) same
 
   pub back-puttable : Puttable s backPlan
   back-puttable =
-      plan-puttable s front 0 (s .n) (s .main) (rw same z) (rw same (there .blank)) (omega arith) backMark tt (rw same (there .there))
+      plan-puttable s front 0 (s .n) (s .main) (s .edition) (rw same z) (rw same (there .blank)) (omega arith) backMark tt (rw same (there .there))
       (leb (front .height) 1) one′ (λ j i e. absurd (not-behind j i e))
 
   pub back-opens : Opens backMark front

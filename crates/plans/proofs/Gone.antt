@@ -6,11 +6,11 @@ use mathlib.Core.List.{List, [], _∷_, _++_, map, append-assoc}
 use native.Mathlib.Omega.{arith}
 use lib.ListN.{length, getD, replicate, length-map, replicate-append-replicate}
 use Rattle.model.specs.Lists.{omit}
-use Rattle.model.specs.Session.{State, onTasks, onMain, count, mostTasks}
+use Rattle.model.specs.Session.{State, onTasks, onMain, count, mostTasks, editionKept}
 use Rattle.model.specs.Effects.{mainWithout, withoutTask, close}
 use Rattle.model.proofs.ListLaws.{omit-length, map-omit}
 use Rattle.session.specs.declared.Session.{Session}
-use Rattle.session.specs.Stored.{view, hold, holdTask, pad, noTask, blankTask, withTasks, withCount, withMain, storageBlank}
+use Rattle.session.specs.Stored.{view, hold, holdTask, pad, noTask, blankTask, withTasks, withCount, withMain, withEdition, storageBlank}
 use Rattle.session.proofs.Known.{Sized}
 use Rattle.session.proofs.StoredLaws.{held, blank-few}
 use Rattle.session.proofs.SessionLaws.{hold-row}
@@ -44,20 +44,28 @@ hold-omit v k h l =
     (ap (pad mostTasks blankTask) (map-omit holdTask k (v .tasks))
     ∙ pad-omit mostTasks blankTask k (map holdTask (v .tasks)) (omega arith) (omega arith))
 
-gone-held : (q : Session) → Sized q → storageBlank q ≡ true → (k : ℕ) → k < q .n
-    → hold (withoutTask (suc k) (view q))
-    ≡ withMain (withCount (withTasks q (omit k (q .tasks) ++ blankTask ∷ [])) (q .n - 1)) (mainWithout (suc k) (q .main))
+-- the session without the task behind k others
+abbrev pub goneFrom : Session → ℕ → Session
+goneFrom q k =
+    withEdition
+    (withMain (withCount (withTasks q (omit k (q .tasks) ++ blankTask ∷ [])) (q .n - 1)) (mainWithout (suc k) (q .main)))
+    (editionKept (q .n - 1) (q .edition))
+
+gone-held : (q : Session) → Sized q → storageBlank q ≡ true → (k : ℕ) → k < q .n → hold (withoutTask (suc k) (view q)) ≡ goneFrom q k
 unfolding view hold
 gone-held q z e k h =
     let c = counted q z e in
     let few = blank-few q e in
     let m = mainWithout (suc k) in
-    hold-omit (onMain m (view q)) k (omega arith) (omega arith)
-    ∙ ap₂ (λ (o : Session) (j : ℕ). withMain (withCount (withTasks o (omit k (o .tasks) ++ blankTask ∷ [])) (j - 1)) (m (q .main))) (held q z e) c
+    let n : length (omit k (view q .tasks)) ≡ q .n - 1 = omega (arith, omit-length k (view q .tasks) (omega arith)) in
+    ap₂ (λ (o : Session) (j : ℕ). withEdition o (editionKept j (q .edition))) (hold-omit (onMain m (view q)) k (omega arith) (omega arith)) n
+    ∙ ap₂ (λ (o : Session) (j : ℕ).
+    withEdition (withMain (withCount (withTasks o (omit k (o .tasks) ++ blankTask ∷ [])) (j - 1)) (m (q .main))) (editionKept (q .n - 1) (q .edition)))
+    (held q z e) c
 
 -- closing the only screen of a task
 pub task-goes : (q : Session) → Sized q → (k i : ℕ) → Closable q k i → getD (q .tasks) k noTask .height ≤ 1
-    → withMain (withCount (withTasks q (omit k (q .tasks) ++ blankTask ∷ [])) (q .n - 1)) (mainWithout (suc k) (q .main)) ≡ hold (close (suc k) i (view q))
+    → goneFrom q k ≡ hold (close (suc k) i (view q))
 task-goes q z k i c low =
     let l = screen-there q z k i c .1 in
     task-closed q z k i c (omega arith) (sym (gone-held q z (c .blank) k (task-there q z k i c .1)))

@@ -5,7 +5,7 @@ use mathlib.Core.Bool.{Bool, true, false, not, _&&_}
 use lib.Dec.{eqb, ltb}
 use Rattle.model.specs.declared.Mark.{Mark}
 use Rattle.model.specs.Lists.{if_then_else_, omit}
-use Rattle.model.specs.Session.{stack, mostTasks}
+use Rattle.model.specs.Session.{stack, mostTasks, editionKept}
 use Rattle.model.specs.Effects.{mainWithout}
 use Rattle.model.specs.Marks.{closedAt}
 use Rattle.session.specs.declared.Task.{Task}
@@ -17,18 +17,39 @@ use Rattle.plans.specs.declared.Plan.{Plan}
 
 abbrev pub stillOf : Session → ℕ → Plan
 stillOf s k =
-    record { front = taskBehind s 0; main = s .main; shift = 0; n = s .n; gone = mostTasks; pops = false; refusal = k; closed = 0 }
+    record {
+      front = taskBehind s 0;
+      main = s .main;
+      shift = 0;
+      n = s .n;
+      gone = mostTasks;
+      pops = false;
+      refusal = k;
+      closed = 0;
+      edition = s .edition;
+    }
 
 -- ---- the three plans, but for the screens that close: no task goes, the second one pops, the task behind g others goes
 
-abbrev pub keeps : Task → ℕ → ℕ → ℕ → Plan
-keeps t k n m = record { front = t; main = m; shift = k; n = n; gone = mostTasks; pops = false; refusal = 0; closed = 0 }
+abbrev pub keeps : Task → ℕ → ℕ → ℕ → ℕ → Plan
+keeps t k n m e = record { front = t; main = m; shift = k; n = n; gone = mostTasks; pops = false; refusal = 0; closed = 0; edition = e }
 
-abbrev pub pops : Task → ℕ → ℕ → ℕ → Plan
-pops t k n m = record { front = t; main = m; shift = k; n = n; gone = mostTasks; pops = true; refusal = 0; closed = 0 }
+abbrev pub pops : Task → ℕ → ℕ → ℕ → ℕ → Plan
+pops t k n m e = record { front = t; main = m; shift = k; n = n; gone = mostTasks; pops = true; refusal = 0; closed = 0; edition = e }
 
-abbrev pub loses : ℕ → Task → ℕ → ℕ → ℕ → Plan
-loses g t k n m = record { front = t; main = mainWithout (suc g) m; shift = k; n = n - 1; gone = g; pops = false; refusal = 0; closed = 0 }
+abbrev pub loses : ℕ → Task → ℕ → ℕ → ℕ → ℕ → Plan
+loses g t k n m e =
+    record {
+      front = t;
+      main = mainWithout (suc g) m;
+      shift = k;
+      n = n - 1;
+      gone = g;
+      pops = false;
+      refusal = 0;
+      closed = 0;
+      edition = editionKept (n - 1) e;
+    }
 
 -- ---- closing the marked screen
 
@@ -36,14 +57,14 @@ loses g t k n m = record { front = t; main = mainWithout (suc g) m; shift = k; n
 abbrev pub without : ℕ → Task → Task
 without i t = holdTask (stack (t .root) (omit i (viewTask t .screens)))
 
--- t comes in front and k tasks go back, n and m are so, and the marked screen closes. The tests tell whether t, and the task
--- behind it, has one screen only
-abbrev pub closes : Mark → Bool → Bool → Task → ℕ → ℕ → ℕ → Plan
-closes Mark.Gone one one′ t k n m = keeps t k n m
-closes (Mark.Stands zero i) true one′ t k n m = loses 0 t k n m
-closes (Mark.Stands zero i) false one′ t k n m = keeps (without i t) k n m
-closes (Mark.Stands (suc j) i) one true t k n m = loses 1 t k n m
-closes (Mark.Stands (suc j) i) one false t k n m = pops t k n m
+-- t comes in front and k tasks go back, n, m and the edition e are so, and the marked screen closes. The tests tell whether t, and
+-- the task behind it, has one screen only
+abbrev pub closes : Mark → Bool → Bool → Task → ℕ → ℕ → ℕ → ℕ → Plan
+closes Mark.Gone one one′ t k n m e = keeps t k n m e
+closes (Mark.Stands zero i) true one′ t k n m e = loses 0 t k n m e
+closes (Mark.Stands zero i) false one′ t k n m e = keeps (without i t) k n m e
+closes (Mark.Stands (suc j) i) one true t k n m e = loses 1 t k n m e
+closes (Mark.Stands (suc j) i) one false t k n m e = pops t k n m e
 
 -- a plan by which so many screens close
 abbrev pub planWithClosed : ℕ → Plan → Plan
@@ -57,11 +78,12 @@ planWithClosed x p =
       pops = p .pops;
       refusal = p .refusal;
       closed = x;
+      edition = p .edition;
     }
 
 -- the same, where x screens closed before the marked one does
-abbrev pub closesWith : Mark → Bool → Bool → Task → ℕ → ℕ → ℕ → ℕ → Plan
-closesWith mark one one′ t k n m x = planWithClosed (x + closedAt mark) (closes mark one one′ t k n m)
+abbrev pub closesWith : Mark → Bool → Bool → Task → ℕ → ℕ → ℕ → ℕ → ℕ → Plan
+closesWith mark one one′ t k n m e x = planWithClosed (x + closedAt mark) (closes mark one one′ t k n m e)
 
 -- a plan field by field as code makes it; g is the field gone
 abbrev pub goneBy : Mark → Bool → Bool → ℕ

@@ -3,7 +3,7 @@
 ghost use Prim.Native.Nat.{_+_, _≤_};
 ghost use mathlib.Core.Path.{_≡_};
 ghost use lib.Dec.{leb};
-ghost use Rattle.model.specs.Session.{mostHeight};
+ghost use Rattle.model.specs.Session.{mostHeight, editionKept};
 ghost use Rattle.model.specs.Marks.{closedAt};
 ghost use Rattle.session.specs.Stored.{withTasks};
 ghost use Rattle.plans.specs.Puts.{Puttable, rowOf, frontAlone};
@@ -15,7 +15,8 @@ use session::Session;
 use session::Task;
 
 // The front task after the call, how many tasks go one place back, which task goes then, if one does, whether the
-// task behind the front one loses its top screen, the numbers, and how many screens close. A refused call changes nothing.
+// task behind the front one loses its top screen, the numbers, how many screens close, and the edition. A refused call changes
+// nothing.
 pub struct Plan {
     pub front: Task,
     pub main: u8,
@@ -25,6 +26,7 @@ pub struct Plan {
     pub pops: bool,
     pub refusal: u8,
     pub closed: u8,
+    pub edition: u8,
 }
 
 // What stands for no task among the indices of tasks, and the last of these.
@@ -87,10 +89,10 @@ pub fn answer_of(plan: Plan, second: Task) -> Answer
         return answer::refused(plan.refusal);
     }
     if plan.gone == 0 {
-        return answer::of_front(second, plan.n, plan.main, plan.closed);
+        return answer::of_front(second, plan.n, plan.main, plan.closed, plan.edition);
     }
     let front = plan.front;
-    answer::of_front(front, plan.n, plan.main, plan.closed)
+    answer::of_front(front, plan.n, plan.main, plan.closed, plan.edition)
 }
 
 // ---- plans
@@ -109,6 +111,7 @@ pub fn still(s: Session, number: u8) -> Plan
         pops: false,
         refusal: number,
         closed: 0,
+        edition: s.edition,
     }
 }
 
@@ -189,21 +192,42 @@ fn closed_with(mark: Mark, closed: u8) -> u8
     }
 }
 
+// The edition where n tasks stand: 8 where none does.
+fn edition_by(n: u8, edition: u8) -> u8
+    ensures { λ r. ⌜ r ≡ editionKept n edition ⌝ }
+{
+    if n == 0 {
+        return 8;
+    }
+    edition
+}
+
 // t comes in front and so many tasks go back, by which so many screens closed, and then the marked screen closes; second is the
 // height of the task behind t.
-pub fn closing_plan(mark: Mark, t: Task, second: u8, shift: u8, n: u8, main: u8, closed: u8) -> Plan
+pub fn closing_plan(
+    mark: Mark,
+    t: Task,
+    second: u8,
+    shift: u8,
+    n: u8,
+    main: u8,
+    edition: u8,
+    closed: u8,
+) -> Plan
     requires { ⌜ Opens mark t × (1 ≤ n) × (closed ≤ mostHeight) ⌝ }
-    ensures { λ r. ⌜ r ≡ closesWith mark (leb (t .height) 1) (leb second 1) t shift n main closed ⌝ }
+    ensures { λ r. ⌜ r ≡ closesWith mark (leb (t .height) 1) (leb second 1) t shift n main edition closed ⌝ }
 {
     let gone = gone_by(mark, t.height, second);
+    let left = count_by(gone, n);
     Plan {
         front: front_by(mark, gone, t),
         main: main_by(gone, main),
         shift: shift,
-        n: count_by(gone, n),
+        n: left,
         gone: gone,
         pops: pops_by(mark, gone),
         refusal: 0,
         closed: closed_with(mark, closed),
+        edition: edition_by(left, edition),
     }
 }

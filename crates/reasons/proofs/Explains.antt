@@ -8,7 +8,9 @@ use Rattle.model.specs.Answers.{lookAt}
 use Rattle.model.specs.Calls.{start, chosen, done}
 use Rattle.model.specs.Reasons.{noReason, reasonBy, FitsFirst, IsFoundAt}
 use Rattle.model.specs.Affinity.{AffinityZero}
+use Rattle.model.specs.Editions.{EditionSeeks}
 use Rattle.model.proofs.AffinityLaws.{affinity-zero}
+use Rattle.model.proofs.EditionLaws.{edition-seeks}
 use Rattle.model.proofs.ReasonLaws.{fits-first, found-at, carried-started}
 use Rattle.session.specs.declared.Session.{Session}
 use Rattle.session.specs.Stored.{view, hold}
@@ -24,7 +26,8 @@ Explains tb c b w r =
     × ((r .refusal ≡ 0 → FitsFirst tb (view c) b w (r .rule))
     × ((r .refusal ≡ 0 → IsFoundAt tb (view c) b w (r .place) (r .found))
     × ((r .refusal ≡ 0 → CarriesOut tb c b w r)
-    × (r .refusal ≡ 0 → AffinityZero tb (view c) b r))))))
+    × ((r .refusal ≡ 0 → AffinityZero tb (view c) b r)
+    × (r .refusal ≡ 0 → EditionSeeks tb (view c) b r)))))))
 
 module _ (tb : List ℕ) (c : Session) (b w : ℕ) where
   -- by the number of the start
@@ -48,7 +51,7 @@ module _ (tb : List ℕ) (c : Session) (b w : ℕ) where
           number-answered 0 ∙ ap (λ (k : ℕ). givenBy tb c (start b w) k .answer .refusal) (sym q),
           (
             λ some. absurd (some refl),
-            (λ _. fits-first tb (view c) b w refl, (λ _. found-at tb (view c) b w refl refl, (λ _. carries q, λ _. affinity-zero tb (view c) b w))),
+            (λ _. fits-first tb (view c) b w refl, (λ _. found-at tb (view c) b w refl refl, (λ _. carries q, (λ _. affinity-zero tb (view c) b w, λ _. edition-seeks tb (view c) b w)))),
           ),
         ),
       )
@@ -58,7 +61,7 @@ module _ (tb : List ℕ) (c : Session) (b w : ℕ) where
           number-answered (suc n) ∙ ap (λ (k : ℕ). givenBy tb c (start b w) k .answer .refusal) (sym q),
           (
             λ some. refl,
-            (λ z. absurd (omega arith), (λ z. absurd (omega arith), (λ z. absurd (omega arith), λ z. absurd (omega arith)))),
+            (λ z. absurd (omega arith), (λ z. absurd (omega arith), (λ z. absurd (omega arith), (λ z. absurd (omega arith), λ z. absurd (omega arith))))),
           ),
         ),
       )

@@ -16,7 +16,7 @@ use Rattle.model.specs.Session.{State, count, mostTasks, mostHeight}
 use Rattle.model.specs.Search.{placeOf}
 use Rattle.model.specs.Rules.{rulesOf, groupOf, soughtBy, fits, chooseIn, choose}
 use Rattle.model.specs.Effects.{effectOf}
-use Rattle.model.specs.Calls.{isPush, makesTask, overfills, roomChecks}
+use Rattle.model.specs.Calls.{effectIn, isPush, makesTask, overfills, roomChecks}
 use Rattle.model.proofs.Logic.{if-elim}
 use Rattle.session.specs.declared.Task.{Task}
 use Rattle.session.proofs.TaskLaws.{view-height}
@@ -36,20 +36,20 @@ FrontUnsought t (Effect.InFront x) = t ≡ Found.Nowhere
 FrontUnsought t (Effect.MoveAnd x) = Unit {0}
 
 module _ (tb : List ℕ) (v : State ℕ) (b : ℕ) (f : Flags) where
-  unsought-each : (g : Group) → All (λ r. FrontUnsought (soughtBy tb v b f g) (effectOf r)) (rulesOf g)
+  unsought-each : (g : Group) → All (λ r. FrontUnsought (soughtBy tb v b f g) (effectOf (v .edition) (v .main) r)) (rulesOf g)
   unfolding rulesOf soughtBy effectOf
   unsought-each Group.Instance = (tt, (tt, tt))
   unsought-each Group.Task = (tt, (tt, (tt, (tt, tt))))
   unsought-each Group.NotApart = (refl, (refl, (refl, (refl, tt))))
   unsought-each Group.Apart = (tt, (tt, (tt, (tt, (tt, (tt, (tt, (tt, tt))))))))
 
-  unsought-in : (g : Group) → FrontUnsought (chooseIn tb v b f g .found) (effectOf (chooseIn tb v b f g .rule))
+  unsought-in : (g : Group) → FrontUnsought (chooseIn tb v b f g .found) (effectIn v (chooseIn tb v b f g))
   unfolding chooseIn effectOf
   unsought-in g =
       let t = soughtBy tb v b f g in
-      first-all (λ r. FrontUnsought t (effectOf r)) Rule.R18 (fits tb v b f t) (rulesOf g) tt (unsought-each g)
+      first-all (λ r. FrontUnsought t (effectOf (v .edition) (v .main) r)) Rule.R18 (fits tb v b f t) (rulesOf g) tt (unsought-each g)
 
-  pub unsought : FrontUnsought (choose tb v b f .found) (effectOf (choose tb v b f .rule))
+  pub unsought : FrontUnsought (choose tb v b f .found) (effectIn v (choose tb v b f))
   unfolding choose
   unsought = unsought-in (groupOf tb v b f)
 
@@ -75,5 +75,5 @@ module _ (v : State ℕ) (t : Task) (l : t .height ≤ length (t .screens)) wher
 
   -- the room of a start's choice, by what is read of the session
   pub room-read : (tb : List ℕ) (b : ℕ) (f : Flags) → Shows v (choose tb v b f .found) t → {n : ℕ} → count v ≡ n
-      → {d : Effect} → d ≡ effectOf (choose tb v b f .rule) → refusal (roomChecks (choose tb v b f) v) ≡ roomBy n (t .height) d
-  room-read tb b f h k e = room-by (choose tb v b f .found) (effectOf (choose tb v b f .rule)) (unsought tb v b f) h ∙ rw (k, e)
+      → {d : Effect} → d ≡ effectIn v (choose tb v b f) → refusal (roomChecks (choose tb v b f) v) ≡ roomBy n (t .height) d
+  room-read tb b f h k e = room-by (choose tb v b f .found) (effectIn v (choose tb v b f)) (unsought tb v b f) h ∙ rw (k, e)

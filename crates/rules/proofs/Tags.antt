@@ -36,15 +36,16 @@ rule-at-tag Rule.R16 = refl
 rule-at-tag Rule.R17 = refl
 rule-at-tag Rule.R18 = refl
 
-module _ (d : Effect) (r : Rule) where
+-- in an edition e with the main place m
+module _ (e m : ℕ) (d : Effect) (r : Rule) where
   abbrev HasEffect : ℕ → Type 0
-  HasEffect k = d ≡ effectOf (ruleAt k)
+  HasEffect k = d ≡ effectOf e m (ruleAt k)
 
-  at-tag : (k : ℕ) → HasEffect k → tagOf R.the-type r ≡ k → d ≡ effectOf r
-  at-tag k h e = h ∙ ap (λ (j : ℕ). effectOf (ruleAt j)) (sym e) ∙ ap effectOf (rule-at-tag r)
+  at-tag : (k : ℕ) → HasEffect k → tagOf R.the-type r ≡ k → d ≡ effectOf e m r
+  at-tag k h is = h ∙ ap (λ (j : ℕ). effectOf e m (ruleAt j)) (sym is) ∙ ap (effectOf e m) (rule-at-tag r)
 
-  pub same-effect : (ks : List ℕ) → All HasEffect ks → OneOf ks (tagOf R.the-type r) → d ≡ effectOf r
-  same-effect [] h e = absurd e
-  same-effect (k ∷ []) h e = at-tag k (h .0) e
-  same-effect (k ∷ j ∷ ks) h (inl e) = at-tag k (h .0) e
-  same-effect (k ∷ j ∷ ks) h (inr e) = same-effect (j ∷ ks) (h .1) e
+  pub same-effect : (ks : List ℕ) → All HasEffect ks → OneOf ks (tagOf R.the-type r) → d ≡ effectOf e m r
+  same-effect [] h is = absurd is
+  same-effect (k ∷ []) h is = at-tag k (h .0) is
+  same-effect (k ∷ j ∷ ks) h (inl is) = at-tag k (h .0) is
+  same-effect (k ∷ j ∷ ks) h (inr is) = same-effect (j ∷ ks) (h .1) is

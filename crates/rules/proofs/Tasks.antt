@@ -1,6 +1,6 @@
 -- The tasks of a stored session that is sound, as the rules read them: the front task, and the task found.
 use Prim.Native.Nat.{ℕ, zero, suc, pred, _+_, _*_, _≤_, _<_}
-use mathlib.Core.Path.{_≡_, ap}
+use mathlib.Core.Path.{_≡_, refl, ap}
 use mathlib.Core.List.{List}
 use native.Mathlib.Nat.{not-suc-le-zero}
 use native.Mathlib.Omega.{arith}
@@ -9,18 +9,18 @@ use Rattle.model.specs.declared.Flags.{Flags}
 use Rattle.model.specs.declared.Found.{Found}
 use Rattle.model.specs.declared.Group.{Group}
 use Rattle.model.specs.Table.{sizeOf}
-use Rattle.model.specs.Session.{noStack, frontScreen, count, top, mostTasks}
+use Rattle.model.specs.Session.{Stack, noStack, frontScreen, count, top, mostTasks}
 use Rattle.model.specs.Search.{seekRoot, seek}
 use Rattle.model.specs.Rules.{soughtBy}
 use Rattle.model.proofs.Logic.{All-at, if-elim}
 use Rattle.model.proofs.Sound.{TaskSound}
-use Rattle.model.proofs.Start.{Sought, seekRoot-sought, seek-sought}
+use Rattle.model.proofs.SearchLaws.{HasRoot, HasAffinity, FirstTask, FindsByRoot, Finds, seekRoot-exact, seek-exact}
 use Rattle.model.proofs.Tables.{good-shaped}
 use Rattle.session.specs.declared.Task.{Task}
 use Rattle.session.specs.declared.Session.{Session}
 use Rattle.session.specs.Stored.{view, viewTask, taskBehind}
 use Rattle.session.proofs.Known.{Sized}
-use Rattle.session.proofs.StoredLaws.{view-count, view-at, sized-at, stored-height, sound-view, sound-blank, blank-few}
+use Rattle.session.proofs.StoredLaws.{view-count, view-edition, view-at, sized-at, stored-height, sound-view, sound-blank, blank-few}
 use Rattle.session.proofs.TaskLaws.{view-height}
 use Rattle.rules.specs.Startable.{Startable}
 use Rattle.rules.specs.Shows.{indexOf, Shows, Filled}
@@ -79,20 +79,28 @@ module _ (tb : List ℕ) (c : Session) (b : ℕ) (z : Sized c) (h : Startable tb
 
   -- ---- the task found
 
-  sought-stands : (t : Found) → Sought tb (view c) b t → indexOf t < c .n
-  sought-stands Found.Nowhere s = h .some
-  sought-stands (Found.ByRoot p) s = place-stands p (c .n) (s .0 .0) (rw counted at (s .0 .1))
-  sought-stands (Found.ByAffinity p) s = place-stands p (c .n) (s .0 .0) (rw counted at (s .0 .1))
+  first-stands : (P : Stack ℕ → Type 0) (p : ℕ) → FirstTask P (view c .tasks) p → pred p < c .n
+  first-stands P p f = place-stands p (c .n) (f .least) (rw counted at (f .most))
 
-  seek-index : indexOf (seek tb b (view c .tasks)) < c .n
-  seek-index = sought-stands (seek tb b (view c .tasks)) (seek-sought tb (view c) b)
+  root-stands : (t : Found) → FindsByRoot b (view c .tasks) t → indexOf t < c .n
+  root-stands Found.Nowhere s = h .some
+  root-stands (Found.ByRoot p) s = first-stands (HasRoot b) p s
+  root-stands (Found.ByAffinity p) s = absurd s
+
+  finds-stands : (t : Found) → Finds tb (c .edition) b (view c .tasks) t → indexOf t < c .n
+  finds-stands Found.Nowhere s = h .some
+  finds-stands (Found.ByRoot p) s = first-stands (HasRoot b) p (s .1)
+  finds-stands (Found.ByAffinity p) s = first-stands (HasAffinity tb b) p (s .1)
+
+  seek-index : indexOf (seek tb (c .edition) b (view c .tasks)) < c .n
+  seek-index = let t = seek tb (c .edition) b (view c .tasks) in finds-stands t (seek-exact tb (c .edition) b (view c .tasks) t .0 refl)
 
   sought-index : (f : Flags) (g : Group) → indexOf (soughtBy tb (view c) b f g) < c .n
   unfolding soughtBy
-  sought-index f Group.Instance = sought-stands (seekRoot b (view c .tasks)) (seekRoot-sought tb (view c) b)
-  sought-index f Group.Task = seek-index
+  sought-index f Group.Instance = let t = seekRoot b (view c .tasks) in root-stands t (seekRoot-exact b (view c .tasks) t .0 refl)
+  sought-index f Group.Task = rw (view-edition c) seek-index
   sought-index f Group.NotApart = h .some
-  sought-index f Group.Apart = if-elim (λ t. indexOf t < c .n) (f .mtk) Found.Nowhere (seek tb b (view c .tasks)) (λ _. h .some) (λ _. seek-index)
+  sought-index f Group.Apart = if-elim (λ t. indexOf t < c .n) (f .mtk) Found.Nowhere (seek tb (view c .edition) b (view c .tasks)) (λ _. h .some) (λ _. rw (view-edition c) seek-index)
 
   -- a task stands at the index of the task that a group seeks
   pub index-stands : (f : Flags) (g : Group) {t : Found} → t ≡ soughtBy tb (view c) b f g → {i : ℕ} → i ≡ indexOf t → i < c .n

@@ -12,8 +12,8 @@ ghost use Rattle.model.specs.Table.{isSingleTop, isSingleInstance};
 ghost use Rattle.model.specs.Session.{State, frontScreen, count, mostHeight};
 ghost use Rattle.model.specs.Search.{placeOf, isFound, isFoundByRoot, holds};
 ghost use Rattle.model.specs.Rules.{groupOf, soughtBy, choose as chooseRule};
-ghost use Rattle.model.specs.Effects.{effectOf};
-ghost use Rattle.model.specs.Calls.{isPush, roomChecks};
+ghost use Rattle.model.specs.Effects.{reordered as reorderedBy, effectOf};
+ghost use Rattle.model.specs.Calls.{effectIn, isPush, roomChecks};
 ghost use Rattle.session.specs.Stored.{view, viewTask};
 ghost use Rattle.rules.specs.Startable.{Startable};
 ghost use Rattle.rules.specs.Shows.{indexOf, Shows, Filled};
@@ -71,15 +71,25 @@ fn is_by_root(found: Found) -> bool
     }
 }
 
-// What a rule does.
-pub fn effect_of(rule: Rule) -> Effect
-    ensures { λ r. ⌜ r ≡ effectOf rule ⌝ }
+// What R9 does with the front task: a lift; in edition 7 the main task is emptied and b pushed.
+fn reordered(edition: u8, main: u8) -> Change
+    ensures { λ r. ⌜ r ≡ reorderedBy edition main ⌝ }
+{
+    if (edition == 7) & (main == 1) {
+        return Change::Renew;
+    }
+    Change::Lift
+}
+
+// What a rule does in an edition, where the main place is so.
+pub fn effect_of(rule: Rule, edition: u8, main: u8) -> Effect
+    ensures { λ r. ⌜ r ≡ effectOf edition main rule ⌝ }
 {
     match rule {
         Rule::R2 | Rule::R6 | Rule::R11 | Rule::R18 => Effect::New,
         Rule::R7 => Effect::InFront(Change::Keep),
         Rule::R8 => Effect::InFront(Change::Clear),
-        Rule::R9 => Effect::InFront(Change::Lift),
+        Rule::R9 => Effect::InFront(reordered(edition, main)),
         Rule::R10 => Effect::InFront(Change::Push),
         Rule::R3 | Rule::R12 => Effect::MoveAnd(Change::Renew),
         Rule::R4 | Rule::R13 => Effect::MoveAnd(Change::Clear),
@@ -275,7 +285,7 @@ fn push_refusal(t: Task, change: Change) -> u8
 pub fn room_refusal(n: u8, t: Task, effect: Effect) -> u8
     requires { ⌜ Filled t ⌝ }
     ensures { λ r. ⌜ ((tb : List ℕ) (v : State ℕ) (b : ℕ) (f : Flags)
-        → Shows v (chooseRule tb v b f .found) t → count v ≡ n → effect ≡ effectOf (chooseRule tb v b f .rule)
+        → Shows v (chooseRule tb v b f .found) t → count v ≡ n → effect ≡ effectIn v (chooseRule tb v b f)
         → r ≡ refusal (roomChecks (chooseRule tb v b f) v)) ⌝ }
 {
     match effect {

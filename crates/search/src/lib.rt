@@ -1,12 +1,12 @@
 // The searches: for a task, from the front; for a screen in a task, from the top.
 
-ghost use Prim.Native.Nat.{_≤_};
+ghost use Prim.Native.Nat.{_+_, _*_, _<_, _≤_};
 ghost use mathlib.Core.Path.{_≡_};
 ghost use lib.Dec.{eqb};
-ghost use lib.ListN.{take};
+ghost use lib.ListN.{length, take};
 ghost use Rattle.model.specs.Session.{mostTasks, mostHeight};
-ghost use Rattle.model.specs.Lists.{find};
-ghost use Rattle.model.specs.Search.{akin, seekRoot, seek as seekTask};
+ghost use Rattle.model.specs.Lists.{if_then_else_, find};
+ghost use Rattle.model.specs.Search.{akin, seekRoot, seeksByRoot, seek as seekTask};
 ghost use Rattle.session.specs.Stored.{view, viewTask, rootsOf};
 ghost use Rattle.search.specs.Ready.{ReadyFor};
 ghost use Rattle.search.specs.Roots.{RootsFor};
@@ -81,13 +81,37 @@ pub fn seek_root(s: Session, b: u8) -> Found
     Found::ByRoot(place)
 }
 
-// The task sought by root, then by affinity.
+// Whether an edition seeks a task for b by root. Edition 6 seeks by affinity only, but for a single-instance screen and for a
+// single-task screen of affinity 0.
+fn seeks_by_root(table: &[u8], edition: u8, b: u8) -> bool
+    requires { ⌜ 3 + 2 * b < length (now table) ⌝ }
+    ensures { λ r. ⌜ r ≡ seeksByRoot (now (table .entry)) edition b ⌝ }
+{
+    if edition != 6 {
+        return true;
+    }
+    let mode = table::mode(table, b);
+    (mode == 3) | ((mode == 2) & (table::affinity(table, b) == 0))
+}
+
+// By root, where the edition seeks so: the place of the first of n roots that is b, or 0.
+fn by_root_in(table: &[u8], edition: u8, roots: [u8; Session::TASKS], n: u8, b: u8) -> u8
+    requires { ⌜ RootsFor (now table) roots n b ⌝ }
+    ensures { λ r. ⌜ r ≡ (if seeksByRoot (now (table .entry)) edition b then find (λ x. eqb x b) (take n roots) else 0) ⌝ }
+{
+    if seeks_by_root(table, edition, b) {
+        return by_root(roots, n, b);
+    }
+    0
+}
+
+// The task sought by root, where the edition seeks so, then by affinity.
 pub fn seek(table: &[u8], s: Session, b: u8) -> Found
     requires { ⌜ ReadyFor (now table) s b ⌝ }
-    ensures { λ r. ⌜ r ≡ seekTask (now (table .entry)) b (view s .tasks) ⌝ }
+    ensures { λ r. ⌜ r ≡ seekTask (now (table .entry)) (s .edition) b (view s .tasks) ⌝ }
 {
     let roots = roots_of(s);
-    let root = by_root(roots, s.n, b);
+    let root = by_root_in(table, s.edition, roots, s.n, b);
     if root != 0 {
         return Found::ByRoot(root);
     }

@@ -10,8 +10,7 @@ use Rattle.model.specs.declared.Found.{Found}
 use Rattle.model.specs.Session.{top, mostHeight}
 use Rattle.model.specs.Search.{placeOf}
 use Rattle.model.specs.Rules.{choose}
-use Rattle.model.specs.Effects.{effectOf}
-use Rattle.model.specs.Calls.{startedBy, finishedBy, closedByChoice, closedByFinish}
+use Rattle.model.specs.Calls.{effectIn, startedBy, finishedBy, closedByChoice, closedByFinish}
 use Rattle.model.specs.Marks.{markAfter, closeAt, closedAt}
 use Rattle.session.specs.declared.Session.{Session}
 use Rattle.session.specs.declared.Task.{Task}
@@ -59,7 +58,7 @@ module _ (c : Session) (t : Found) where
 -- the index of the task found, what is done and the place, by the choice of the definition
 pub record Picked (tb : List ℕ) (c : Session) (b : ℕ) (f : Flags) (k : ℕ) (d : Effect) (p : ℕ) : Type 0 where
   pub index : k ≡ indexOf (choose tb (view c) b f .found)
-  pub effect : d ≡ effectOf (choose tb (view c) b f .rule)
+  pub effect : d ≡ effectIn (view c) (choose tb (view c) b f)
   pub place : p ≡ placeOf (choose tb (view c) b f .found)
 
 -- where there is room
@@ -72,14 +71,14 @@ module _ {tb : List ℕ} {c : Session} {b : ℕ} {f : Flags} (z : Sized c) (h : 
   picked-changeable =
       let t = choose tb (view c) b f .found in
       let n = rw (i .effect, i .place) at (changeable c z p d picked-carriable) in
-      rw (i .index, i .effect) (change-read c t (effectOf (choose tb (view c) b f .rule)) (unsought tb (view c) b f) n)
+      rw (i .index, i .effect) (change-read c t (effectIn (view c) (choose tb (view c) b f)) (unsought tb (view c) b f) n)
 
   -- the session with the effect's task in front
   picked-started : withMain (withCount (withTasks c (shifted (frontAfter b d (taskBehind c k)) (shiftOf d p (c .n)) (c .tasks))) (countAfter d (c .n))) (mainAfter d p (c .main))
       ≡ hold (startedBy (choose tb (view c) b f) b (view c))
   picked-started =
       let t = choose tb (view c) b f .found in
-      let r = effectOf (choose tb (view c) b f .rule) in
+      let r = effectIn (view c) (choose tb (view c) b f) in
       rw (i .index, i .effect, i .place)
       (ap (λ (x : Task). withMain (withCount (withTasks c (shifted x (shiftOf r (placeOf t) (c .n)) (c .tasks))) (countAfter r (c .n))) (mainAfter r (placeOf t) (c .main)))
       (front-read c t b r (unsought tb (view c) b f))
@@ -104,21 +103,21 @@ module _ {tb : List ℕ} {c : Session} {b : ℕ} {f : Flags} (z : Sized c) (h : 
 
   -- ---- the screens that close
 
-  closed-moved : closedIn b d (taskBehind c k) ≡ closedIn b (effectOf (choose tb (view c) b f .rule)) (taskBehind c (shiftOf (effectOf (choose tb (view c) b f .rule)) (placeOf (choose tb (view c) b f .found)) (c .n)))
+  closed-moved : closedIn b d (taskBehind c k) ≡ closedIn b (effectIn (view c) (choose tb (view c) b f)) (taskBehind c (shiftOf (effectIn (view c) (choose tb (view c) b f)) (placeOf (choose tb (view c) b f .found)) (c .n)))
   closed-moved =
       rw (i .index, i .effect)
-      (closed-read c (choose tb (view c) b f .found) b (effectOf (choose tb (view c) b f .rule)) (unsought tb (view c) b f))
+      (closed-read c (choose tb (view c) b f .found) b (effectIn (view c) (choose tb (view c) b f)) (unsought tb (view c) b f))
 
   pub picked-closed : closedIn b d (taskBehind c k) ≡ closedByChoice (choose tb (view c) b f) b (view c)
   picked-closed =
       let t = choose tb (view c) b f .found in
-      let r = effectOf (choose tb (view c) b f .rule) in
+      let r = effectIn (view c) (choose tb (view c) b f) in
       closed-moved ∙ closed-effect c z (placeOf t) b r (start-carriable tb c b f z h room)
 
   pub picked-few : closedIn b d (taskBehind c k) ≤ mostHeight
   picked-few =
       let t = choose tb (view c) b f .found in
-      let r = effectOf (choose tb (view c) b f .rule) in
+      let r = effectIn (view c) (choose tb (view c) b f) in
       rw closed-moved (closed-few c z (placeOf t) b r (start-carriable tb c b f z h room))
 
   -- by a finishing start

@@ -88,24 +88,24 @@ second-at (suc k) [] l n x = absurd (omega arith)
 second-at (suc k) (t ∷ ts) l n x = refl
 
 -- where the front task goes, the marked screen stood in it
-uncovers : (mark : Mark) (one one′ : Bool) (t : Task) (k n m : ℕ) → Within mark k → Uncovers (closes mark one one′ t k n m)
-uncovers Mark.Gone one one′ t k n m w e = absurd (omega (arith, e))
-uncovers (Mark.Stands zero i) true one′ t k n m w e = (w .1 .0 i refl, refl)
-uncovers (Mark.Stands zero i) false one′ t k n m w e = absurd (omega (arith, e))
-uncovers (Mark.Stands (suc j) i) one true t k n m w e = absurd (omega (arith, e))
-uncovers (Mark.Stands (suc j) i) one false t k n m w e = absurd (omega (arith, e))
+uncovers : (mark : Mark) (one one′ : Bool) (t : Task) (k n m v : ℕ) → Within mark k → Uncovers (closes mark one one′ t k n m v)
+uncovers Mark.Gone one one′ t k n m v w e = absurd (omega (arith, e))
+uncovers (Mark.Stands zero i) true one′ t k n m v w e = (w .1 .0 i refl, refl)
+uncovers (Mark.Stands zero i) false one′ t k n m v w e = absurd (omega (arith, e))
+uncovers (Mark.Stands (suc j) i) one true t k n m v w e = absurd (omega (arith, e))
+uncovers (Mark.Stands (suc j) i) one false t k n m v w e = absurd (omega (arith, e))
 
-accepted : (mark : Mark) (one one′ : Bool) (t : Task) (k n m : ℕ) → closes mark one one′ t k n m .refusal ≡ 0
-accepted Mark.Gone one one′ t k n m = refl
-accepted (Mark.Stands zero i) true one′ t k n m = refl
-accepted (Mark.Stands zero i) false one′ t k n m = refl
-accepted (Mark.Stands (suc j) i) one true t k n m = refl
-accepted (Mark.Stands (suc j) i) one false t k n m = refl
+accepted : (mark : Mark) (one one′ : Bool) (t : Task) (k n m v : ℕ) → closes mark one one′ t k n m v .refusal ≡ 0
+accepted Mark.Gone one one′ t k n m v = refl
+accepted (Mark.Stands zero i) true one′ t k n m v = refl
+accepted (Mark.Stands zero i) false one′ t k n m v = refl
+accepted (Mark.Stands (suc j) i) one true t k n m v = refl
+accepted (Mark.Stands (suc j) i) one false t k n m v = refl
 
 pub plan-accepts : (fin : Bool) (b : ℕ) (c : Session) (t : Task) (x : Chosen) → startPlan fin b c t x .refusal ≡ 0
 plan-accepts fin b c t x =
     accepted (planMark fin b c t x) (leb (planNext fin b c t x .height) 1) (leb (taskBehind c 0 .height) 1) (planNext fin b c t x)
-    (planShift fin b c t x) (countAfter (x .effect) (c .n)) (mainAfter (x .effect) (x .place) (c .main))
+    (planShift fin b c t x) (countAfter (x .effect) (c .n)) (mainAfter (x .effect) (x .place) (c .main)) (c .edition)
 
 -- ---- a start for which there is room
 
@@ -134,7 +134,7 @@ module _ {tb : List ℕ} {c : Session} {b : ℕ} {f : Flags} (z : Sized c) (h : 
 
   -- the session before the marked screen closes
   abbrev put : Session
-  put = putIn c next shift (countAfter (x .effect) (c .n)) (mainAfter (x .effect) (x .place) (c .main))
+  put = putIn c next shift (countAfter (x .effect) (c .n)) (mainAfter (x .effect) (x .place) (c .main)) (c .edition)
 
   put-started : put ≡ hold (startedBy (choose tb (view c) b f) b (view c))
   put-started = picked-put z h room picks (ap (frontAfter b (x .effect)) (ok .task)) refl refl refl
@@ -179,16 +179,16 @@ module _ {tb : List ℕ} {c : Session} {b : ℕ} {f : Flags} (z : Sized c) (h : 
   plan = startPlan fin b c t x
 
   pub start-put : putOf c plan ≡ hold (made fin tb c b f)
-  start-put = plan-closes c next shift _ _ put-sized put-blank mark (stands .0) put-marked _ _ refl same ∙ put-makes
+  start-put = plan-closes c next shift _ _ _ put-sized put-blank mark (stands .0) put-marked _ _ refl same ∙ put-makes
 
   pub start-puttable : Puttable c plan
   start-puttable =
       closed-puttable c (planClosed fin b c t x + closedAt mark)
-      (plan-puttable c next shift _ _ put-sized put-blank (shift-low c z (x .place) (x .effect) (picked-carriable z h room picks))
+      (plan-puttable c next shift _ _ _ put-sized put-blank (shift-low c z (x .place) (x .effect) (picked-carriable z h room picks))
       mark (stands .0) put-marked _ _ same)
 
   pub start-uncovers : Uncovers plan
-  start-uncovers = uncovers mark _ _ next shift _ _ stands
+  start-uncovers = uncovers mark _ _ next shift _ _ _ stands
 
   -- the screens that the effect closes
   effect-closes : planClosed fin b c t x ≡ closedByChoice (choose tb (view c) b f) b (view c)
@@ -231,5 +231,5 @@ module _ {tb : List ℕ} {c : Session} {b : ℕ} {f : Flags} (z : Sized c) (h : 
   )
 
   pub plan-is : {k : ℕ} → k ≡ shiftOf (x .effect) (x .place) (c .n) → {m : ℕ} → m ≡ mainAfter (x .effect) (x .place) (c .main)
-      → closesWith mark (leb (next .height) 1) (leb (taskBehind c 0 .height) 1) next k n m closed ≡ startPlan fin b c t x
+      → closesWith mark (leb (next .height) 1) (leb (taskBehind c 0 .height) 1) next k n m (c .edition) closed ≡ startPlan fin b c t x
   plan-is shift-is main-is = rw (mark-is, top-is, next-is, count-is, shift-is, main-is, closed-is, place-is)

@@ -10,8 +10,7 @@ use Rattle.model.specs.declared.Flags.{Flags}
 use Rattle.model.specs.Session.{frontScreen, count, mostTasks}
 use Rattle.model.specs.Search.{placeOf}
 use Rattle.model.specs.Rules.{choose}
-use Rattle.model.specs.Effects.{effectOf}
-use Rattle.model.specs.Calls.{startedBy, finishedBy, makesTask, overfills, closedByChoice, closedByFinish}
+use Rattle.model.specs.Calls.{effectIn, startedBy, finishedBy, makesTask, overfills, closedByChoice, closedByFinish}
 use Rattle.model.specs.Marks.{closeAt, closedAt}
 use Rattle.model.proofs.RefusalLaws.{refusal-skip}
 use Rattle.model.proofs.Sound.{Sound}
@@ -43,28 +42,28 @@ module _ (tb : List ℕ) (c : Session) (b : ℕ) (f : Flags) (z : Sized c) (h : 
   some : 1 ≤ count (view c)
   some = rw counted (h .some)
 
-  effect-ready : EffectReady tb b (view c) (effectOf (chosen .rule)) (placeOf (chosen .found))
+  effect-ready : EffectReady tb b (view c) (effectIn (view c) chosen) (placeOf (chosen .found))
   effect-ready = choose-ready tb (view c) b f sound-v some
 
   module _ (room : roomRefusal tb c b f ≡ 0) where
-    no-23 : (makesTask (effectOf (chosen .rule)) && eqb (count (view c)) mostTasks) ≡ false
+    no-23 : (makesTask (effectIn (view c) chosen) && eqb (count (view c)) mostTasks) ≡ false
     no-23 = refusal-skip 22 _ _ room .0
 
-    no-24 : overfills (effectOf (chosen .rule)) (placeOf (chosen .found)) (view c) ≡ false
+    no-24 : overfills (effectIn (view c) chosen) (placeOf (chosen .found)) (view c) ≡ false
     no-24 = refusal-skip 23 _ _ (refusal-skip 22 _ _ room .1) .0
 
     -- the effect may be carried out
-    pub start-carriable : Carriable c (effectOf (chosen .rule)) (placeOf (chosen .found))
-    start-carriable = carriable tb b c (effectOf (chosen .rule)) (placeOf (chosen .found)) (h .ready .sound) effect-ready no-23 no-24
+    pub start-carriable : Carriable c (effectIn (view c) chosen) (placeOf (chosen .found))
+    start-carriable = carriable tb b c (effectIn (view c) chosen) (placeOf (chosen .found)) (h .ready .sound) effect-ready no-23 no-24
 
     started-sound : Sound tb (startedBy chosen b (view c))
-    started-sound = carry-sound tb b (h .known) (effectOf (chosen .rule)) (placeOf (chosen .found)) (view c) effect-ready no-23 no-24 sound-v
+    started-sound = carry-sound tb b (h .known) (effectIn (view c) chosen) (placeOf (chosen .found)) (view c) effect-ready no-23 no-24 sound-v
 
     pub start-sized : Sized (hold (startedBy chosen b (view c)))
     start-sized = hold-sized (startedBy chosen b (view c)) (sound-fits tb (startedBy chosen b (view c)) started-sound)
 
     -- the marked screen may be closed
-    pub start-markable : Markable (hold (startedBy chosen b (view c))) (effectOf (chosen .rule)) (placeOf (chosen .found)) (eqb b (frontScreen (view c)))
+    pub start-markable : Markable (hold (startedBy chosen b (view c))) (effectIn (view c) chosen) (placeOf (chosen .found)) (eqb b (frontScreen (view c)))
     start-markable =
         record {
           blank = hold-blank (startedBy chosen b (view c)) (sound-fits tb (startedBy chosen b (view c)) started-sound);

@@ -15,8 +15,7 @@ use Rattle.model.specs.Session.{State, top}
 use Rattle.model.specs.Flags.{flagsOf}
 use Rattle.model.specs.Search.{placeOf}
 use Rattle.model.specs.Rules.{groupOf, soughtBy, choose}
-use Rattle.model.specs.Effects.{effectOf}
-use Rattle.model.specs.Calls.{startedBy, finishedBy, createdByChoice, closedByChoice, closedByFinish}
+use Rattle.model.specs.Calls.{effectIn, startedBy, finishedBy, createdByChoice, closedByChoice, closedByFinish}
 use Rattle.model.specs.Marks.{markAfter}
 use Rattle.model.specs.Balance.{ifAccepted}
 use Rattle.session.specs.declared.Session.{Session}
@@ -60,7 +59,7 @@ pub record SoughtFrom (tb : List ℕ) (c : Session) (b w k : ℕ) (x : Sought) :
 pub record Chooses (tb : List ℕ) (c : Session) (b : ℕ) (f : Flags) (k : ℕ) (x : Chosen) : Type 0 where
   pub number : x .number ≡ roomRefusal tb c b f
   pub rule : x .rule ≡ choose tb (view c) b f .rule
-  pub effect : x .effect ≡ effectOf (choose tb (view c) b f .rule)
+  pub effect : x .effect ≡ effectIn (view c) (choose tb (view c) b f)
   pub place : x .place ≡ placeOf (choose tb (view c) b f .found)
   pub index : k ≡ indexOf (choose tb (view c) b f .found)
 
@@ -94,7 +93,7 @@ module _ (finishing : Bool) (b : ℕ) (c : Session) (t : Task) (x : Chosen) wher
   abbrev pub startPlan : Plan
   startPlan =
       closesWith planMark (leb (planNext .height) 1) (leb (taskBehind c 0 .height) 1) planNext planShift
-      (countAfter (x .effect) (c .n)) (mainAfter (x .effect) (x .place) (c .main)) planClosed
+      (countAfter (x .effect) (c .n)) (mainAfter (x .effect) (x .place) (c .main)) (c .edition) planClosed
 
 -- what the definition chooses, and the plan of it
 abbrev pub chosenStored : List ℕ → Session → ℕ → Flags → Chosen
@@ -102,7 +101,7 @@ chosenStored tb c b f =
     record {
       number = roomRefusal tb c b f;
       rule = choose tb (view c) b f .rule;
-      effect = effectOf (choose tb (view c) b f .rule);
+      effect = effectIn (view c) (choose tb (view c) b f);
       place = placeOf (choose tb (view c) b f .found);
     }
 
@@ -140,4 +139,4 @@ madeClosed false tb c b f = closedByChoice (choose tb (view c) b f) b (view c)
 -- the screens that a start, or a finishing one, creates: none where it is refused at its entry or for want of room
 abbrev pub createdStored : List ℕ → Session → ℕ → ℕ → ℕ
 createdStored tb c b w =
-    ifAccepted (orElse (refusal (startEntry tb (c .n) b w)) (roomRefusal tb c b (flagsOf w))) (createdByChoice (choose tb (view c) b (flagsOf w)))
+    ifAccepted (orElse (refusal (startEntry tb (c .n) b w)) (roomRefusal tb c b (flagsOf w))) (createdByChoice (choose tb (view c) b (flagsOf w)) (view c))

@@ -107,7 +107,7 @@ fn choose(table: &[u8], s: Session, t: Task, sought: Sought, b: u8, f: Flags) ->
     let group = sought.group;
     let found = sought.found;
     let rule = rules::rule_in(table, group, t, s.main, b, f, found);
-    let effect = rules::effect_of(rule);
+    let effect = rules::effect_of(rule, s.edition, s.main);
     Chosen {
         number: rules::room_refusal(s.n, t, effect),
         rule: rule,
@@ -150,7 +150,7 @@ fn start_plan(
     let topmost = effects::place_for(t, b, effect);
     let next = effects::front_after(t, b, effect, topmost);
     let closed = effects::closed_by(effect, t.height, topmost);
-    plans::closing_plan(mark, next, front.height, shift, n, main, closed)
+    plans::closing_plan(mark, next, front.height, shift, n, main, s.edition, closed)
 }
 
 // What is decided of a start: its plan, and the rule that it uses (R18 where the start was refused before one was chosen).

@@ -7,10 +7,7 @@ returns : tie.Need-returns
 returns c = or-first (c .before .args .shared) _ (c .if1 .taken)
 
 returns-2 : tie.Need-returns-2
-returns-2 c = let a = c .before .before .args in rw (c .if2 .taken) (or-second (a .shared) (a .own) (c .before .if1 .left))
-
-returns-3 : tie.Need-returns-3
-returns-3 c = let a = c .before .before .args in rw (c .if2 .left) (or-second (a .shared) 0 (c .before .if1 .left))
+returns-2 c = let a = c .before .args in or-second (a .shared) (a .own) (c .if1 .left)
 
 pub first-refusal-spec : {M : Type 1} → statement M
-first-refusal-spec = tie.close (tie.spec returns returns-2 returns-3)
+first-refusal-spec = tie.close (tie.spec returns returns-2)

@@ -18,11 +18,11 @@ launch-plan-requires c κs =
     λ e. shared-ready (start .args .table .now) (start .args .s) (sym (start .pre) ∙ e) .good
 
 gives : (c : tie.After-launch-plan)
-    → let a = c .before .before .args in Gives (a .s) (c .launch-plan .result) (callStored (a .table .now) (a .s) launch)
+    → let a = c .before .before .args in Gives (a .s) (c .launch-plan .result) (callStored (a .table .now) (a .s) (launch (a .edition)))
 gives c =
     let start = c .before .before in
     let a = start .args in
-    rw (c .launch-plan .ensures) (launch-gives (a .table .now) (a .s) (sizes start) (a .shared) (start .pre))
+    rw (c .launch-plan .ensures) (launch-gives (a .table .now) (a .s) (sizes start) (a .edition) (a .shared) (start .pre))
 
 answer-of-requires : tie.Need-answer-of-requires
 answer-of-requires c κs = gives (c .before) .showable

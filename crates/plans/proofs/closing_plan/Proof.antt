@@ -7,17 +7,20 @@ use Rattle.plans.proofs.closing_plan.Tie as tie
 
 returns : tie.Need-returns
 returns c =
-    let pops = c .before in
-    let gone = pops .before .before .before .before in
-    let a = gone .before .args in
-    plan-by (a .mark) (leb (a .t .height) 1) (leb (a .second) 1) (a .t) (a .shift) (a .n) (a .main) (a .closed) (gone .gone-by .ensures)
-    (pops .before .before .before .front-by .ensures) (pops .pops-by .ensures) (pops .before .count-by .ensures) (pops .before .before .main-by .ensures)
-    (c .closed-with .ensures)
+    let closed = c .before in
+    let front = closed .before .before .before in
+    let gone = front .before .before in
+    let start = gone .before in
+    let a = start .args in
+    plan-by (a .mark) (leb (a .t .height) 1) (leb (a .second) 1) (a .t) (a .shift) (a .n) (a .main) (a .edition) (a .closed) (start .pre .1)
+    (gone .gone-by .ensures) (front .front-by .ensures) (closed .before .pops-by .ensures) (front .before .count-by .ensures)
+    (closed .before .before .main-by .ensures) (closed .closed-with .ensures) (c .edition-by .ensures)
 
 pub closing-plan-spec : {M : Type 1} → statement M
 closing-plan-spec =
     tie.close
     (tie.spec
+    (λ c κs. search needs)
     (λ c κs. search needs)
     (λ c κs. search needs)
     (λ c κs. search needs)

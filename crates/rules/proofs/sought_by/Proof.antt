@@ -2,6 +2,7 @@
 use borrow.Author.Needs.{needs}
 use Rattle.model.specs.Rules.{soughtBy}
 use Rattle.session.proofs.StoredLaws.{sound-blank, blank-few}
+use Rattle.session.specs.Stored.{view}
 use Rattle.rules.proofs.sought_by.Statement.{statement}
 use Rattle.rules.proofs.sought_by.Tie as tie
 
@@ -22,7 +23,7 @@ unfolding soughtBy
 returns-2 c = rw (c .before .enum-told .given .1) (c .seek-root .ensures)
 
 returns-3 : tie.Need-returns-3
-unfolding soughtBy
+unfolding soughtBy view
 returns-3 c = rw (c .before .enum-told2 .given .1) (c .seek .ensures)
 
 returns-4 : tie.Need-returns-4
@@ -30,7 +31,7 @@ unfolding soughtBy
 returns-4 c = rw (c .enum-told3 .given .1)
 
 returns-5 : tie.Need-returns-5
-unfolding soughtBy
+unfolding soughtBy view
 returns-5 c = rw (c .before .before .enum-told4 .given .1, c .before .if1 .left) (c .seek2 .ensures)
 
 pub sought-by-spec : {M : Type 1} → statement M

@@ -3,7 +3,7 @@ use Prim.Native.Nat.{_<_}
 use mathlib.Core.Path.{_≡_, sym, _∙_, ap, subst}
 use borrow.Author.Needs.{needs}
 use Rattle.model.specs.declared.Choice.{Choice}
-use Rattle.model.specs.Effects.{effectOf}
+use Rattle.model.specs.Calls.{effectIn}
 use Rattle.model.specs.Search.{placeOf}
 use Rattle.model.specs.Rules.{choose}
 use Rattle.session.specs.Stored.{view}
@@ -54,6 +54,7 @@ chosen c =
     (c .rule-in .ensures (view (a .s)) (shows start) (view-main (a .s)) (x .found))
 
 returns : tie.Need-returns
+unfolding view
 returns c =
     let effect = c .before .before in
     let start = effect .before .before .before in
@@ -61,7 +62,7 @@ returns c =
     let tb = a .table .now in
     let f = a .f in
     let e = chosen (effect .before) in
-    let d = effect .effect-of .ensures ∙ ap (λ (x : Choice). effectOf (x .rule)) e in
+    let d = effect .effect-of .ensures ∙ ap (effectIn (view (a .s))) e in
     record {
       number = c .before .room-refusal .ensures tb (view (a .s)) (a .b) f (subst (λ (x : Choice). Shows (view (a .s)) (x .found) (a .t)) e (shows start)) (counted tb (a .s) (a .b) (sizes start) (start .pre .0)) d;
       rule = ap (λ (x : Choice). x .rule) e;
