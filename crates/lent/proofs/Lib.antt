@@ -2,6 +2,6 @@ pub mod Lending
 pub mod LendingCalls
 pub mod LendingWays
 pub mod LendingFacts
+pub mod LendingNumbers
 pub mod LendingTable
-pub mod LendingAlone
-pub mod LendingStart
+pub mod LendingWalk

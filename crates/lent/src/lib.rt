@@ -10,6 +10,7 @@ ghost use Rattle.image_calls.specs.Restores.{AcceptsImages, BringsBack, SavesAg
 ghost use Rattle.image_calls.specs.StoredSaves.{saved, saveStored, BroughtBack, NoOtherHas};
 ghost use Rattle.model.specs.Reasons.{noReason, FitsFirst, IsFoundAt};
 ghost use Rattle.model.specs.Affinity.{AffinityZero};
+ghost use Rattle.model.specs.Editions.{EditionSeeks};
 ghost use Rattle.session.specs.Stored.{view};
 ghost use Rattle.reasons.specs.StoredReasons.{whyStored, CarriesOut};
 ghost use Rattle.navigator.specs.Promise3.{KeepsPromise3};
@@ -20,7 +21,7 @@ use model::Reason;
 use session::Session;
 
 // The number of this interface; bindings/abi has its structs and signatures.
-const ABI: u32 = 2;
+const ABI: u32 = 3;
 
 // The library's own number, for callers who compare it with that of their header.
 #[no_mangle]
@@ -45,12 +46,12 @@ pub extern "C" fn milchkompass_look(table: &[u8], s: &mut Session) -> Answer
 
 // Launch, over the session that is lent. A refused call leaves it, here and below.
 #[no_mangle]
-pub extern "C" fn milchkompass_launch(table: &[u8], s: &mut Session) -> Answer
-    ensures answers { λ r. ⌜ r ≡ callStored (now (table .entry)) (now (s .entry)) Call.launch .answer ⌝ }
-    ensures stores { λ _. ⌜ now (s .exit) ≡ callStored (now (table .entry)) (now (s .entry)) Call.launch .session ⌝ }
+pub extern "C" fn milchkompass_launch(table: &[u8], s: &mut Session, edition: u8) -> Answer
+    ensures answers { λ r. ⌜ r ≡ callStored (now (table .entry)) (now (s .entry)) (Call.launch edition) .answer ⌝ }
+    ensures stores { λ _. ⌜ now (s .exit) ≡ callStored (now (table .entry)) (now (s .entry)) (Call.launch edition) .session ⌝ }
     ensures promise { λ _. ⌜ KeepsPromise3 (now (table .entry)) ⌝ }
 {
-    let reply = navigator::launch(table, *s);
+    let reply = navigator::launch(table, *s, edition);
     *s = reply.session;
     reply.answer
 }
@@ -106,6 +107,7 @@ pub extern "C" fn milchkompass_why(table: &[u8], s: Session, b: u8, word: u32) -
     ensures found { λ r. ⌜ (r .refusal ≡ 0 → IsFoundAt (now (table .entry)) (view s) b word (r .place) (r .found)) ⌝ }
     ensures carries { λ r. ⌜ (r .refusal ≡ 0 → CarriesOut (now (table .entry)) s b word r) ⌝ }
     ensures affinity { λ r. ⌜ (r .refusal ≡ 0 → AffinityZero (now (table .entry)) (view s) b r) ⌝ }
+    ensures edition { λ r. ⌜ (r .refusal ≡ 0 → EditionSeeks (now (table .entry)) (view s) b r) ⌝ }
 {
     navigator::why(table, s, b, word)
 }

@@ -1,26 +1,33 @@
 -- Promise 3. A session that the program reaches is one of the rules', stored; it is sound, so its image and its answers each
 -- determine it; and what save writes into a buffer that is long enough is that image.
-use Prim.Native.Nat.{ℕ, _≤_}
-use mathlib.Core.Path.{_≡_, refl}
+use Prim.Native.Nat.{ℕ, zero, suc, _≤_}
+use mathlib.Core.Path.{_≡_, refl, sym, _∙_, ap}
 use mathlib.Core.Logic.{_↔_, Iff·trans}
+use mathlib.Core.Bool.{true}
 use mathlib.Core.List.{List}
 use native.Mathlib.Omega.{arith}
 use lib.ListN.{length, drop}
 use lib.Seq.{take-append-seam}
+use Rattle.model.specs.Refusals.{refusal}
 use Rattle.model.specs.Table.{tableRefusal}
 use Rattle.model.specs.Session.{State, fresh}
 use Rattle.model.specs.Image.{image, longestImage}
-use Rattle.model.specs.Calls.{Call}
+use Rattle.model.specs.Answers.{Outcome, outcome, settle}
+use Rattle.model.specs.Calls.{Call, ownChecks, done, answerTo, call}
 use Rattle.model.specs.Histories.{after, AnswerAlike, byRules}
 use Rattle.model.specs.Promises.{Lifelong}
-use Rattle.model.proofs.Sound.{Sound}
-use Rattle.model.proofs.Keeps.{fresh-sound, after-sound}
+use Rattle.model.specs.Editions.{EditionKept, NamesNoEdition}
+use Rattle.model.proofs.Sound.{Sound, sound-decides}
+use Rattle.model.proofs.Keeps.{settled, fresh-sound, after-sound}
 use Rattle.model.proofs.ImageLaws.{image-short}
+use Rattle.model.proofs.EditionLaws.{edition-kept, empty-edition, editions-apart}
 use Rattle.model.proofs.Promise3.{sound-lifelong, lifelong-one, images-tell}
 use Rattle.session.specs.declared.Session.{Session}
-use Rattle.session.specs.Stored.{view, hold, Ready}
+use Rattle.session.specs.Stored.{view, hold, soundStored, Ready}
 use Rattle.session.proofs.StoredLaws.{view-hold, hold-sound, sound-view}
-use Rattle.calls.specs.StoredCalls.{byProgram}
+use Rattle.calls.specs.declared.Reply.{Reply}
+use Rattle.calls.specs.StoredCalls.{reply, callStored, byProgram}
+use Rattle.calls.proofs.Settling.{call-settled}
 use Rattle.calls.proofs.HistoryLaws.{alike-held, after-fresh, answers-fresh}
 use Rattle.image_calls.specs.StoredSaves.{saveStored}
 use Rattle.image_calls.proofs.Saving.{save-fits}
@@ -51,12 +58,44 @@ module _ (tb : List ℕ) (ok : tableRefusal tb ≡ 0) where
       rw (saved-held v h buffer long, saved-held w k buffer′ long′)
       (Iff·trans (images-tell tb ok v w h k) (alike-held tb ok v w h k))
 
+-- ---- editions
+
+module _ (tb : List ℕ) (ok : tableRefusal tb ≡ 0) where
+  -- a call on a sound session is the rules' call on what it holds, stored
+  call-viewed : (c : Session) (k : Call) → soundStored tb c ≡ true → view (callStored tb c k .session) ≡ call tb (view c) k .session
+  call-viewed c k e =
+      let h = sound-view tb c e in
+      ap (λ (r : Reply). view (r .session)) (call-settled tb c k (record { good = ok; sound = e }))
+      ∙ go (refusal (ownChecks tb (view c) k))
+      ∙ sym (ap (λ (o : Outcome). o .session) (settled tb ok (view c) h k))
+    where
+      go : (n : ℕ) → view (settle reply n c (hold (done tb (view c) k)) (answerTo tb (view c) k) .session)
+          ≡ settle outcome n (view c) (done tb (view c) k) (answerTo tb (view c) k) .session
+      go zero = view-hold (done tb (view c) k)
+      go (suc n) = refl
+
+  keeps-edition : (c : Session) (k : Call) → soundStored tb c ≡ true → NamesNoEdition k → EditionKept (view c) (view (callStored tb c k .session))
+  keeps-edition c k e n = rw (call-viewed c k e) (edition-kept tb ok (view c) (sound-view tb c e) k n)
+
+  -- what save writes of two sound sessions of unlike edition
+  saved-apart : (v w : State ℕ) → Sound tb v → Sound tb w
+      → (buffer buffer′ : List ℕ) → longestImage ≤ length buffer → longestImage ≤ length buffer′
+      → (hold v .edition ≡ hold w .edition → ⊥) → bytesSaved tb (hold v) buffer ≡ bytesSaved tb (hold w) buffer′ → ⊥
+  unfolding hold
+  saved-apart v w h k buffer buffer′ long long′ differ e =
+      editions-apart tb v w (sound-decides tb v .shows h) (sound-decides tb w .shows k) differ
+      (sym (saved-held tb ok v h buffer long) ∙ e ∙ saved-held tb ok w k buffer′ long′)
+
 -- ---- the promise
 
 lives : (tb : List ℕ) → tableRefusal tb ≡ 0 → (cs : List Call) → Lifelong tb (view (reached tb cs))
 lives tb ok cs =
     let v = after (byRules tb) fresh cs in
     rw (after-fresh tb ok cs, view-hold v) (sound-lifelong tb v (after-sound tb ok fresh (fresh-sound tb) cs))
+
+held-edition : (tb : List ℕ) (v : State ℕ) → Sound tb v → hold v .n ≡ 0 → hold v .edition ≡ 8
+unfolding hold
+held-edition tb v h e = empty-edition tb v h e
 
 pub promise3 : (tb : List ℕ) → KeepsPromise3 tb
 promise3 tb ok =
@@ -72,4 +111,9 @@ promise3 tb ok =
       imagesTell = λ cs ds buffer buffer′ long long′.
           rw (after-fresh tb ok cs, after-fresh tb ok ds)
           (saved-tells tb ok (ruled cs) (ruled ds) (sound cs) (sound ds) buffer buffer′ long long′);
+      emptyEdition = λ cs. rw (after-fresh tb ok cs) (held-edition tb (ruled cs) (sound cs));
+      keepsEdition = keeps-edition tb ok;
+      editionsApart = λ cs ds buffer buffer′ long long′.
+          rw (after-fresh tb ok cs, after-fresh tb ok ds)
+          (saved-apart tb ok (ruled cs) (ruled ds) (sound cs) (sound ds) buffer buffer′ long long′);
     }

@@ -14,9 +14,10 @@ use Rattle.model.specs.Image.{longestImage}
 use Rattle.model.specs.Calls.{Call}
 use Rattle.model.specs.Histories.{after, answers, AnswerAlike, byRules}
 use Rattle.model.specs.Promises.{Lifelong, RootOfOne}
+use Rattle.model.specs.Editions.{EditionKept, NamesNoEdition}
 use Rattle.session.specs.declared.Session.{Session}
-use Rattle.session.specs.Stored.{freshSession, view, hold}
-use Rattle.calls.specs.StoredCalls.{byProgram}
+use Rattle.session.specs.Stored.{freshSession, view, hold, soundStored}
+use Rattle.calls.specs.StoredCalls.{callStored, byProgram}
 use Rattle.image_calls.specs.StoredSaves.{saveStored}
 
 module _ (tb : List ℕ) where
@@ -41,6 +42,11 @@ pub record Promise3 (tb : List ℕ) : Type 0 where
   -- "the single-task guarantee covers these screens too" (02, request 3): a single-task screen of affinity 0 is the root of
   -- at most one task
   pub affinityZero : (cs : List Call) (x : ℕ) → isSingleTask tb x ≡ true → affinityOf tb x ≡ 0 → RootOfOne x (view (reached tb cs))
+  -- "the session keeps it until empty, when it is 8 again" (02, request 4): after every list an empty session has edition 8; and
+  -- of one call on any sound session, a start, a finishing start, a Back or a look, refused or not, leaves the session's edition,
+  -- or 8 where it leaves no task
+  pub emptyEdition : (cs : List Call) → reached tb cs .n ≡ 0 → reached tb cs .edition ≡ 8
+  pub keepsEdition : (c : Session) (k : Call) → soundStored tb c ≡ true → NamesNoEdition k → EditionKept (view c) (view (callStored tb c k .session))
   -- save accepts every buffer that is long enough for any session
   pub saves : (cs : List Call) (buffer : List ℕ) → longestImage ≤ length buffer → saveStored tb (reached tb cs) buffer .refusal ≡ 0
   -- "Take any two such lists under the same table. The sessions after them have equal images exactly when every list of later
@@ -49,6 +55,9 @@ pub record Promise3 (tb : List ℕ) : Type 0 where
   pub imagesTell : (cs ds : List Call) (buffer buffer′ : List ℕ) → longestImage ≤ length buffer → longestImage ≤ length buffer′
       → (bytesSaved tb (reached tb cs) buffer ≡ bytesSaved tb (reached tb ds) buffer′)
       ↔ AnswerAlike (byProgram tb) (reached tb cs) (reached tb ds)
+  -- "two sessions of unlike edition never share an image" (02, request 4)
+  pub editionsApart : (cs ds : List Call) (buffer buffer′ : List ℕ) → longestImage ≤ length buffer → longestImage ≤ length buffer′
+      → (reached tb cs .edition ≡ reached tb ds .edition → ⊥) → bytesSaved tb (reached tb cs) buffer ≡ bytesSaved tb (reached tb ds) buffer′ → ⊥
 
 -- what every contract of a call cites
 abbrev pub KeepsPromise3 : List ℕ → Type 0

@@ -10,6 +10,7 @@ ghost use Rattle.image_calls.specs.Restores.{AcceptsImages, BringsBack, SavesAg
 ghost use Rattle.image_calls.specs.StoredSaves.{saved, saveStored, BroughtBack, NoOtherHas};
 ghost use Rattle.model.specs.Reasons.{noReason, FitsFirst, IsFoundAt};
 ghost use Rattle.model.specs.Affinity.{AffinityZero};
+ghost use Rattle.model.specs.Editions.{EditionSeeks};
 ghost use Rattle.session.specs.Stored.{view};
 ghost use Rattle.reasons.specs.StoredReasons.{whyStored, CarriesOut};
 ghost use Rattle.navigator.specs.Promise3.{KeepsPromise3};
@@ -44,13 +45,13 @@ pub fn look(table: &[u8], s: Session) -> Reply
 }
 
 // Launch, on an empty session.
-pub fn launch(table: &[u8], s: Session) -> Reply
-    ensures gives { λ r. ⌜ r ≡ callStored (now (table .entry)) s Call.launch ⌝ }
+pub fn launch(table: &[u8], s: Session, edition: u8) -> Reply
+    ensures gives { λ r. ⌜ r ≡ callStored (now (table .entry)) s (Call.launch edition) ⌝ }
     ensures keeps { λ r. ⌜ KeepsSound (now (table .entry)) s (r .session) ⌝ }
     ensures promise { λ _. ⌜ KeepsPromise3 (now (table .entry)) ⌝ }
 {
     let number = shared_refusal(table, s);
-    calls::launch(table, s, number)
+    calls::launch(table, s, edition, number)
 }
 
 // Start of b with a flag word.
@@ -82,6 +83,7 @@ pub fn why(table: &[u8], s: Session, b: u8, word: u32) -> Reason
     ensures found { λ r. ⌜ (r .refusal ≡ 0 → IsFoundAt (now (table .entry)) (view s) b word (r .place) (r .found)) ⌝ }
     ensures carries { λ r. ⌜ (r .refusal ≡ 0 → CarriesOut (now (table .entry)) s b word r) ⌝ }
     ensures affinity { λ r. ⌜ (r .refusal ≡ 0 → AffinityZero (now (table .entry)) (view s) b r) ⌝ }
+    ensures edition { λ r. ⌜ (r .refusal ≡ 0 → EditionSeeks (now (table .entry)) (view s) b r) ⌝ }
 {
     let number = shared_refusal(table, s);
     reasons::why(table, s, b, word, number)

@@ -11,7 +11,7 @@ launch-requires c κs = c .shared-refusal .ensures
 returns : tie.Need-returns
 returns c =
     let a = c .before .before .before .args in
-    call-promised (a .table .now) (a .s) (c .launch .result) launch (c .launch .ensures)
+    call-promised (a .table .now) (a .s) (c .launch .result) (launch (a .edition)) (c .launch .ensures)
 
 pub launch-spec : {M : Type 1} → statement M
 launch-spec = tie.close (tie.spec (λ c κs. search needs) launch-requires returns)
