@@ -29,6 +29,7 @@ fn agree(a: Answer, b: Answer) -> bool
         & (a.tasks == b.tasks)
         & (a.main == b.main)
         & (a.closed == b.closed)
+        & (a.edition == b.edition)
 }
 
 // Looks at both sessions, then does Back in both, until the answers differ or both sessions are empty.

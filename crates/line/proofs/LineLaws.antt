@@ -1,6 +1,6 @@
 -- The text of a line, number by number: each is one to three digits and the byte behind it.
 use Prim.Native.Nat.{ℕ, _+_, _*_, _/_, _%_, _≤_, _<_}
-use mathlib.Core.Path.{_≡_}
+use mathlib.Core.Path.{_≡_, refl, _∙_, ap}
 use mathlib.Core.List.{List, [], _∷_, _++_, append-assoc}
 use native.Mathlib.Omega.{arith}
 use lib.Dec.{ltb}
@@ -10,6 +10,7 @@ use borrow.Author.Tests.{lt-ltb, le-ltb}
 use Rattle.model.specs.Player.{digit, space, newline, decimal, lineText}
 use Rattle.model.proofs.Logic.{if-elim}
 use Rattle.model.proofs.WrittenLaws.{Wrote, wrote-append}
+use Rattle.line.specs.Spaced.{spaced}
 
 -- ---- a number
 
@@ -51,11 +52,26 @@ text-length n (k ∷ ns) =
     let ih = text-length k ns in
     omega (arith, length-append (decimal n) (space ∷ lineText (k ∷ ns)))
 
--- its first number and the space, then the rest of the line
-pub line-cons : (n k : ℕ) (ns : List ℕ) {d d′ d″ : List ℕ} {at m r : ℕ}
-    → Wrote d at (decimal n ++ space ∷ []) d′ m → m ≤ length d → Wrote d′ m (lineText (k ∷ ns)) d″ r → Wrote d at (lineText (n ∷ k ∷ ns)) d″ r
+-- a number and the space behind it, then the others
+pub spaced-cons : (n : ℕ) (ns : List ℕ) {d d′ d″ : List ℕ} {at m r : ℕ}
+    → Wrote d at (decimal n ++ space ∷ []) d′ m → m ≤ length d → Wrote d′ m (spaced ns) d″ r → Wrote d at (spaced (n ∷ ns)) d″ r
+spaced-cons n ns v fits w = rw append-snoc at (wrote-append v fits w)
+
+-- numbers that others follow, then the rest of the line
+pub line-spaced : (ns : List ℕ) (k : ℕ) (ks : List ℕ) {d d′ d″ : List ℕ} {at m r : ℕ}
+    → Wrote d at (spaced ns) d′ m → m ≤ length d → Wrote d′ m (lineText (k ∷ ks)) d″ r → Wrote d at (lineText (ns ++ k ∷ ks)) d″ r
 unfolding lineText
-line-cons n k ns v fits w = rw append-snoc at (wrote-append v fits w)
+line-spaced ns k ks v fits w = rw (joined ns) at (wrote-append v fits w)
+  where
+    more : (n : ℕ) (l : List ℕ) → 1 ≤ length l → decimal n ++ space ∷ lineText l ≡ lineText (n ∷ l)
+    more n [] h = absurd (omega arith)
+    more n (j ∷ l) h = refl
+
+    joined : (ms : List ℕ) → spaced ms ++ lineText (k ∷ ks) ≡ lineText (ms ++ k ∷ ks)
+    joined [] = refl
+    joined (m ∷ ms) =
+        append-assoc (decimal m) (space ∷ spaced ms) (lineText (k ∷ ks)) ∙ ap (λ (l : List ℕ). decimal m ++ space ∷ l) (joined ms)
+        ∙ more m (ms ++ k ∷ ks) (omega (arith, length-append ms (k ∷ ks)))
 
 -- its last number and the newline
 pub line-end : (n : ℕ) {d d′ : List ℕ} {at r : ℕ}

@@ -6,6 +6,7 @@ ghost use mathlib.Core.List.{[], _∷_, _++_};
 ghost use lib.ListN.{length};
 ghost use Rattle.model.specs.Player.{decimal, lineOf, longestLine};
 ghost use Rattle.model.specs.Written.{written};
+ghost use Rattle.line.specs.Spaced.{spaced};
 use model::Answer;
 
 // Writes a text. Yields the place after it.
@@ -42,6 +43,19 @@ pub fn put(out: &mut [u8], at: usize, x: u8, end: u8) -> usize
     at + 4
 }
 
+// Writes four numbers, with a space behind each. Yields the place after them.
+fn write_four(out: &mut [u8], at: usize, a: u8, b: u8, c: u8, d: u8) -> usize
+    requires { ⌜ at + 16 ≤ length (now out) ⌝ }
+    ensures place { λ r. ⌜ r ≡ at + length (spaced (a ∷ b ∷ c ∷ d ∷ [])) ⌝ }
+    ensures text { λ r. ⌜ now (out .exit) ≡ written (now (out .entry)) at (spaced (a ∷ b ∷ c ∷ d ∷ [])) ⌝ }
+    ensures bound { λ r. ⌜ r ≤ at + 16 ⌝ }
+{
+    let second = put(out, at, a, b' ');
+    let third = put(out, second, b, b' ');
+    let fourth = put(out, third, c, b' ');
+    put(out, fourth, d, b' ')
+}
+
 // The longest line: the kind and the numbers of an answer, each of at most three digits and what ends it.
 pub const LONGEST: usize = 4 * (1 + Answer::NUMBERS);
 
@@ -52,12 +66,7 @@ pub fn write_line(out: &mut [u8], at: usize, kind: u8, a: Answer) -> usize
     ensures text { λ r. ⌜ now (out .exit) ≡ written (now (out .entry)) at (lineOf kind a) ⌝ }
     ensures bound { λ r. ⌜ r ≤ at + longestLine ⌝ }
 {
-    let refusal = put(out, at, kind, b' ');
-    let screen = put(out, refusal, a.refusal, b' ');
-    let root = put(out, screen, a.screen, b' ');
-    let height = put(out, root, a.root, b' ');
-    let tasks = put(out, height, a.height, b' ');
-    let main = put(out, tasks, a.tasks, b' ');
-    let closed = put(out, main, a.main, b' ');
-    put(out, closed, a.closed, b'\n')
+    let height = write_four(out, at, kind, a.refusal, a.screen, a.root);
+    let edition = write_four(out, height, a.height, a.tasks, a.main, a.closed);
+    put(out, edition, a.edition, b'\n')
 }

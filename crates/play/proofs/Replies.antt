@@ -79,7 +79,7 @@ module _ (tb : List ℕ) (c : Session) (z : Sized c) (p : Playable tb c) where
       number e = ap (λ (y : Sought). y .number) (rw e at s) ∙ table-shared tb c p
 
       go : Kind kind → Gives c (planFor (x .number) tb c (requestOf kind b w)) (replyStored tb c (requestOf kind b w))
-      go (launches e) = rw (request-1 kind b w e) (launch-gives tb c z (x .number) (number (rw e)))
+      go (launches e) = rw (request-1 kind b w e) (launch-gives tb c z b (x .number) (number (rw e)))
       go (starts e) = rw (request-2 kind b w e) (start-gives tb c z b w false (tableRefusal tb) (table-shared tb c p) ((rw e at s) .number))
       go (finishes e) = rw (request-3 kind b w e) (start-gives tb c z b w true (tableRefusal tb) (table-shared tb c p) ((rw e at s) .number))
       go (backs e) = rw (request-4 kind b w e) (back-gives tb c z (x .number) (number (rw e)))

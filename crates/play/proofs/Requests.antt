@@ -8,7 +8,7 @@ use Rattle.model.specs.Calls.{launch, start, finishingStart, back, look}
 use Rattle.model.specs.Player.{unplayable, asks, isStart, requestOf}
 
 module _ (kind b w : ℕ) where
-  pub request-1 : kind ≡ 1 → requestOf kind b w ≡ asks launch
+  pub request-1 : kind ≡ 1 → requestOf kind b w ≡ asks (launch b)
   unfolding requestOf
   request-1 e = rw e
 

@@ -43,7 +43,7 @@ PlannedFor false tb c b w t x = (x .number ≡ 0 → Ready tb c) × Unit {0}
 -- the plan of what a record asks for, by the refusal k so far. No record asks for a restore.
 unfoldable pub planFor : ℕ → List ℕ → Session → Request → Plan
 planFor k tb c unplayable = stillOf c 9
-planFor k tb c (asks launch) = launchPlan k tb c
+planFor k tb c (asks (launch e)) = launchPlan k tb c e
 planFor k tb c (asks (start b w)) = planStored k tb c b w false
 planFor k tb c (asks (finishingStart b w)) = planStored k tb c b w true
 planFor k tb c (asks back) = backPlan k c

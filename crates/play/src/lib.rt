@@ -55,7 +55,7 @@ fn plan_for(table: &[u8], s: Session, t: Task, sought: Sought, r: Fields) -> Pla
 {
     let kind = r.kind;
     match kind {
-        1 => calls::launch_plan(table, s, sought.number),
+        1 => calls::launch_plan(table, s, r.screen, sought.number),
         2 => starts::plan(table, s, t, sought, r.screen, r.word, false),
         3 => starts::plan(table, s, t, sought, r.screen, r.word, true),
         4 => calls::back_plan(s, sought.number),
@@ -96,6 +96,7 @@ fn play_whole(table: &[u8], from: Session, input: &[u8], count: usize, out: &mut
         let answer = plans::answer_of(plan, second);
         s.n = plan.n;
         s.main = plan.main;
+        s.edition = plan.edition;
         if plans::front_alone(plan) {
             let front = plan.front;
             s.tasks[0] = front;

@@ -19,8 +19,8 @@ use Rattle.session.proofs.Known.{Sized}
 use Rattle.session.proofs.StoredLaws.{sound-view}
 use Rattle.starts.specs.Steps.{createdStored}
 use Rattle.calls.specs.StoredCalls.{startCall}
-use Rattle.calls.proofs.Settling.{empty-view, filled-view, launch-own, launch-22}
-use Rattle.calls.proofs.PlanSettling.{start-number}
+use Rattle.calls.specs.CallPlans.{launchRefusal}
+use Rattle.calls.proofs.PlanSettling.{launch-number, start-number}
 use Rattle.recording.specs.CallBytes.{callAsked, callOf}
 
 module _ (tb : List ℕ) (c : Session) (z : Sized c) (h : Ready tb c) where
@@ -32,15 +32,20 @@ module _ (tb : List ℕ) (c : Session) (z : Sized c) (h : Ready tb c) where
       e ∙ ap (λ (n : ℕ). ifAccepted n (createdOf tb (view c) k)) (sym (refusal-own tb (h .good) (view c) (sound-view tb c (h .sound)) k)) in
       omega (arith, f)
 
-  pub launch-creates : c .n ≡ 0 → 1 ≡ along (byRules tb) (created tb) (view c) (launch ∷ [])
+  -- by its own refusal
+  pub launch-creates : (v n : ℕ) → n ≡ launchRefusal (c .n) v → n ≡ 0 → 1 ≡ along (byRules tb) (created tb) (view c) (launch v ∷ [])
   unfolding createdOf
-  launch-creates e = one-call launch 1 (rw (launch-own tb c (empty-view tb c e)))
+  launch-creates v n e none = one-call (launch v) 1 (rw (← launch-number tb c z v h, ← e, none))
 
-  pub launch-refused : (c .n ≡ 0 → ⊥) → 0 ≡ along (byRules tb) (created tb) (view c) (launch ∷ [])
+  pub launch-refused : (v n : ℕ) → n ≡ launchRefusal (c .n) v → (n ≡ 0 → ⊥) → 0 ≡ along (byRules tb) (created tb) (view c) (launch v ∷ [])
   unfolding createdOf
-  launch-refused n = one-call launch 0 (rw (launch-22 tb c (filled-view tb c z h n)))
+  launch-refused v n e some = one-call (launch v) 0 (rw (← launch-number tb c z v h, ← e) (go n some))
+    where
+      go : (k : ℕ) → (k ≡ 0 → ⊥) → 0 ≡ ifAccepted k 1
+      go zero f = absurd (f refl)
+      go (suc k) f = refl
 
-  start-created : (f : Bool) (b w : ℕ) → createdByChoice (chosen tb (view c) b w) ≡ createdOf tb (view c) (startCall f b w)
+  start-created : (f : Bool) (b w : ℕ) → createdByChoice (chosen tb (view c) b w) (view c) ≡ createdOf tb (view c) (startCall f b w)
   unfolding createdOf
   start-created true b w = refl
   start-created false b w = refl
@@ -49,7 +54,7 @@ module _ (tb : List ℕ) (c : Session) (z : Sized c) (h : Ready tb c) where
       → x ≡ along (byRules tb) (created tb) (view c) (startCall fin b w ∷ [])
   start-creates fin b w x e =
       one-call (startCall fin b w) x
-      (e ∙ ap (λ (n : ℕ). ifAccepted n (createdByChoice (chosen tb (view c) b w))) (start-number tb c z b w fin h)
+      (e ∙ ap (λ (n : ℕ). ifAccepted n (createdByChoice (chosen tb (view c) b w) (view c))) (start-number tb c z b w fin h)
       ∙ ap (ifAccepted (refusal (ownChecks tb (view c) (startCall fin b w)))) (start-created fin b w))
 
   -- Back, look and restore create none

@@ -8,7 +8,7 @@ use native.Mathlib.Omega.{arith}
 use lib.ListN.{length}
 use borrow.Author.Tests.{ne-eqb}
 use Rattle.model.specs.Table.{tableRefusal}
-use Rattle.model.specs.Session.{fresh, screensIn}
+use Rattle.model.specs.Session.{fresh, screensIn, isEdition}
 use Rattle.model.specs.Image.{image, longestImage}
 use Rattle.model.specs.Promises.{Lifelong}
 use Rattle.model.proofs.Sound.{Sound}
@@ -17,7 +17,7 @@ use Rattle.model.proofs.ImageLaws.{image-short}
 use Rattle.model.proofs.Promise3.{sound-lifelong, images-tell}
 use Rattle.session.specs.declared.Session.{Session}
 use Rattle.session.specs.Stored.{freshSession, view, hold, storageBlank, soundStored}
-use Rattle.session.proofs.StoredLaws.{fresh-held, view-hold, hold-sound, sound-blank, sound-view}
+use Rattle.session.proofs.StoredLaws.{fresh-held, view-hold, hold-sound, sound-blank, sound-view, sound-edition}
 use Rattle.calls.proofs.HistoryLaws.{alike-held, after-fresh, answers-fresh}
 use Rattle.navigator.specs.Promise3.{reached}
 use Rattle.navigator.proofs.Promise3Laws.{saved-held}
@@ -87,8 +87,8 @@ module _ (tb : List ℕ) (c : Session) (e : soundStored tb c ≡ true) where
   pub stored-lifelong : Lifelong tb (view c)
   stored-lifelong = sound-lifelong tb (view c) (sound-view tb c e)
 
-  pub stored-short : (storageBlank c ≡ true) × (length (image (view c)) ≤ longestImage)
-  stored-short = (sound-blank tb c e, image-short tb (view c) (sound-view tb c e))
+  pub stored-short : (storageBlank c ≡ true) × ((length (image (view c)) ≤ longestImage) × (isEdition (c .edition) ≡ true))
+  stored-short = (sound-blank tb c e, (image-short tb (view c) (sound-view tb c e), sound-edition tb c e))
 
 -- ---- every list
 

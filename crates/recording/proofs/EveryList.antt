@@ -12,9 +12,9 @@ use Rattle.model.specs.declared.Answer.{Answer}
 use Rattle.model.specs.Lists.{if_then_else_, All}
 use Rattle.model.specs.Refusals.{Check, check, refusal}
 use Rattle.model.specs.Table.{tableShaped, tableFilled}
-use Rattle.model.specs.Session.{State, sound}
+use Rattle.model.specs.Session.{State, sound, isEdition}
 use Rattle.model.specs.Answers.{Outcome, outcome, settle}
-use Rattle.model.specs.Image.{trailerIn, lengthIn, imageShaped}
+use Rattle.model.specs.Image.{trailerIn, editionIn, lengthIn, imageShaped}
 use Rattle.model.specs.Calls.{Call, launch, start, finishingStart, back, look, restore, ownChecks, refusalOf, call}
 use Rattle.model.specs.Histories.{after, answers, IsByte, wordCount, IsWord, Passable, byRules}
 use Rattle.model.proofs.Logic.{and-decides, leb-decides, eqb-decides, self-decides, refuted, if-elim, All-at, All-map}
@@ -30,7 +30,7 @@ long-unshaped bytes h long =
     let end : length (trailerIn bytes) ≡ 6 = omega (arith, length-drop (length bytes - 6) bytes) in
     let byte : (i : ℕ) → i ≤ 1 → IsByte (getD (trailerIn bytes) i 0) =
     λ i l. All-at IsByte (trailerIn bytes) i 0 (omega arith) (All-drop IsByte (length bytes - 6) bytes h) in
-    let two = eqb (getD (trailerIn bytes) 4 0) 0x08 && eqb (getD (trailerIn bytes) 5 0) 0x42 in
+    let two = isEdition (editionIn bytes) && eqb (getD (trailerIn bytes) 5 0) 0x42 in
     refuted (imageShaped bytes)
     (and-decides (leb-decides 6 (length bytes)) (and-decides (self-decides two) (eqb-decides (length bytes) (lengthIn bytes + 6))))
     (λ d. let e : length bytes ≡ lengthIn bytes + 6 = d .1 .1 in omega (arith, byte 0 (omega arith), byte 1 (omega arith)))
@@ -60,7 +60,7 @@ module _ (tb : List ℕ) (s : State ℕ) where
 
 -- the same call with an image whose length is a word
 abbrev shortened : Call → Call
-shortened launch = launch
+shortened (launch e) = launch e
 shortened (start b w) = start b w
 shortened (finishingStart b w) = finishingStart b w
 shortened back = back
@@ -68,7 +68,7 @@ shortened look = look
 shortened (restore bytes) = restore (if ltb (length bytes) wordCount then bytes else [])
 
 shortened-writable : (c : Call) → Passable c → Passable (shortened c) × Writable (shortened c)
-shortened-writable launch h = (tt, tt)
+shortened-writable (launch e) h = (h, tt)
 shortened-writable (start b w) h = (h, tt)
 shortened-writable (finishingStart b w) h = (h, tt)
 shortened-writable back h = (tt, tt)
@@ -78,7 +78,7 @@ shortened-writable (restore bytes) h =
     (λ e. (h, ltb-true (length bytes) wordCount e)) (λ e. (tt, omega arith))
 
 shortened-alike : (tb : List ℕ) (s : State ℕ) (c : Call) → Passable c → call tb s (shortened c) ≡ call tb s c
-shortened-alike tb s launch h = refl
+shortened-alike tb s (launch e) h = refl
 shortened-alike tb s (start b w) h = refl
 shortened-alike tb s (finishingStart b w) h = refl
 shortened-alike tb s back h = refl

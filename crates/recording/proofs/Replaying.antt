@@ -39,7 +39,7 @@ module _ (P : List Call → Type 0) (n kind b w : ℕ) (bytes : List ℕ) (short
   unfolding requestOf
   asked =
       let Q : Request → Type 0 = λ q. P (callAsked q) in
-      if-elim Q (eqb kind 1) _ _ (λ e. one launch (omega arith))
+      if-elim Q (eqb kind 1) _ _ (λ e. one (launch b) (omega arith))
       (λ e. if-elim Q (eqb kind 2) _ _ (λ e. one (start b w) (omega arith))
       (λ e. if-elim Q (eqb kind 3) _ _ (λ e. one (finishingStart b w) (omega arith))
       (λ e. if-elim Q (eqb kind 4) _ _ (λ e. one back (omega arith))

@@ -34,7 +34,7 @@ record-back k b w image rest e =
 -- one call, in front of a list
 call-back : (c : Call) (l : List ℕ) → callsIn (bytesOf c ++ l) ≡ c ∷ callsIn l
 unfolding bytesOf imageLength callOf requestOf
-call-back launch l = record-back 1 0 0 [] l refl
+call-back (launch e) l = record-back 1 e 0 [] l refl
 call-back (start b w) l = record-back 2 b w [] l refl
 call-back (finishingStart b w) l = record-back 3 b w [] l refl
 call-back back l = record-back 4 0 0 [] l refl
@@ -54,7 +54,7 @@ header-bytes k b w x y z = (x, (y, (omega arith, (omega arith, (omega arith, (om
 
 call-bytes : (c : Call) → Passable c × Writable c → All IsByte (bytesOf c)
 unfolding bytesOf
-call-bytes launch h = header-bytes 1 0 0 (omega arith) (omega arith) (omega arith)
+call-bytes (launch e) h = header-bytes 1 e 0 (omega arith) (h .0) (omega arith)
 call-bytes (start b w) h = header-bytes 2 b w (omega arith) (h .0 .0) (h .0 .1)
 call-bytes (finishingStart b w) h = header-bytes 3 b w (omega arith) (h .0 .0) (h .0 .1)
 call-bytes back h = header-bytes 4 0 0 (omega arith) (omega arith) (omega arith)

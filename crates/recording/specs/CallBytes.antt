@@ -63,7 +63,7 @@ abbrev pub header : ℕ → ℕ → ℕ → List ℕ
 header kind b w = kind ∷ b ∷ wordBytes w
 
 unfoldable pub bytesOf : Call → List ℕ
-bytesOf launch = header 1 0 0
+bytesOf (launch e) = header 1 e 0
 bytesOf (start b w) = header 2 b w
 bytesOf (finishingStart b w) = header 3 b w
 bytesOf back = header 4 0 0
@@ -76,7 +76,7 @@ writtenAs (c ∷ cs) = bytesOf c ++ writtenAs cs
 
 -- an image whose length is a word
 abbrev pub Writable : Call → Type 0
-Writable launch = Unit {0}
+Writable (launch e) = Unit {0}
 Writable (start b w) = Unit {0}
 Writable (finishingStart b w) = Unit {0}
 Writable back = Unit {0}

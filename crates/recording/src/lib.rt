@@ -8,7 +8,7 @@ ghost use mathlib.Core.Bool.{true, false};
 ghost use lib.ListN.{length, drop};
 ghost use Rattle.model.specs.Lists.{All};
 ghost use Rattle.model.specs.Table.{tableRefusal};
-ghost use Rattle.model.specs.Session.{screensIn};
+ghost use Rattle.model.specs.Session.{screensIn, isEdition};
 ghost use Rattle.model.specs.Image.{image, longestImage};
 ghost use Rattle.model.specs.Histories.{IsNoRestore};
 ghost use Rattle.model.specs.Balance.{ScreensBalance};
@@ -43,7 +43,7 @@ fn reply_to(table: &[u8], s: Session, kind: u8, b: u8, word: u32, image: &[u8]) 
     ensures { λ r. ⌜ r ≡ replyTo (now (table .entry)) s (callOf kind b word (now (image .entry))) ⌝ }
 {
     match kind {
-        1 => calls::launch(table, s, 0),
+        1 => calls::launch(table, s, b, 0),
         2 => calls::start(table, s, b, word, 0),
         3 => calls::finish_start(table, s, b, word, 0),
         4 => calls::back(table, s, 0),
@@ -60,7 +60,7 @@ fn created_for(table: &[u8], s: Session, kind: u8, b: u8, word: u32) -> u8
 {
     match kind {
         1 => {
-            if s.n == 0 {
+            if calls::launch_refusal(s.n, b) == 0 {
                 return 1;
             }
             0
@@ -215,8 +215,8 @@ pub fn count_screens(table: &[u8], calls: &[u8]) -> Screens
 
 // Two sessions have equal images: the same length and the same bytes.
 fn same_image(s: Session, t: Session) -> bool
-    requires { ⌜ (storageBlank s ≡ true) × (length (image (view s)) ≤ longestImage) ⌝ }
-    requires { ⌜ (storageBlank t ≡ true) × (length (image (view t)) ≤ longestImage) ⌝ }
+    requires { ⌜ (storageBlank s ≡ true) × ((length (image (view s)) ≤ longestImage) × (isEdition (s .edition) ≡ true)) ⌝ }
+    requires { ⌜ (storageBlank t ≡ true) × ((length (image (view t)) ≤ longestImage) × (isEdition (t .edition) ≡ true)) ⌝ }
     ensures { λ r. ⌜ (r ≡ true) ↔ (image (view s) ≡ image (view t)) ⌝ }
 {
     let mut a = [0u8; LONGEST_IMAGE];

@@ -34,8 +34,8 @@ const RULE_7: [u8; 55] = *b"the screen is in front already: the start moves noth
 const RULE_8: [u8; 87] =
     *b"the front task holds the screen, and CLEAR_TOP is set: what lay above the screen closes";
 
-const RULE_9: [u8; 89] =
-    *b"the front task holds the screen, and REORDER_TO_FRONT is set: the screen comes to its top";
+const RULE_9: [u8; 118] =
+    *b"the front task holds the screen, and REORDER_TO_FRONT is set: it comes to the top; edition 7 empties a main task first";
 
 const RULE_10: [u8; 41] = *b"the screen opens on top of the front task";
 

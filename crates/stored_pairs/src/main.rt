@@ -2,6 +2,9 @@
 //
 //   apart_first, apart_second    end in 3:[3] 0:[2,1,1,0] and, by a restore, in 3:[3] 0:[2,1,2,0]: three Backs tell them apart
 //   good_table, mode_above_3     the second one's table is refused with 2, and nothing is printed
+//   launched_6, launched_7       end in 0:[1,0], in editions 6 and 7: a look tells them apart
+//   launched_6, restored_6       the second one is launched in edition 8, and a restore brings it where the first one ends
+//   emptied_6, refused_editions  both end empty: one by a Back in edition 6, one after a launch and restores that are all refused
 use libc::STDOUT_FILENO;
 
 // Prints the argument at this place and what ends it.

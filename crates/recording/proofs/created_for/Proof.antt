@@ -16,13 +16,17 @@ returns : tie.Need-returns
 unfolding callOf requestOf
 returns c bytes =
     let start = c .before .before .before .before in
-    rw (c .before .before .match .keys1) (launch-creates (start .args .table .now) (start .args .s) (sizes start) (start .pre) (c .if1 .taken))
+    let a = start .args in
+    rw (c .before .before .match .keys1)
+    (launch-creates (a .table .now) (a .s) (sizes start) (start .pre) (a .b) _ (c .before .launch-refusal .ensures) (c .if1 .taken))
 
 returns-2 : tie.Need-returns-2
 unfolding callOf requestOf
 returns-2 c bytes =
     let start = c .before .before .before .before in
-    rw (c .before .before .match .keys1) (launch-refused (start .args .table .now) (start .args .s) (sizes start) (start .pre) (c .if1 .left))
+    let a = start .args in
+    rw (c .before .before .match .keys1)
+    (launch-refused (a .table .now) (a .s) (sizes start) (start .pre) (a .b) _ (c .before .launch-refusal .ensures) (c .if1 .left))
 
 returns-3 : tie.Need-returns-3
 unfolding callOf requestOf
@@ -49,6 +53,7 @@ pub created-for-spec : {M : Type 1} → statement M
 created-for-spec =
     tie.close
     (tie.spec
+    (λ c κs. search needs)
     returns
     (λ c κs. search needs)
     (λ c κs. search needs)
