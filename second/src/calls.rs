@@ -21,9 +21,9 @@ fn answer(result: Result<Done, Refusal>, session: &Session) -> Answer {
     }
 }
 
-/// Launch.
-pub fn launch(table: &[u8], session: &mut Session) -> Answer {
-    let result = check(table, session).and_then(|table| session.launch(&table));
+/// Launch with the edition that this byte names.
+pub fn launch(table: &[u8], session: &mut Session, edition: u8) -> Answer {
+    let result = check(table, session).and_then(|table| session.launch(&table, edition));
     answer(result, session)
 }
 

@@ -22,39 +22,36 @@ impl Default for Closings {
     }
 }
 
-/// The numbers that a call can close by a rule.
-pub type Possible = fn(usize) -> RangeInclusive<usize>;
+/// Whether a call can close so many by a rule, which stands before the number.
+pub type Possible = fn(usize, usize) -> bool;
 
-/// The numbers that a start can close. It clears to B from a height of 32 at most;
-/// in R8 the caller is above B.
-pub fn by_start(rule: usize) -> RangeInclusive<usize> {
+/// Whether a start can close so many. It clears to B from a height of 32 at most;
+/// in R8 and R9 the caller is above B, so that a task that R9 empties has two
+/// screens or more.
+pub fn by_start(rule: usize, closed: usize) -> bool {
     match rule {
-        3 | 12 => 1..=32,
-        4 | 13 => 0..=31,
-        8 => 1..=31,
-        _ => 0..=0,
+        3 | 12 => matches!(closed, 1..=32),
+        4 | 13 => matches!(closed, 0..=31),
+        8 => matches!(closed, 1..=31),
+        9 => matches!(closed, 0 | 2..=32),
+        _ => closed == 0,
     }
 }
 
-/// The numbers that a finishing start can close: one more, unless the caller is
+/// Whether a finishing start can close so many: one more, unless the caller is
 /// among those removed.
-pub fn by_finishing_start(rule: usize) -> RangeInclusive<usize> {
+pub fn by_finishing_start(rule: usize, closed: usize) -> bool {
     match rule {
-        3 | 12 => 1..=33,
-        4 | 13 => 1..=32,
-        8 => 1..=31,
-        _ => 1..=1,
+        3 | 12 => matches!(closed, 1..=33),
+        4 | 9 | 13 => matches!(closed, 1..=32),
+        8 => matches!(closed, 1..=31),
+        _ => closed == 1,
     }
 }
 
 impl Closings {
     pub fn add(&mut self, rule: u8, closed: u8) {
         self.0[usize::from(rule)][usize::from(closed)] += 1;
-    }
-
-    /// How often a rule came up.
-    pub fn times(&self, rule: usize) -> u64 {
-        self.0[rule].iter().sum()
     }
 
     /// How often one of these numbers was closed.
@@ -68,8 +65,8 @@ impl Closings {
     pub fn missing(&self, name: &str, possible: Possible) -> Vec<String> {
         let mut names = Vec::new();
         for rule in 1..=RULES {
-            for closed in possible(rule) {
-                if self.0[rule][closed] == 0 {
+            for closed in 0..=MOST {
+                if possible(rule, closed) && self.0[rule][closed] == 0 {
                     names.push(format!("R{rule} with {closed} closed by {name}"));
                 }
             }

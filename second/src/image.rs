@@ -1,12 +1,13 @@
 //! The image of a session: its tasks, front first, each as root, height and
 //! screens top first, and then a trailer of six bytes that points back.
 
+use crate::edition::EDITIONS;
 use crate::session::{MAX_HEIGHT, MAX_TASKS};
 use crate::{Refusal, Session, Table, Task};
 
-/// The last two bytes of every image.
-const CLOSING: [u8; 2] = [0x08, 0x42];
-/// The length of the trailer: L in two bytes, n, m and the closing bytes.
+/// The last byte of every image.
+const LAST: u8 = 0x42;
+/// The length of the trailer: L in two bytes, n, m, the edition and the last byte.
 const TRAILER: usize = 6;
 
 impl Session {
@@ -22,7 +23,7 @@ impl Session {
         bytes.extend(length.to_be_bytes());
         bytes.push(self.tasks.len() as u8);
         bytes.push(self.main as u8);
-        bytes.extend(CLOSING);
+        bytes.extend([self.edition, LAST]);
         bytes
     }
 
@@ -33,15 +34,18 @@ impl Session {
             .checked_sub(TRAILER)
             .ok_or(Refusal::ImageTrailer)?;
         let (body, trailer) = image.split_at(length);
-        let stated = u16::from_be_bytes([trailer[0], trailer[1]]);
-        if trailer[4..] != CLOSING || usize::from(stated) != length {
+        let &[high, low, count, main, edition, LAST] = trailer else {
+            return Err(Refusal::ImageTrailer);
+        };
+        let stated = u16::from_be_bytes([high, low]);
+        if !EDITIONS.contains(&edition) || usize::from(stated) != length {
             return Err(Refusal::ImageTrailer);
         }
-        let count = usize::from(trailer[2]);
-        let tasks = read_tasks(body, count).ok_or(Refusal::ImageTasks)?;
+        let tasks = read_tasks(body, usize::from(count)).ok_or(Refusal::ImageTasks)?;
         let session = Session {
             tasks,
-            main: usize::from(trailer[3]),
+            main: usize::from(main),
+            edition,
         };
         if !session.is_sound(table) {
             return Err(Refusal::ImageUnsound);

@@ -8,6 +8,7 @@
 //! - `table`: the screen table, the launch modes, the flag word
 //! - `session`: tasks and screens, soundness, the moves and the screens that they
 //!   create and close, the answer
+//! - `edition`: the editions 6, 7 and 8
 //! - `rules`: launch, Back, start by R1 to R18, finishing start
 //! - `reason`: the rule that a start uses and the task found, in four numbers
 //! - `image`: the image of a session and how it is read back
@@ -16,13 +17,16 @@
 //!   the reasons under starts
 //! - `random`, `hex`, `closings`: random numbers and tables, bytes as text, counts
 //!   of what was closed, for comparisons
-//! - `no_affinity`: how often screens of affinity 0 were started, likewise
+//! - `no_affinity`, `by_edition`: how often screens of affinity 0 were started, and
+//!   how often each rule came up in each edition, likewise
 //!
 //! Two layers: the methods of `Session` want a good table and a sound session
 //! and keep the session sound; the functions of `calls` check both first.
 
+pub mod by_edition;
 pub mod calls;
 pub mod closings;
+pub mod edition;
 pub mod hex;
 pub mod image;
 pub mod no_affinity;
@@ -70,4 +74,6 @@ pub enum Refusal {
     TasksFull = 23,
     /// A push onto a task of 32.
     TaskFull = 24,
+    /// Launch with an edition that is not kept.
+    NoSuchEdition = 30,
 }

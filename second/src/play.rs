@@ -8,7 +8,8 @@ use std::io::{self, ErrorKind, Read, Write};
 
 use crate::{Answer, Done, Reason, Refusal, Session, Table};
 
-/// The length of a record: kind, screen, four bytes of flags.
+/// The length of a record: kind, screen, four bytes of flags. A launch's screen
+/// byte names the edition.
 pub const RECORD: usize = 6;
 /// How much output is gathered before it is written.
 const BLOCK: usize = 64 * 1024;
@@ -91,7 +92,7 @@ impl Player {
         let table = self.table.as_ref().map_err(|&refusal| refusal)?;
         let session = &mut self.session;
         match kind {
-            1 => session.launch(table),
+            1 => session.launch(table, screen),
             2 => session.start(table, screen, flags),
             3 => session.finishing_start(table, screen, flags),
             4 => session.back(),
@@ -151,7 +152,7 @@ fn read_full(input: &mut impl Read, buffer: &mut [u8]) -> io::Result<usize> {
     Ok(length)
 }
 
-/// Adds the player's line: the kind, then the answer's seven numbers.
+/// Adds the player's line: the kind, then the answer's eight numbers.
 pub fn push_line(out: &mut Vec<u8>, played: &Played) {
     push_number(out, played.kind);
     push_numbers(out, &played.answer.numbers());

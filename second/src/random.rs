@@ -53,6 +53,15 @@ impl Random {
         unreachable!("the weights add up")
     }
 
+    /// An edition byte of a launch: mostly one that is accepted.
+    pub fn edition_byte(&mut self) -> u8 {
+        match self.below(20) {
+            0 => self.byte(256),
+            1 => self.one_of(&[1, 5, 9, 255]),
+            _ => self.one_of(&[0, 6, 7, 8]),
+        }
+    }
+
     /// The bytes of a good table of these many screens. A third of the affinities
     /// are 0, the others from 1 to the number given; launch modes go by weights.
     pub fn table(&mut self, screens: u8, affinities: u8, modes: &[u64; 4]) -> Vec<u8> {

@@ -2,6 +2,7 @@
 //! table. `decide` chooses the first rule that fits, `check_space` says whether
 //! there is room for it, `apply` carries it out.
 
+use crate::edition::{self, SEVEN, SIX};
 use crate::session::{Count, MAX_TASKS};
 use crate::table::{
     ALL_FLAGS, CLEAR_TASK, CLEAR_TOP, MULTIPLE_TASK, NEW_TASK, NO_AFFINITY, REORDER_TO_FRONT,
@@ -83,11 +84,13 @@ pub struct Done {
 }
 
 impl Session {
-    /// Launch: one task of the main screen alone.
-    pub fn launch(&mut self, table: &Table) -> Result<Done, Refusal> {
+    /// Launch: one task of the main screen alone, in the edition that the byte
+    /// names.
+    pub fn launch(&mut self, table: &Table, edition: u8) -> Result<Done, Refusal> {
         if !self.is_empty() {
             return Err(Refusal::NotEmpty);
         }
+        self.edition = edition::named(edition)?;
         let count = self.new_task(table.main());
         self.main = 1;
         let choice = None;
@@ -161,7 +164,7 @@ impl Session {
     }
 
     fn decide_single_task(&self, table: &Table, b: u8, flags: u32) -> Choice {
-        let found = self.by_root_or_affinity(table, b);
+        let found = self.sought(table, b);
         let rule = match found {
             None => R6,
             Some(_) if flags & CLEAR_TASK != 0 => R3,
@@ -191,7 +194,7 @@ impl Session {
             let (rule, found) = (R11, None);
             return Choice { rule, found };
         }
-        let found = self.by_root_or_affinity(table, b);
+        let found = self.sought(table, b);
         let rule = match found {
             None => R18,
             Some(found) => self.decide_found(table, b, flags, found),
@@ -218,9 +221,15 @@ impl Session {
         }
     }
 
-    /// Sought by root, then by affinity.
-    fn by_root_or_affinity(&self, table: &Table, b: u8) -> Option<Found> {
-        self.by_root(b).or_else(|| self.by_affinity(table, b))
+    /// Sought by root, then by affinity; in edition 6 by affinity only, but for a
+    /// single-task screen that has none, which is sought by root there too.
+    fn sought(&self, table: &Table, b: u8) -> Option<Found> {
+        let alone = table.mode(b) == Mode::SingleTask && table.affinity(b) == NO_AFFINITY;
+        if self.edition == SIX && !alone {
+            self.by_affinity(table, b)
+        } else {
+            self.by_root(b).or_else(|| self.by_affinity(table, b))
+        }
     }
 
     /// The first task from the front whose root is `b`.
@@ -266,6 +275,9 @@ impl Session {
             R4 | R13 => self.move_to_front(index) + self.tasks[0].clear_to(b),
             R5 | R14 | R17 => self.move_to_front(index) + self.tasks[0].push(b),
             R8 => self.tasks[0].clear_to(b),
+            R9 if self.edition == SEVEN && self.main == 1 => {
+                self.tasks[0].empty() + self.tasks[0].push(b)
+            }
             R9 => self.tasks[0].lift(b),
             R10 => self.tasks[0].push(b),
         }

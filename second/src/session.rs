@@ -4,6 +4,7 @@
 
 use std::ops::Add;
 
+use crate::edition::{EDITIONS, EIGHT};
 use crate::{Mode, Refusal, Table};
 
 /// The most tasks a session holds.
@@ -155,18 +156,23 @@ impl Task {
     }
 }
 
-/// A session: tasks, front first, and the main place, counted from 1; it is 0
-/// when the task made by launch is gone.
-#[derive(Clone, Debug, Default, PartialEq, Eq, Hash)]
+/// A session: tasks, front first; the main place, counted from 1, or 0 when the
+/// task made by launch is gone; the edition that launch named, 8 when it is empty.
+#[derive(Clone, Debug, PartialEq, Eq, Hash)]
 pub struct Session {
     pub tasks: Vec<Task>,
     pub main: usize,
+    pub edition: u8,
 }
 
 impl Session {
     /// The fresh session: no tasks.
     pub fn fresh() -> Session {
-        Session::default()
+        Session {
+            tasks: Vec::new(),
+            main: 0,
+            edition: EIGHT,
+        }
     }
 
     pub fn is_empty(&self) -> bool {
@@ -180,6 +186,12 @@ impl Session {
             && self.single_roots_differ(table)
             && self.main <= self.tasks.len()
             && (self.main == 0 || self.tasks[self.main - 1].root == table.main())
+            && self.edition_is_sound()
+    }
+
+    /// The edition is one that is kept, and an empty session has 8.
+    fn edition_is_sound(&self) -> bool {
+        EDITIONS.contains(&self.edition) && (!self.is_empty() || self.edition == EIGHT)
     }
 
     /// No single-task or single-instance screen is the root of two tasks.
@@ -216,7 +228,8 @@ impl Session {
         Count::ONE_CREATED
     }
 
-    /// Removes one screen; a task left empty goes.
+    /// Removes one screen; a task left empty goes, and with the last task the
+    /// edition.
     pub(crate) fn remove_screen(&mut self, index: usize, at: usize) -> Count {
         self.tasks[index].screens.remove(at);
         if self.tasks[index].screens.is_empty() {
@@ -228,6 +241,9 @@ impl Session {
                 self.main -= 1;
             }
         }
+        if self.is_empty() {
+            self.edition = EIGHT;
+        }
         Count::closed(1)
     }
 
@@ -237,6 +253,7 @@ impl Session {
         match self.tasks.first() {
             None => Answer {
                 closed,
+                edition: self.edition,
                 ..Answer::default()
             },
             Some(front) => Answer {
@@ -247,12 +264,13 @@ impl Session {
                 tasks: self.tasks.len() as u8,
                 main: self.main as u8,
                 closed,
+                edition: self.edition,
             },
         }
     }
 }
 
-/// What a call answers: seven numbers.
+/// What a call answers: eight numbers.
 #[derive(Clone, Copy, Debug, Default, PartialEq, Eq, Hash)]
 pub struct Answer {
     pub refusal: u8,
@@ -263,6 +281,8 @@ pub struct Answer {
     pub main: u8,
     /// The screens that the call removed.
     pub closed: u8,
+    /// The edition after the call; 0 where it was refused.
+    pub edition: u8,
 }
 
 impl Answer {
@@ -274,8 +294,8 @@ impl Answer {
         }
     }
 
-    /// The seven numbers in their order.
-    pub fn numbers(self) -> [u8; 7] {
+    /// The eight numbers in their order.
+    pub fn numbers(self) -> [u8; 8] {
         [
             self.refusal,
             self.screen,
@@ -284,6 +304,7 @@ impl Answer {
             self.tasks,
             self.main,
             self.closed,
+            self.edition,
         ]
     }
 }

@@ -2,12 +2,16 @@
 //! nor is a task whose root has affinity 0. By root nothing changes." The numbers
 //! and sessions are read from the paper's rules by hand.
 
+mod common;
+
 use second::play::Player;
 use second::random::Random;
 use second::table::{
     flag_word, CLEAR_TASK, CLEAR_TOP, MULTIPLE_TASK, NEW_TASK, REORDER_TO_FRONT, SINGLE_TOP,
 };
-use second::{calls, Session, Task};
+use second::{calls, Session};
+
+use common::{session, AFFINITY, NONE, ROOT};
 
 /// Two screens of each mode with affinity 0: 1 and 2 standard, 3 and 4 single-top,
 /// 5 and 6 single-task, 7 and 8 single-instance. With affinity 1: 0, standard and
@@ -23,19 +27,6 @@ const MAIN_OF_0: [u8; 30] = {
     table[1] = 1;
     table
 };
-
-const NONE: u8 = 0;
-const ROOT: u8 = 1;
-const AFFINITY: u8 = 2;
-
-/// A session from its main place and its tasks, screens top first.
-fn session(main: usize, tasks: &[(u8, &[u8])]) -> Session {
-    let tasks = tasks
-        .iter()
-        .map(|&(root, screens)| Task::new(root, screens))
-        .collect();
-    Session { tasks, main }
-}
 
 /// A start has this reason, rule, place and found by, and leaves this session.
 fn start_in(table: &[u8], from: &Session, start: (u8, u32), reason: [u8; 3], after: &Session) {

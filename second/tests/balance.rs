@@ -3,10 +3,10 @@
 
 mod common;
 
-use second::closings::Closings;
+use second::by_edition::ByEdition;
 use second::random::Random;
 use second::table::{flag_word, FLAGS, MULTIPLE_TASK};
-use second::{calls, Answer, Done, Refusal, Session, Table};
+use second::{calls, Answer, Done, Reason, Refusal, Session, Table};
 
 use common::{session, standing, T};
 
@@ -17,7 +17,8 @@ const BACK: u8 = 4;
 const LOOK: u8 = 5;
 const RESTORE: u8 = 6;
 
-/// A call: its kind, the screen and the flags. A restore's four bytes are no image.
+/// A call: its kind, the screen, in a launch the edition byte, and the flags. A
+/// restore's four bytes are no image.
 type Call = (u8, u8, u32);
 
 /// A list of calls as it goes on: its session, and the sums along it.
@@ -42,12 +43,13 @@ impl List {
 
     /// Makes the next call; gives what was done if it was accepted.
     fn call(&mut self, call: Call) -> Option<Done> {
+        let before = self.session.clone();
         let (result, after) = self.done(call);
         let answer = self.answered(call);
         match result {
             Ok(done) => {
                 let rule = done.choice.map(|choice| choice.rule as u8);
-                assert_eq!(done.count.created, created(call.0, rule));
+                assert_eq!(done.count.created, created(call.0, rule, &before));
                 assert_eq!(answer, after.answer(done.count.closed));
                 self.created += usize::from(done.count.created);
             }
@@ -63,7 +65,7 @@ impl List {
     fn done(&self, (kind, screen, flags): Call) -> (Result<Done, Refusal>, Session) {
         let mut session = self.session.clone();
         let done = match kind {
-            LAUNCH => session.launch(&self.table),
+            LAUNCH => session.launch(&self.table, screen),
             START => session.start(&self.table, screen, flags),
             FINISHING_START => session.finishing_start(&self.table, screen, flags),
             BACK => session.back(),
@@ -77,7 +79,7 @@ impl List {
     fn answered(&mut self, (kind, screen, flags): Call) -> Answer {
         let (table, session) = (&self.bytes, &mut self.session);
         match kind {
-            LAUNCH => calls::launch(table, session),
+            LAUNCH => calls::launch(table, session, screen),
             START => calls::start(table, session, screen, flags),
             FINISHING_START => calls::finishing_start(table, session, screen, flags),
             BACK => calls::back(table, session),
@@ -88,10 +90,11 @@ impl List {
 }
 
 /// How many screens an accepted call creates, by the paper: one for launch, each
-/// new task and each push.
-fn created(kind: u8, rule: Option<u8>) -> u8 {
+/// new task and each push, and by R9 where it empties the main task.
+fn created(kind: u8, rule: Option<u8>, from: &Session) -> u8 {
     let (new, push) = ([2, 6, 11, 18], [3, 5, 10, 12, 14, 17]);
     match rule {
+        Some(9) => u8::from(from.edition == 7 && from.main == 1),
         Some(rule) => u8::from(new.contains(&rule) || push.contains(&rule)),
         None => u8::from(kind == LAUNCH),
     }
@@ -106,6 +109,9 @@ fn any_call(random: &mut Random, screens: u8, empty: bool, plain: u64) -> Call {
         START if random.percent(plain) => return (START, random.byte(u16::from(screens)), 0),
         kind => kind,
     };
+    if kind == LAUNCH {
+        return (LAUNCH, random.edition_byte(), 0);
+    }
     let flags = match random.below(4) {
         0 => random.one_of(&FLAGS),
         1 => random.next() as u32,
@@ -118,7 +124,7 @@ fn any_call(random: &mut Random, screens: u8, empty: bool, plain: u64) -> Call {
 #[test]
 fn created_less_closed_are_standing() {
     let mut random = Random::new(2);
-    let [mut starts, mut finishing]: [Closings; 2] = Default::default();
+    let [mut starts, mut finishing]: [ByEdition; 2] = Default::default();
     for _ in 0..400 {
         let screens = random.between(1, 8) as u8;
         let affinities = random.one_of(&[1, 2, 3]);
@@ -127,21 +133,25 @@ fn created_less_closed_are_standing() {
         let plain = random.one_of(&[20, 80, 96]);
         for _ in 0..500 {
             let call = any_call(&mut random, screens, list.session.is_empty(), plain);
+            let Session { edition, main, .. } = list.session;
             let Some(done) = list.call(call) else {
                 continue;
             };
-            let rule = done.choice.map_or(0, |choice| choice.rule as u8);
-            match call.0 {
-                START => starts.add(rule, done.count.closed),
-                FINISHING_START => finishing.add(rule, done.count.closed),
-                BACK => assert_eq!(done.count.closed, 1),
-                _ => assert_eq!(done.count.closed, 0),
+            let reason = done.choice.map(Reason::chosen);
+            match (call.0, reason) {
+                (START, Some(reason)) => starts.add(edition, main, reason),
+                (FINISHING_START, Some(reason)) => finishing.add(edition, main, reason),
+                (BACK, None) => assert_eq!(done.count.closed, 1),
+                (_, reason) => assert_eq!((reason, done.count.closed), (None, 0)),
             }
         }
     }
-    for rule in 1..=18 {
-        assert!(starts.times(rule) > 0 && finishing.times(rule) > 0);
-    }
+    let never = [
+        starts.missing("start"),
+        finishing.missing("finishing start"),
+    ]
+    .concat();
+    assert!(never.is_empty(), "never came up: {never:?}");
 }
 
 #[test]
@@ -152,7 +162,7 @@ fn an_accepted_restore_breaks_the_balance() {
     list.call((RESTORE, 0, 0));
     assert_eq!((list.created, list.closed), (1, 0));
     let answer = calls::restore(&T, &mut list.session, &image);
-    assert_eq!(answer.numbers(), [0, 1, 0, 2, 1, 1, 0]);
+    assert_eq!(answer.numbers(), [0, 1, 0, 2, 1, 1, 0, 8]);
     // Two stand, and one was created.
     assert_eq!(standing(&list.session), 2);
 }

@@ -6,11 +6,7 @@ mod common;
 use second::table::{CLEAR_TASK, CLEAR_TOP, MULTIPLE_TASK, NEW_TASK, REORDER_TO_FRONT, SINGLE_TOP};
 use second::{calls, Session};
 
-use common::{session, T};
-
-const NONE: u8 = 0;
-const ROOT: u8 = 1;
-const AFFINITY: u8 = 2;
+use common::{session, AFFINITY, NONE, ROOT, T};
 
 /// A start of this screen has this reason: rule, place, found by.
 fn why(from: &Session, screen: u8, flags: u32, reason: [u8; 3]) {
@@ -172,7 +168,7 @@ fn the_place_before_the_move() {
     why(&full, 3, 0, [5, 16, AFFINITY]);
     assert_eq!(
         calls::start(&T, &mut full, 5, NEW_TASK).numbers(),
-        [0, 5, 5, 1, 16, 0, 0]
+        [0, 5, 5, 1, 16, 0, 0, 8]
     );
     why(&full, 5, NEW_TASK, [15, 1, ROOT]);
 }

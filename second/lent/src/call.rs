@@ -57,7 +57,9 @@ impl Kind {
 /// A call with its arguments, apart from the table and the session.
 #[derive(Clone, Copy)]
 pub enum Call<'a> {
-    Launch,
+    Launch {
+        edition: u8,
+    },
     Start {
         screen: u8,
         flags: u32,
@@ -84,7 +86,7 @@ pub enum Call<'a> {
 impl Call<'_> {
     pub fn kind(&self) -> Kind {
         match self {
-            Call::Launch => Kind::Launch,
+            Call::Launch { .. } => Kind::Launch,
             Call::Start { .. } => Kind::Start,
             Call::FinishingStart { .. } => Kind::FinishingStart,
             Call::Back => Kind::Back,
@@ -113,7 +115,8 @@ impl fmt::Display for Call<'_> {
             | Call::Why { screen, flags } => write!(f, " of {screen}, flags, hex: {flags:08x}"),
             Call::Save { length } => write!(f, ", buffer of {length} bytes"),
             Call::Restore { image } => write!(f, ", image, hex: {}", hex(image, usize::MAX)),
-            Call::Launch | Call::Back | Call::Look => Ok(()),
+            Call::Launch { edition } => write!(f, ", edition {edition}"),
+            Call::Back | Call::Look => Ok(()),
         }
     }
 }
@@ -121,8 +124,8 @@ impl fmt::Display for Call<'_> {
 /// What a call gives by itself.
 #[derive(Clone, Copy, Debug, PartialEq)]
 pub enum Reply {
-    /// The answer's seven numbers.
-    Answer([u8; 7]),
+    /// The answer's eight numbers.
+    Answer([u8; 8]),
     /// Of save, the refusal's number, or 0, and the image's length.
     Saved(u8, usize),
     /// Of why, the reason's four numbers.
@@ -141,7 +144,7 @@ impl Reply {
     /// How many screens a call closed that was accepted and gives an answer.
     pub fn closed(&self) -> Option<u8> {
         match self {
-            Reply::Answer([0, .., closed]) => Some(*closed),
+            Reply::Answer([0, .., closed, _]) => Some(*closed),
             _ => None,
         }
     }
@@ -150,7 +153,7 @@ impl Reply {
 /// The call by the static library, on the session and the buffer as lent.
 pub fn by_library(call: Call, table: &[u8], session: &mut Stored, buffer: &mut [u8]) -> Reply {
     Reply::Answer(match call {
-        Call::Launch => library::launch(table, session),
+        Call::Launch { edition } => library::launch(table, session, edition),
         Call::Start { screen, flags } => library::start(table, session, screen, flags),
         Call::FinishingStart { screen, flags } => {
             library::finishing_start(table, session, screen, flags)
@@ -171,7 +174,7 @@ pub fn by_library(call: Call, table: &[u8], session: &mut Stored, buffer: &mut [
 /// The call by the second navigator, on its own session.
 pub fn on_session(call: Call, table: &[u8], session: &mut Session, buffer: &mut [u8]) -> Reply {
     let answer = match call {
-        Call::Launch => calls::launch(table, session),
+        Call::Launch { edition } => calls::launch(table, session, edition),
         Call::Start { screen, flags } => calls::start(table, session, screen, flags),
         Call::FinishingStart { screen, flags } => {
             calls::finishing_start(table, session, screen, flags)

@@ -1,10 +1,12 @@
-//! How often each call was made and each refusal and rule came up, what the tasks
-//! were found by, those of screens of affinity 0 too, how many screens were closed,
-//! and how full the sessions were.
+//! How often each call was made and each refusal and rule came up, in each edition,
+//! what the tasks were found by, those of screens of affinity 0 too, how many
+//! screens were closed, and how full the sessions were.
 
 use std::fmt;
 
+use second::by_edition::{self, ByEdition, Launches, FOUND};
 use second::closings::{self, Closings, Possible};
+use second::edition::{EDITIONS, SIX};
 use second::no_affinity::NoAffinity;
 use second::rules::Choice;
 use second::session::{MAX_HEIGHT, MAX_TASKS};
@@ -16,7 +18,7 @@ use crate::stored::Stored;
 /// The refusals that each call can give, 0 for none.
 fn possible(kind: Kind) -> &'static [u8] {
     match kind {
-        Kind::Launch => &[0, 1, 2, 20, 22],
+        Kind::Launch => &[0, 1, 2, 20, 22, 30],
         Kind::Start | Kind::FinishingStart | Kind::Why => &[0, 1, 2, 20, 3, 4, 21, 23, 24],
         Kind::Back => &[0, 1, 2, 20, 21],
         Kind::Look => &[0, 1, 2, 20],
@@ -27,18 +29,6 @@ fn possible(kind: Kind) -> &'static [u8] {
 
 /// The rules under which a start can be refused for want of space.
 const FULL: [usize; 8] = [2, 6, 11, 18, 5, 10, 14, 17];
-
-/// What a task is found by, in the order of a reason's numbers.
-const FOUND: [&str; 3] = ["none", "root", "affinity"];
-
-/// What the task of a rule can be found by: these numbers.
-fn possible_found(rule: usize) -> &'static [usize] {
-    match rule {
-        1 | 15 => &[1],
-        3..=5 | 12..=14 | 16 | 17 => &[1, 2],
-        _ => &[0],
-    }
-}
 
 /// What a kind of start can close.
 fn possible_closed(kind: Kind) -> Option<Possible> {
@@ -52,8 +42,8 @@ fn possible_closed(kind: Kind) -> Option<Possible> {
 /// Starts, or asking why, by rule, R1 at index 1.
 #[derive(Default)]
 struct Rules {
-    /// Accepted, by what found the task too.
-    accepted: [[u64; 3]; 19],
+    /// Accepted, by edition and what found the task too.
+    accepted: ByEdition,
     /// Refused by 23 or 24.
     full: [u64; 19],
 }
@@ -61,7 +51,11 @@ struct Rules {
 #[derive(Default)]
 pub struct Counts {
     /// Calls by kind and refusal.
-    calls: [[u64; 25]; 8],
+    calls: [[u64; 31]; 8],
+    /// Accepted calls by kind and edition less 6: a launch's and a restore's is the
+    /// one after the call.
+    editions: [[u64; 3]; 8],
+    launches: Launches,
     /// By kind, those of the kinds that have rules.
     rules: [Rules; 8],
     /// Accepted calls by kind.
@@ -81,7 +75,10 @@ impl Counts {
         self.calls[kind][usize::from(refusal)] += 1;
         let choice = choice(table, present, call, refusal);
         if let Some(choice) = choice {
-            self.rules[kind].add(choice, refusal);
+            self.rules[kind].add(present, choice, refusal);
+        }
+        if refusal == 0 {
+            self.add_edition(present, call, reply);
         }
         if let Some(closed) = reply.closed() {
             let rule = choice.map_or(0, |choice| choice.rule as u8);
@@ -89,6 +86,18 @@ impl Counts {
         }
         if let (Some(choice), 0) = (choice, refusal) {
             self.add_no_affinity(table, present, call, choice);
+        }
+    }
+
+    /// Counts the edition of an accepted call.
+    fn add_edition(&mut self, present: &Stored, call: Call, reply: &Reply) {
+        let edition = match (call, reply) {
+            (Call::Launch { .. } | Call::Restore { .. }, Reply::Answer([.., after])) => *after,
+            _ => present.edition,
+        };
+        self.editions[call.kind() as usize][usize::from(edition - SIX)] += 1;
+        if let Call::Launch { edition } = call {
+            self.launches.add(edition);
         }
     }
 
@@ -133,12 +142,16 @@ impl Counts {
                     names.push(format!("{refusal} by {}", kind.name()));
                 }
             }
+            names.extend(self.missing_editions(kind));
             if let Some(rules) = self.rules(kind) {
                 names.extend(rules.missing(kind, each_rule));
             }
             if let Some(possible) = possible_closed(kind) {
                 names.extend(self.closings[kind as usize].missing(kind.name(), possible));
             }
+        }
+        if kinds.contains(&Kind::Launch) {
+            names.extend(self.launches.missing());
         }
         if kinds.iter().any(|&kind| self.rules(kind).is_some()) {
             names.extend(self.no_affinity.missing());
@@ -150,6 +163,15 @@ impl Counts {
             names.push("a full session".to_string());
         }
         names
+    }
+
+    /// The names of the editions in which a call of this kind was never accepted.
+    fn missing_editions(&self, kind: Kind) -> Vec<String> {
+        let times = EDITIONS.into_iter().zip(self.editions[kind as usize]);
+        times
+            .filter(|&(_, times)| times == 0)
+            .map(|(edition, _)| format!("edition {edition} by {}", kind.name()))
+            .collect()
     }
 }
 
@@ -169,30 +191,23 @@ fn choice(table: &[u8], present: &Stored, call: Call, refusal: u8) -> Option<Cho
 }
 
 impl Rules {
-    fn add(&mut self, choice: Choice, refusal: u8) {
-        let rule = choice.rule as usize;
+    fn add(&mut self, present: &Stored, choice: Choice, refusal: u8) {
+        let main = usize::from(present.main);
         match refusal {
-            0 => self.accepted[rule][choice.found.map_or(0, |found| found.by as usize)] += 1,
-            _ => self.full[rule] += 1,
+            0 => self
+                .accepted
+                .add(present.edition, main, Reason::chosen(choice)),
+            _ => self.full[choice.rule as usize] += 1,
         }
-    }
-
-    fn accepted(&self, rule: usize) -> u64 {
-        self.accepted[rule].iter().sum()
     }
 
     fn missing(&self, kind: Kind, each_rule: u64) -> Vec<String> {
         let name = kind.name();
-        let mut names = Vec::new();
+        let mut names = self.accepted.missing(name);
         for rule in 1..=18 {
-            let times = self.accepted(rule);
+            let times = self.accepted.times(rule);
             if times < each_rule {
                 names.push(format!("R{rule} by {name}, {times} of {each_rule} times"));
-            }
-            for &found in possible_found(rule) {
-                if self.accepted[rule][found] == 0 {
-                    names.push(format!("R{rule}, found by {}, by {name}", FOUND[found]));
-                }
             }
             if FULL.contains(&rule) && self.full[rule] == 0 {
                 names.push(format!("no space under R{rule} by {name}"));
@@ -227,9 +242,8 @@ impl fmt::Display for Counts {
             .map(|&kind| (kind.name(), &self.closings[kind as usize]))
             .collect();
         closings::write(f, &columns)?;
-        if kinds.contains(&Kind::Start) {
-            self.write_rules(f)?;
-        }
+        self.write_editions(f, &kinds)?;
+        self.write_rules(f, &kinds)?;
         if kinds.contains(&Kind::Why) {
             self.rules[Kind::Why as usize].write_found(f)?;
         }
@@ -253,24 +267,40 @@ impl Counts {
         }
     }
 
-    fn write_rules(&self, f: &mut fmt::Formatter) -> fmt::Result {
-        writeln!(
-            f,
-            "rule             start finishing start   start refused (23, 24), finishing start"
-        )?;
-        let starts = &self.rules[Kind::Start as usize];
-        let finishing = &self.rules[Kind::FinishingStart as usize];
-        for rule in 1..=18 {
-            let name = format!("R{rule}");
-            write!(
-                f,
-                "{name:<7} {:>14} {:>15}",
-                starts.accepted(rule),
-                finishing.accepted(rule)
-            )?;
-            if FULL.contains(&rule) {
-                let (starts, finishing) = (starts.full[rule], finishing.full[rule]);
-                write!(f, " {starts:>15} {finishing:>15}")?;
+    /// The accepted calls of these kinds by edition.
+    fn write_editions(&self, f: &mut fmt::Formatter, kinds: &[Kind]) -> fmt::Result {
+        for edition in EDITIONS {
+            write!(f, "in {edition}   ")?;
+            for &kind in kinds {
+                let calls = self.editions[kind as usize][usize::from(edition - SIX)];
+                write!(f, " {calls:>15}")?;
+            }
+            writeln!(f)?;
+        }
+        if kinds.contains(&Kind::Launch) {
+            write!(f, "{}", self.launches)?;
+        }
+        Ok(())
+    }
+
+    /// The rules of those of these kinds that have them.
+    fn write_rules(&self, f: &mut fmt::Formatter, kinds: &[Kind]) -> fmt::Result {
+        let rules: Vec<(&str, &Rules)> = kinds
+            .iter()
+            .filter_map(|&kind| Some((kind.name(), self.rules(kind)?)))
+            .collect();
+        let columns: Vec<_> = rules
+            .iter()
+            .map(|(name, rules)| (*name, &rules.accepted))
+            .collect();
+        if columns.is_empty() {
+            return Ok(());
+        }
+        by_edition::write(f, &columns)?;
+        for rule in FULL {
+            write!(f, "refused (23, 24) under {:<3}", format!("R{rule}"))?;
+            for (name, rules) in &rules {
+                write!(f, " {name}: {}", rules.full[rule])?;
             }
             writeln!(f)?;
         }
@@ -282,18 +312,11 @@ impl Rules {
     /// The rules by what found the task.
     fn write_found(&self, f: &mut fmt::Formatter) -> fmt::Result {
         let [none, root, affinity] = FOUND;
-        writeln!(
-            f,
-            "why: rule, found by{none:>12} {root:>15} {affinity:>15}   refused (23, 24)"
-        )?;
+        writeln!(f, "why: rule, found by{none:>12} {root:>15} {affinity:>15}")?;
         for rule in 1..=18 {
             let name = format!("R{rule}");
-            let [none, root, affinity] = self.accepted[rule];
-            write!(f, "{name:<19}{none:>12} {root:>15} {affinity:>15}")?;
-            if FULL.contains(&rule) {
-                write!(f, " {:>18}", self.full[rule])?;
-            }
-            writeln!(f)?;
+            let [none, root, affinity] = self.accepted.found(rule);
+            writeln!(f, "{name:<19}{none:>12} {root:>15} {affinity:>15}")?;
         }
         Ok(())
     }

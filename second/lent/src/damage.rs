@@ -14,11 +14,11 @@ const LONGEST: usize = 0xffff;
 /// Numbers at and beyond the limits.
 pub const EXTREMES: [u8; 12] = [0, 1, 2, 15, 16, 17, 31, 32, 33, 64, 254, 255];
 
-/// A body with the trailer that states its length, n and m.
-pub fn with_trailer(mut body: Vec<u8>, n: u8, main: u8) -> Vec<u8> {
+/// A body with the trailer that states its length, n, m and the edition.
+pub fn with_trailer(mut body: Vec<u8>, [n, main, edition]: [u8; 3]) -> Vec<u8> {
     let length = body.len() as u16;
     body.extend(length.to_be_bytes());
-    body.extend([n, main, 0x08, 0x42]);
+    body.extend([n, main, edition, 0x42]);
     body
 }
 
@@ -33,18 +33,18 @@ pub fn noise(random: &mut Random, most: u64) -> Vec<u8> {
 /// a changed session.
 pub fn image(random: &mut Random, listed: &Listed, session: &Session) -> Vec<u8> {
     let image = session.image();
-    match random.below(8) {
+    match random.below(9) {
         0 => resized(random, image),
         1 => rewritten(random, image),
         2 => with_field(random, image),
         3 => with_other_body(random, image),
         4 => {
             let body = noise(random, 700);
-            let n = random.byte(18);
-            let main = random.byte(18);
-            with_trailer(body, n, main)
+            let fields = any_fields(random);
+            with_trailer(body, fields)
         }
         5 => noise(random, 700),
+        6 => with_edition(random, image),
         _ => self::session(random, listed, session).image(),
     }
 }
@@ -84,6 +84,18 @@ fn rewritten(random: &mut Random, mut image: Vec<u8>) -> Vec<u8> {
     image
 }
 
+/// Any n and m up to beyond the limits, and a byte for the edition.
+pub fn any_fields(random: &mut Random) -> [u8; 3] {
+    [random.byte(18), random.byte(18), random.edition_byte()]
+}
+
+/// The edition set to another one, or to a byte that is none.
+fn with_edition(random: &mut Random, mut image: Vec<u8>) -> Vec<u8> {
+    let place = image.len() - 2;
+    image[place] = random.edition_byte();
+    image
+}
+
 /// One byte of the trailer, or all of L, set to an extreme.
 fn with_field(random: &mut Random, mut image: Vec<u8>) -> Vec<u8> {
     let trailer = image.len() - TRAILER;
@@ -101,14 +113,14 @@ fn with_field(random: &mut Random, mut image: Vec<u8>) -> Vec<u8> {
 /// A changed body whose length is stated rightly.
 fn with_other_body(random: &mut Random, mut image: Vec<u8>) -> Vec<u8> {
     let trailer = image.len() - TRAILER;
-    let (n, main) = (image[trailer + 2], image[trailer + 3]);
+    let fields = [2, 3, 4].map(|field| image[trailer + field]);
     image.truncate(trailer);
     if random.percent(50) && !image.is_empty() {
         image = rewritten(random, image);
     } else {
         image = resized(random, image);
     }
-    with_trailer(image, n, main)
+    with_trailer(image, fields)
 }
 
 /// Images of 65541 bytes and more: a body of the greatest length, rightly
@@ -116,7 +128,8 @@ fn with_other_body(random: &mut Random, mut image: Vec<u8>) -> Vec<u8> {
 pub fn long_images(random: &mut Random, session: &Session) -> Vec<Vec<u8>> {
     let image = session.image();
     let fill = random.one_of(&[0, 1, 255]);
-    let mut images = vec![with_trailer(vec![fill; LONGEST], random.byte(18), 0)];
+    let fields = any_fields(random);
+    let mut images = vec![with_trailer(vec![fill; LONGEST], fields)];
     for more in [LONGEST, LONGEST + 1, LONGEST + 2, 2 * (LONGEST + 1)] {
         images.push([&vec![fill; more], &image[..]].concat());
         images.push([&image[..], &vec![fill; more]].concat());
@@ -133,6 +146,10 @@ pub fn session(random: &mut Random, listed: &Listed, from: &Session) -> Session 
         _ => random.byte(u16::from(listed.screens)),
     };
     let count = session.tasks.len();
+    if random.percent(10) {
+        session.edition = random.edition_byte();
+        return session;
+    }
     if count == 0 {
         session.main = usize::from(number);
         return session;
@@ -182,7 +199,7 @@ pub fn stored(random: &mut Random, listed: &Listed, from: &Session) -> Stored {
     let changes = random.one_of(&[1, 1, 1, 2, 40]);
     for _ in 0..changes {
         let place = match random.below(4) {
-            0 => SESSION - 1 - random.below(2) as usize,
+            0 => SESSION - 1 - random.below(3) as usize,
             _ => random.below(SESSION as u64) as usize,
         };
         bytes[place] = match random.below(3) {

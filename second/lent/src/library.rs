@@ -4,9 +4,9 @@
 use crate::stored::Stored;
 
 /// The number of the interface that is declared here.
-const ABI: u32 = 2;
+const ABI: u32 = 3;
 
-/// What a call answers: seven numbers.
+/// What a call answers: eight numbers.
 #[repr(C)]
 #[derive(Clone, Copy)]
 pub struct Answer {
@@ -17,6 +17,7 @@ pub struct Answer {
     tasks: u8,
     main: u8,
     closed: u8,
+    edition: u8,
 }
 
 /// What save gives: the refusal's number, or 0, and the image's length.
@@ -41,7 +42,12 @@ pub struct Reason {
 extern "C" {
     fn milchkompass_abi() -> u32;
 
-    fn milchkompass_launch(table: *const u8, table_length: usize, session: *mut Stored) -> Answer;
+    fn milchkompass_launch(
+        table: *const u8,
+        table_length: usize,
+        session: *mut Stored,
+        edition: u8,
+    ) -> Answer;
 
     fn milchkompass_start(
         table: *const u8,
@@ -89,8 +95,8 @@ extern "C" {
 }
 
 impl Answer {
-    /// The seven numbers in their order.
-    fn numbers(self) -> [u8; 7] {
+    /// The eight numbers in their order.
+    fn numbers(self) -> [u8; 8] {
         [
             self.refusal,
             self.screen,
@@ -99,6 +105,7 @@ impl Answer {
             self.tasks,
             self.main,
             self.closed,
+            self.edition,
         ]
     }
 }
@@ -113,28 +120,28 @@ pub fn expect_abi() {
 // In each function below the pointers and lengths are those of whole slices and
 // of one session, and the library keeps none of them.
 
-pub fn launch(table: &[u8], session: &mut Stored) -> [u8; 7] {
-    unsafe { milchkompass_launch(table.as_ptr(), table.len(), session) }.numbers()
+pub fn launch(table: &[u8], session: &mut Stored, edition: u8) -> [u8; 8] {
+    unsafe { milchkompass_launch(table.as_ptr(), table.len(), session, edition) }.numbers()
 }
 
-pub fn start(table: &[u8], session: &mut Stored, screen: u8, flags: u32) -> [u8; 7] {
+pub fn start(table: &[u8], session: &mut Stored, screen: u8, flags: u32) -> [u8; 8] {
     unsafe { milchkompass_start(table.as_ptr(), table.len(), session, screen, flags) }.numbers()
 }
 
-pub fn finishing_start(table: &[u8], session: &mut Stored, screen: u8, flags: u32) -> [u8; 7] {
+pub fn finishing_start(table: &[u8], session: &mut Stored, screen: u8, flags: u32) -> [u8; 8] {
     unsafe { milchkompass_finish_start(table.as_ptr(), table.len(), session, screen, flags) }
         .numbers()
 }
 
-pub fn back(table: &[u8], session: &mut Stored) -> [u8; 7] {
+pub fn back(table: &[u8], session: &mut Stored) -> [u8; 8] {
     unsafe { milchkompass_back(table.as_ptr(), table.len(), session) }.numbers()
 }
 
-pub fn look(table: &[u8], session: &mut Stored) -> [u8; 7] {
+pub fn look(table: &[u8], session: &mut Stored) -> [u8; 8] {
     unsafe { milchkompass_look(table.as_ptr(), table.len(), session) }.numbers()
 }
 
-pub fn restore(table: &[u8], session: &mut Stored, image: &[u8]) -> [u8; 7] {
+pub fn restore(table: &[u8], session: &mut Stored, image: &[u8]) -> [u8; 8] {
     unsafe {
         milchkompass_restore(
             table.as_ptr(),

@@ -1,5 +1,6 @@
 //! Random sessions that are sound under a table.
 
+use second::edition::EDITIONS;
 use second::random::Random;
 use second::session::{MAX_HEIGHT, MAX_TASKS};
 use second::table::ALL_FLAGS;
@@ -61,7 +62,7 @@ pub fn sound(random: &mut Random, listed: &Listed) -> Session {
     }
 }
 
-/// A session of up to these many tasks, with heights between these two where
+/// A session of any edition and up to these many tasks, with heights between these two where
 /// the root is not single-instance.
 pub fn built(
     random: &mut Random,
@@ -93,6 +94,9 @@ pub fn built(
         .filter(|&place| place == 0 || session.tasks[place - 1].root == table.main())
         .collect();
     session.main = random.one_of(&places);
+    if !session.is_empty() {
+        session.edition = random.one_of(&EDITIONS);
+    }
     session
 }
 
@@ -111,7 +115,7 @@ fn played(random: &mut Random, listed: &Listed) -> Session {
         let kind = random.below(10);
         // A refused call leaves the session, which is as good.
         let _ = match kind {
-            _ if session.is_empty() => session.launch(table),
+            _ if session.is_empty() => session.launch(table, random.edition_byte()),
             0 => session.back(),
             1 => session.finishing_start(table, screen, flags),
             2..=5 => session.start(table, screen, 0),

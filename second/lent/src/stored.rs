@@ -3,12 +3,13 @@
 
 use std::mem;
 
+use second::edition::EIGHT;
 use second::session::{MAX_HEIGHT, MAX_TASKS};
 use second::{Screen, Session, Task};
 
 /// How many bytes a stored task and a stored session are.
 pub const TASK: usize = 2 + MAX_HEIGHT;
-pub const SESSION: usize = MAX_TASKS * TASK + 2;
+pub const SESSION: usize = MAX_TASKS * TASK + 3;
 
 /// A task: its screens are stored bottom first.
 #[repr(C)]
@@ -26,6 +27,7 @@ pub struct Stored {
     pub tasks: [StoredTask; MAX_TASKS],
     pub n: u8,
     pub main: u8,
+    pub edition: u8,
 }
 
 const BLANK: StoredTask = StoredTask {
@@ -39,6 +41,7 @@ impl Stored {
         tasks: [BLANK; MAX_TASKS],
         n: 0,
         main: 0,
+        edition: EIGHT,
     };
 
     /// The session with zeros in what it does not use. `None` if there is no
@@ -56,6 +59,7 @@ impl Stored {
         }
         stored.n = session.tasks.len() as u8;
         stored.main = u8::try_from(session.main).ok()?;
+        stored.edition = session.edition;
         Some(stored)
     }
 
@@ -65,13 +69,14 @@ impl Stored {
         let session = Session {
             tasks: self.used().iter().map(StoredTask::view).collect(),
             main: usize::from(self.main),
+            edition: self.edition,
         };
         if Stored::hold(&session).as_ref() == Some(self) {
             session
         } else {
             Session {
-                tasks: Vec::new(),
                 main: usize::MAX,
+                ..Session::fresh()
             }
         }
     }

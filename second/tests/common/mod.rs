@@ -7,13 +7,30 @@ use second::{Session, Task};
 /// affinity 1; 3, single-task, and 5 have affinity 2.
 pub const T: [u8; 14] = [6, 0, 0, 1, 0, 1, 1, 1, 2, 2, 3, 1, 0, 2];
 
-/// A session from its main place and its tasks, screens top first.
+/// The answer of a look at an empty session.
+pub const EMPTY: [u8; 8] = [0, 0, 0, 0, 0, 0, 0, 8];
+
+/// What a reason's task is found by.
+pub const NONE: u8 = 0;
+pub const ROOT: u8 = 1;
+pub const AFFINITY: u8 = 2;
+
+/// A session of edition 8 from its main place and its tasks, screens top first.
 pub fn session(main: usize, tasks: &[(u8, &[u8])]) -> Session {
+    session_in(8, main, tasks)
+}
+
+/// The same of any edition.
+pub fn session_in(edition: u8, main: usize, tasks: &[(u8, &[u8])]) -> Session {
     let tasks = tasks
         .iter()
         .map(|&(root, screens)| Task::new(root, screens))
         .collect();
-    Session { tasks, main }
+    Session {
+        tasks,
+        main,
+        edition,
+    }
 }
 
 /// How many screens stand in a session.

@@ -117,8 +117,9 @@ fn expected(mut bytes: &[u8], writing: Writing, counts: &mut Counts) -> (Vec<u8>
     };
     let mut records = 0;
     for record in bytes.chunks(RECORD) {
+        let edition = player.session.edition;
         let played = player.record(record);
-        counts.add(&player, record, &played);
+        counts.add(edition, &player, record, &played);
         writing(&mut out, &played);
         records += 1;
     }

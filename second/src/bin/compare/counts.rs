@@ -1,19 +1,21 @@
-//! How often each rule and each refusal came up, how tasks were found, those of
-//! screens of affinity 0 too, and how many screens were closed.
+//! How often each rule came up in each edition, and each refusal, how tasks were
+//! found, those of screens of affinity 0 too, and how many screens were closed.
 
 use std::fmt;
 
+use second::by_edition::{self, ByEdition, Launches};
 use second::closings::{self, Closings};
 use second::no_affinity::NoAffinity;
 use second::play::{Played, Player};
 
 /// The calls by their kinds, from 1.
 const KINDS: [&str; 5] = ["launch", "start", "finishing start", "Back", "look"];
+const LAUNCH: u8 = 1;
 const START: usize = 2;
 const FINISHING_START: usize = 3;
 
 /// The refusals that a player can give.
-const REFUSALS: [u8; 9] = [1, 2, 3, 4, 9, 21, 22, 23, 24];
+const REFUSALS: [u8; 10] = [1, 2, 3, 4, 9, 21, 22, 23, 24, 30];
 
 /// The rules under which a start can be refused for want of space.
 const FULL: [(u8, u8); 8] = [
@@ -27,31 +29,33 @@ const FULL: [(u8, u8); 8] = [
     (24, 17),
 ];
 
-/// What a task was found by, in the order of a reason's numbers.
-const FOUND: [&str; 3] = ["none", "root", "affinity"];
-
 #[derive(Default)]
 pub struct Counts {
     /// Accepted calls by kind less 1, by rule and by what they closed.
     closings: [Closings; 5],
-    /// Accepted starts of both kinds by what found their task.
-    found: [u64; 3],
-    /// Those of screens of affinity 0.
+    /// Accepted launches.
+    launches: Launches,
+    /// Accepted starts and finishing starts by edition.
+    starts: [ByEdition; 2],
+    /// Those of both kinds of screens of affinity 0.
     no_affinity: NoAffinity,
     /// Lines by refusal.
-    refusals: [u64; 25],
+    refusals: [u64; 31],
     /// Refusals 23 and 24 by the rule that needed the space.
     full: [u64; 19],
 }
 
 impl Counts {
-    /// Counts one record, after it was played.
-    pub fn add(&mut self, player: &Player, record: &[u8], played: &Played) {
+    /// Counts one record, after it was played, and the edition before that.
+    pub fn add(&mut self, edition: u8, player: &Player, record: &[u8], played: &Played) {
         let refusal = played.answer.refusal;
         self.refusals[usize::from(refusal)] += 1;
         if refusal == 0 {
-            self.add_accepted(played);
+            self.add_accepted(edition, player, played);
             self.add_no_affinity(player, record, played);
+            if played.kind == LAUNCH {
+                self.launches.add(record[1]);
+            }
         }
         if refusal == 23 || refusal == 24 {
             // The session is as it was, so the rule can still be asked for.
@@ -63,12 +67,14 @@ impl Counts {
         }
     }
 
-    fn add_accepted(&mut self, played: &Played) {
+    fn add_accepted(&mut self, edition: u8, player: &Player, played: &Played) {
         let rule = played.reason.map_or(0, |reason| reason.rule);
         let closings = &mut self.closings[usize::from(played.kind) - 1];
         closings.add(rule, played.answer.closed);
         if let Some(reason) = played.reason {
-            self.found[usize::from(reason.found)] += 1;
+            // R9, for which it counts, leaves the main place.
+            let main = player.session.main;
+            self.starts[usize::from(played.kind) - START].add(edition, main, reason);
         }
     }
 
@@ -79,6 +85,15 @@ impl Counts {
             let behind = player.session.tasks.get(1..).unwrap_or(&[]);
             self.no_affinity.add(table, record[1], reason, behind);
         }
+    }
+
+    /// The two kinds of start by name.
+    fn columns(&self) -> [(&'static str, &ByEdition); 2] {
+        let [starts, finishing] = &self.starts;
+        [
+            (KINDS[START - 1], starts),
+            (KINDS[FINISHING_START - 1], finishing),
+        ]
     }
 
     /// The accepted calls of this kind.
@@ -96,11 +111,10 @@ impl Counts {
         let (starts, finishing) = (self.of_kind(START), self.of_kind(FINISHING_START));
         let mut names = starts.missing("a start", closings::by_start);
         names.extend(finishing.missing("a finishing start", closings::by_finishing_start));
-        for (found, name) in FOUND.into_iter().enumerate() {
-            if self.found[found] == 0 {
-                names.push(format!("found by {name}"));
-            }
+        for (kind, starts) in self.columns() {
+            names.extend(starts.missing(kind));
         }
+        names.extend(self.launches.missing());
         names.extend(self.no_affinity.missing());
         for refusal in REFUSALS {
             if self.refusals[usize::from(refusal)] == 0 {
@@ -118,19 +132,10 @@ impl Counts {
 
 impl fmt::Display for Counts {
     fn fmt(&self, f: &mut fmt::Formatter) -> fmt::Result {
-        writeln!(f, "rule         starts    finishing")?;
-        for rule in 1..=18 {
-            let name = format!("R{rule}");
-            let starts = self.of_kind(START).times(rule);
-            let finishing = self.of_kind(FINISHING_START).times(rule);
-            writeln!(f, "{name:<4} {starts:>14} {finishing:>12}")?;
-        }
+        by_edition::write(f, &self.columns())?;
+        write!(f, "{}", self.launches)?;
         let columns: Vec<_> = KINDS.into_iter().zip(&self.closings).collect();
         closings::write(f, &columns)?;
-        writeln!(f, "found by     starts")?;
-        for (name, starts) in FOUND.into_iter().zip(self.found) {
-            writeln!(f, "{name:<8} {starts:>10}")?;
-        }
         write!(f, "{}", self.no_affinity)?;
         writeln!(f, "refusal       lines")?;
         for refusal in REFUSALS {

@@ -1,37 +1,56 @@
-//! Tasks of each height, cleared and emptied from inside and from another task,
-//! so that each number of screens closes that a rule can close.
+//! Tasks of each height, cleared, emptied and reordered from inside and from
+//! another task, in each edition, so that each number of screens closes that a
+//! rule can close.
 
+use second::edition::EDITIONS;
+use second::play::RECORD;
 use second::session::MAX_HEIGHT;
-use second::table::{CLEAR_TASK, CLEAR_TOP, NEW_TASK, SINGLE_TOP};
+use second::table::{CLEAR_TASK, CLEAR_TOP, NEW_TASK, REORDER_TO_FRONT, SINGLE_TOP};
 
 use crate::check::{Checker, Difference};
-use crate::make::{record, T};
+use crate::make::{launch, record, T};
 use crate::sweep::Batch;
 
-/// With these, the start of a task's root at its bottom clears or empties it.
-const WORDS: [u32; 3] = [CLEAR_TOP, NEW_TASK | CLEAR_TOP, NEW_TASK | CLEAR_TASK];
+/// With these, the start of a task's root at its bottom clears or empties it, or
+/// takes the root to the top.
+const WORDS: [u32; 4] = [
+    CLEAR_TOP,
+    NEW_TASK | CLEAR_TOP,
+    NEW_TASK | CLEAR_TASK,
+    REORDER_TO_FRONT,
+];
 
 /// The path to a task of this root and height, in front, with the main task
-/// behind it.
-fn path(root: u8, height: usize) -> Vec<u8> {
-    let launch = record(1, 0, 0);
-    let task = record(2, root, NEW_TASK);
+/// behind it if it is not that task.
+fn path(edition: u8, root: u8, height: usize) -> Vec<u8> {
+    let launch = launch(edition);
+    let task = match root {
+        0 => Vec::new(),
+        _ => record(2, root, NEW_TASK).to_vec(),
+    };
     let above = record(2, 1, 0).repeat(height - 1);
     [&launch[..], &task, &above].concat()
 }
 
+/// The start that brings another task to the front of one of this root.
+fn away(root: u8) -> [u8; RECORD] {
+    match root {
+        0 => record(2, 5, NEW_TASK),
+        _ => record(2, 0, NEW_TASK | SINGLE_TOP),
+    }
+}
+
 pub fn heights(checker: &mut Checker) -> Result<u64, Box<Difference>> {
     let mut batch = Batch::new("heights", T.to_vec());
-    let to_main = record(2, 0, NEW_TASK | SINGLE_TOP);
-    for height in 1..=MAX_HEIGHT {
-        // 3 is single-task and 5 is standard; the main task has another affinity.
-        for root in [3, 5] {
-            let inside = path(root, height);
-            let outside = [&inside[..], &to_main].concat();
-            for path in [inside, outside] {
-                let session = batch.reached(&path);
-                for flags in WORDS {
-                    for kind in [2, 3] {
+    for edition in EDITIONS {
+        for height in 1..=MAX_HEIGHT {
+            // 0 is the main screen, 3 single-task; 3 and 5 have another affinity.
+            for root in [0, 3, 5] {
+                let inside = path(edition, root, height);
+                let outside = [&inside[..], &away(root)].concat();
+                for path in [inside, outside] {
+                    let session = batch.reached(&path);
+                    for (flags, kind) in WORDS.iter().flat_map(|&flags| [(flags, 2), (flags, 3)]) {
                         batch.call(checker, &session, &path, record(kind, root, flags))?;
                     }
                 }

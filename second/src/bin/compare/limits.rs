@@ -1,17 +1,18 @@
 //! Calls at the limits: from sessions with a task of 31 or 32 screens, or with
 //! 15 or 16 tasks, every screen with all 64 flag words by a start and by a
-//! finishing start, and then Backs until the session is empty.
+//! finishing start, and then Backs until the session is empty; in each edition.
 
+use second::edition::EDITIONS;
 use second::table::{MULTIPLE_TASK, NEW_TASK};
 
 use crate::check::{Checker, Difference};
-use crate::make::{record, T};
+use crate::make::{launch, record, T};
 use crate::sweep::Batch;
 
 /// The paths to the sessions, under a table like T: screens 0, 1 and 5 are
 /// standard, 2 single-top, 3 single-task, 4 single-instance.
-fn paths() -> Vec<Vec<u8>> {
-    let launch = record(1, 0, 0);
+fn paths(edition: u8) -> Vec<Vec<u8>> {
+    let launch = launch(edition);
     let start = |b| record(2, b, 0);
     let apart = |b| record(2, b, NEW_TASK);
     let split = |b| record(2, b, NEW_TASK | MULTIPLE_TASK);
@@ -30,6 +31,9 @@ fn paths() -> Vec<Vec<u8>> {
         add(&[&launch, &split(5), &push(0), &apart(0)]);
         add(&[&launch, &split(0), &push(1)]);
         add(&[&launch, &split(1), &push(0), &start(4)]);
+        // A root gone from its task, and a single-top one.
+        add(&[&launch, &apart(5), &record(3, 1, 0), &push(1)]);
+        add(&[&launch, &split(2), &push(0)]);
         // A single-task root, standing in its task and gone from it.
         add(&[&launch, &start(3), &push(1)]);
         add(&[&launch, &start(3), &record(3, 1, 0), &push(1)]);
@@ -55,7 +59,7 @@ pub fn limits(checker: &mut Checker) -> Result<u64, Box<Difference>> {
     let mut calls = 0;
     for table in [T, alike, none] {
         let mut batch = Batch::new("limits", table.to_vec());
-        for path in paths() {
+        for path in EDITIONS.into_iter().flat_map(paths) {
             let session = batch.reached(&path);
             batch.all_calls(checker, &session, &path)?;
         }

@@ -7,9 +7,10 @@
 //! one that writes the reason under each start. At the first difference the
 //! smallest example that can be found is printed and the exit code is 1. With
 //! `--sweep`, every call from every small session follows (see `sweep`). At the
-//! end it prints how often each rule and each refusal came up and how many screens
-//! were closed, and exits with 1 if a rule, a refusal or a number that a rule can
-//! close never came up.
+//! end it prints how often each rule came up in each edition, and each refusal, and
+//! how many screens were closed, and exits with 1 if an edition, a rule in an
+//! edition where it can occur, a refusal or a number that a rule can close never
+//! came up.
 
 mod check;
 mod counts;

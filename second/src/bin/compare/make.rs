@@ -1,6 +1,7 @@
 //! Makes inputs: a fixed set with every kind of bad table, cut and bad record,
 //! and random ones of several styles.
 
+use second::edition::EDITIONS;
 use second::play::{Player, RECORD};
 use second::random::Random;
 use second::table::{flag_word, ALL_FLAGS, FLAGS, MULTIPLE_TASK, NEW_TASK};
@@ -10,6 +11,13 @@ use crate::check::Input;
 /// The table of the paper's examples.
 pub const T: [u8; 14] = [6, 0, 0, 1, 0, 1, 1, 1, 2, 2, 3, 1, 0, 2];
 
+const LAUNCH: u8 = 1;
+
+/// The launch that names an edition by this byte.
+pub fn launch(edition: u8) -> [u8; RECORD] {
+    record(LAUNCH, edition, 0)
+}
+
 pub fn record(kind: u8, screen: u8, flags: u32) -> [u8; RECORD] {
     let [a, b, c, d] = flags.to_be_bytes();
     [kind, screen, a, b, c, d]
@@ -17,93 +25,112 @@ pub fn record(kind: u8, screen: u8, flags: u32) -> [u8; RECORD] {
 
 /// The inputs that are the same for every seed.
 pub fn fixed() -> Vec<Input> {
-    let launch = record(1, 0, 0).to_vec();
-    let some = [
-        record(1, 0, 0),
-        record(2, 1, 0),
-        record(3, 5, 0),
-        record(4, 0, 0),
-    ]
-    .concat();
-    let mut inputs = Vec::new();
-    let mut add = |what: &str, table: &[u8], records: &[u8]| {
-        let (table, records) = (table.to_vec(), records.to_vec());
-        inputs.push(Input {
+    let mut inputs = Inputs::default();
+    inputs.add_cut_tables();
+    inputs.add_bad_tables();
+    inputs.add_cut_records();
+    inputs.add("every kind, screen and flag bit", &T, &every_byte());
+    inputs.add("every edition byte", &T, &editions());
+    inputs.0
+}
+
+#[derive(Default)]
+struct Inputs(Vec<Input>);
+
+impl Inputs {
+    fn add(&mut self, what: &str, table: &[u8], records: &[u8]) {
+        self.0.push(Input {
             what: what.to_string(),
-            table,
-            records,
+            table: table.to_vec(),
+            records: records.to_vec(),
         });
-    };
+    }
 
-    add("empty input", &[], &[]);
-    add("a table alone", &T, &[]);
-    for n in [0, 65, 66, 128, 255] {
-        add("N bad, nothing else", &[n], &[]);
-        let mut table = vec![0; 2 + 2 * usize::from(n)];
-        table[0] = n;
-        add("N bad", &table, &some);
-    }
-    let mut largest = vec![0; 130];
-    largest[0] = 64;
-    for length in 1..T.len() {
-        add("cut table", &T[..length], &[]);
-    }
-    for length in [1, 2, 64, 128, 129] {
-        add("cut largest table", &largest[..length], &[]);
-    }
-    largest[1] = 63;
-    add("largest table", &largest, &some);
-
-    // Tables whose content is bad.
-    let mut bad = Vec::new();
-    for main in [6, 7, 64, 255] {
-        let mut table = T;
-        table[1] = main;
-        bad.push(table);
-    }
-    for screen in 0..6 {
-        for mode in [4, 255] {
-            let mut table = T;
-            table[2 + 2 * screen] = mode;
-            bad.push(table);
+    /// Tables that are cut or have a bad N, and the largest.
+    fn add_cut_tables(&mut self) {
+        self.add("empty input", &[], &[]);
+        self.add("a table alone", &T, &[]);
+        for n in [0, 65, 66, 128, 255] {
+            self.add("N bad, nothing else", &[n], &[]);
+            let mut table = vec![0; 2 + 2 * usize::from(n)];
+            table[0] = n;
+            self.add("N bad", &table, &some());
         }
-    }
-    let kinds: Vec<u8> = (0..=255)
-        .flat_map(|kind| record(kind, kind, u32::MAX))
-        .collect();
-    for table in &bad {
-        add("bad content of a table", table, &kinds);
+        let mut largest = vec![0; 130];
+        largest[0] = 64;
+        for length in 1..T.len() {
+            self.add("cut table", &T[..length], &[]);
+        }
+        for length in [1, 2, 64, 128, 129] {
+            self.add("cut largest table", &largest[..length], &[]);
+        }
+        largest[1] = 63;
+        self.add("largest table", &largest, &some());
     }
 
-    // Cut last records of each length, under a good and a bad table.
-    for kind in [0, 1, 2, 3, 4, 5, 6, 50, 255] {
-        for length in 1..RECORD {
-            let cut = &record(kind, 1, 0)[..length];
-            add("cut record", &T, &[&some, cut].concat());
-            add("cut record alone", &T, cut);
-            add(
-                "cut record under a bad table",
-                &bad[0],
-                &[&some, cut].concat(),
-            );
+    /// Tables whose content is bad.
+    fn add_bad_tables(&mut self) {
+        for main in [6, 7, 64, 255] {
+            self.add("bad main screen", &with_byte(1, main), &every_kind());
+        }
+        for screen in 0..6 {
+            for mode in [4, 255] {
+                let table = with_byte(2 + 2 * screen, mode);
+                self.add("bad mode", &table, &every_kind());
+            }
         }
     }
 
-    // Every kind, every screen and every flag bit, on an empty session and not.
+    /// Cut last records of each length, under a good and a bad table.
+    fn add_cut_records(&mut self) {
+        let bad = with_byte(1, 6);
+        for kind in [0, 1, 2, 3, 4, 5, 6, 50, 255] {
+            for length in 1..RECORD {
+                let cut = &record(kind, 1, 0)[..length];
+                let last = [&some(), cut].concat();
+                self.add("cut record", &T, &last);
+                self.add("cut record alone", &T, cut);
+                self.add("cut record under a bad table", &bad, &last);
+            }
+        }
+    }
+}
+
+/// T with one byte changed.
+fn with_byte(place: usize, byte: u8) -> [u8; 14] {
+    let mut table = T;
+    table[place] = byte;
+    table
+}
+
+/// A few records.
+fn some() -> Vec<u8> {
+    [launch(0), record(2, 1, 0), record(3, 5, 0), record(4, 0, 0)].concat()
+}
+
+/// A record of every kind byte.
+fn every_kind() -> Vec<u8> {
+    let kinds = (0..=255).map(|kind| record(kind, kind, u32::MAX));
+    kinds.flatten().collect()
+}
+
+/// Every kind, every screen and every flag bit, on an empty session and not.
+fn every_byte() -> Vec<u8> {
+    let launched = launch(0);
     let mut all = Vec::new();
-    for begin in [&launch[..0], &launch] {
+    for begin in [&launched[..0], &launched] {
         all.extend(begin);
-        all.extend(&kinds);
+        all.extend(every_kind());
         for kind in [2, 3] {
             for screen in 0..=255 {
                 all.extend(record(kind, screen, 0));
                 all.extend(record(kind, screen, 1));
-                all.extend(record(1, 0, 0));
+                all.extend(launch(0));
             }
             for bit in 0..32 {
                 all.extend(record(kind, 1, 1 << bit));
                 all.extend(record(kind, 1, ALL_FLAGS | 1 << bit));
-                all.extend(record(1, 0, 0));
+                all.extend(launch(0));
             }
         }
         for kind in [1, 4, 5] {
@@ -111,8 +138,23 @@ pub fn fixed() -> Vec<Input> {
         }
         all.extend(record(4, 0, 0).repeat(700));
     }
-    add("every kind, screen and flag bit", &T, &all);
-    inputs
+    all
+}
+
+/// Launches with every edition byte, on an empty session and on one of each
+/// edition.
+fn editions() -> Vec<u8> {
+    let mut records = Vec::new();
+    for present in EDITIONS {
+        for edition in 0..=255 {
+            // Where the first is refused the second is too, and Back.
+            let same = launch(edition).repeat(2);
+            records.extend([&same[..], &record(5, 0, 0), &record(4, 0, 0)].concat());
+            records.extend([launch(present), launch(edition), record(5, 0, 0)].concat());
+            records.extend(record(4, 0, 0).repeat(2));
+        }
+    }
+    records
 }
 
 /// How a stretch of records is made.
@@ -205,11 +247,13 @@ fn deep_mood(random: &mut Random, mut mood: Mood) -> Mood {
 /// A record for a session that is empty or not.
 fn any_record(random: &mut Random, mood: &Mood, n: u8, empty: bool) -> [u8; RECORD] {
     let kind = if empty && random.percent(80) {
-        1
+        LAUNCH
     } else {
         1 + random.weighted(&mood.kinds) as u8
     };
-    let screen = if random.percent(mood.favourite) {
+    let screen = if kind == LAUNCH {
+        random.edition_byte()
+    } else if random.percent(mood.favourite) {
         random.one_of(&mood.favourites)
     } else {
         random.byte(u16::from(n))

@@ -1,9 +1,10 @@
-//! The sweep: under every table of two or three screens, every session of up to
-//! 3 tasks of height up to 2 that plain starts (no flag set) and Backs reach
-//! from launch; from each of them every screen with all 64 flag words by a start
-//! and by a finishing start. Under tables of two screens the starts that reach a
-//! session may have any flags; with three screens those sessions are about three
-//! million.
+//! The sweep: under every table of two or three screens and in each edition, every
+//! session of a few tasks of height up to 2 that plain starts (no flag set) and
+//! Backs reach from launch; from each of them every screen with all 64 flag words
+//! by a start and by a finishing start. Under tables of two screens the starts that
+//! reach a session may have any flags; with three screens those sessions are about
+//! three million. A few tasks are up to 3 in edition 8 and, with three screens, in
+//! 6; else up to 2, which keeps the sweep short.
 //!
 //! A player knows only a fresh session, so each session is reached by its path
 //! of records; after the call come Backs until the session is empty, so that
@@ -12,16 +13,25 @@
 use std::collections::HashSet;
 use std::fmt;
 
+use second::edition::{EDITIONS, EIGHT, SIX};
 use second::play::{Player, RECORD};
 use second::table::flag_word;
 use second::{Session, Table};
 
 use crate::check::{Checker, Difference, Input};
-use crate::make::record;
+use crate::make::{launch, record};
 
-/// The largest sessions from which calls are made.
-const TASKS: usize = 3;
+/// The height of the largest tasks from which calls are made.
 const HEIGHT: usize = 2;
+
+/// How many tasks the largest sessions have from which calls are made.
+fn most_tasks(screens: u8, edition: u8) -> usize {
+    match (screens, edition) {
+        (_, EIGHT) | (3, SIX) => 3,
+        _ => 2,
+    }
+}
+
 /// About how many bytes of records are played in one run.
 const BATCH: usize = 6_000_000;
 
@@ -43,9 +53,11 @@ impl fmt::Display for Swept {
     }
 }
 
-/// The sessions that are small enough, each with a shortest path to it.
-fn reach(table: &Table, screens: u8) -> Vec<(Session, Vec<u8>)> {
-    let launch = record(1, 0, 0);
+/// The sessions of an edition that are small enough, each with a shortest path to
+/// it.
+fn reach(table: &Table, screens: u8, edition: u8) -> Vec<(Session, Vec<u8>)> {
+    let tasks = most_tasks(screens, edition);
+    let launch = launch(edition);
     let launched = session_after(table, &Session::fresh(), &launch);
     let mut seen = HashSet::from([launched.clone()]);
     let mut reached = vec![(launched, launch.to_vec())];
@@ -56,7 +68,7 @@ fn reach(table: &Table, screens: u8) -> Vec<(Session, Vec<u8>)> {
         let starts = calls(screens).filter(|call| call[0] == 2 && (screens == 2 || is_plain(call)));
         for step in starts.chain([record(4, 0, 0)]) {
             let session = session_after(table, &from, &step);
-            if is_small(&session) && seen.insert(session.clone()) {
+            if is_small(&session, tasks) && seen.insert(session.clone()) {
                 reached.push((session, [&path[..], &step].concat()));
             }
         }
@@ -68,46 +80,62 @@ fn is_plain(call: &[u8; RECORD]) -> bool {
     call[2..] == [0; 4]
 }
 
-fn is_small(session: &Session) -> bool {
-    (1..=TASKS).contains(&session.tasks.len())
+fn is_small(session: &Session, tasks: usize) -> bool {
+    (1..=tasks).contains(&session.tasks.len())
         && session.tasks.iter().all(|task| task.height() <= HEIGHT)
 }
 
-/// The affinities of two or three screens, up to renaming of those other than 0,
-/// each with how many screens it is for.
-const AFFINITIES: [(u8, [u8; 3]); 20] = [
-    (2, [1, 1, 0]),
-    (2, [1, 5, 0]),
-    (2, [0, 1, 0]),
-    (2, [1, 0, 0]),
-    (2, [0, 0, 0]),
-    (3, [1, 1, 1]),
-    (3, [1, 1, 5]),
-    (3, [1, 5, 1]),
-    (3, [5, 255, 255]),
-    (3, [1, 5, 255]),
-    (3, [0, 1, 1]),
-    (3, [0, 1, 5]),
-    (3, [1, 0, 1]),
-    (3, [1, 0, 5]),
-    (3, [1, 1, 0]),
-    (3, [1, 5, 0]),
-    (3, [0, 0, 1]),
-    (3, [0, 1, 0]),
-    (3, [1, 0, 0]),
-    (3, [0, 0, 0]),
+/// Affinities, up to renaming of those other than 0, of two or three screens, the
+/// last of them the main one.
+struct Affinities {
+    screens: &'static [u8],
+    /// Whether the first two of three can change places and the affinities are
+    /// these, renamed; of two such tables one is swept.
+    alike: bool,
+}
+
+const fn unlike(screens: &'static [u8]) -> Affinities {
+    let alike = false;
+    Affinities { screens, alike }
+}
+
+const fn alike(screens: &'static [u8]) -> Affinities {
+    let alike = true;
+    Affinities { screens, alike }
+}
+
+const AFFINITIES: [Affinities; 16] = [
+    unlike(&[1, 1]),
+    unlike(&[1, 5]),
+    unlike(&[0, 1]),
+    unlike(&[1, 0]),
+    unlike(&[0, 0]),
+    alike(&[1, 1, 1]),
+    alike(&[1, 1, 5]),
+    alike(&[1, 5, 255]),
+    alike(&[1, 1, 0]),
+    alike(&[1, 5, 0]),
+    alike(&[0, 0, 1]),
+    alike(&[0, 0, 0]),
+    unlike(&[5, 255, 255]),
+    unlike(&[0, 1, 1]),
+    unlike(&[0, 1, 5]),
+    unlike(&[0, 1, 0]),
 ];
 
-/// All small tables. The last screen is the main one; every other table is one
-/// of these with its screens renamed.
+/// All small tables. Every other table is one of these with its screens renamed.
 fn tables() -> Vec<Vec<u8>> {
     let mut tables = Vec::new();
-    for (screens, affinities) in AFFINITIES {
-        for modes in 0..4u32.pow(u32::from(screens)) {
-            let mut table = vec![screens, screens - 1];
-            for screen in 0..screens {
-                let mode = modes >> (2 * screen) & 3;
-                table.extend([mode as u8, affinities[usize::from(screen)]]);
+    for Affinities { screens, alike } in AFFINITIES {
+        let count = screens.len() as u8;
+        for modes in 0..4u32.pow(u32::from(count)) {
+            let mode = |screen: usize| (modes >> (2 * screen) & 3) as u8;
+            if alike && mode(0) > mode(1) {
+                continue;
+            }
+            let mut table = vec![count, count - 1];
+            for (screen, &affinity) in screens.iter().enumerate() {
+                table.extend([mode(screen), affinity]);
             }
             tables.push(table);
         }
@@ -120,14 +148,17 @@ pub fn sweep(checker: &mut Checker) -> Result<Swept, Box<Difference>> {
     let mut swept = Swept::default();
     for bytes in tables() {
         let table = Table::parse(&bytes).expect("the table is good");
-        let sessions = reach(&table, bytes[0]);
+        let screens = bytes[0];
         let mut batch = Batch::new("sweep", bytes);
-        for (session, path) in &sessions {
-            batch.all_calls(checker, session, path)?;
+        for edition in EDITIONS {
+            let sessions = reach(&table, screens, edition);
+            for (session, path) in &sessions {
+                batch.all_calls(checker, session, path)?;
+            }
+            swept.sessions += sessions.len() as u64;
         }
         batch.finish(checker)?;
         swept.tables += 1;
-        swept.sessions += sessions.len() as u64;
         swept.calls += batch.calls;
     }
     Ok(swept)

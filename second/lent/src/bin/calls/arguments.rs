@@ -25,7 +25,9 @@ pub fn call<'a>(
         Kind::ALL[random.weighted(&WEIGHTS)]
     };
     match kind {
-        Kind::Launch => Call::Launch,
+        Kind::Launch => Call::Launch {
+            edition: random.edition_byte(),
+        },
         Kind::Start => Call::Start {
             screen: screen(random, listed, session),
             flags: flags(random),

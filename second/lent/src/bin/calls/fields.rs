@@ -14,10 +14,11 @@ pub enum Field {
     BeyondTasks,
     Count,
     Main,
+    Edition,
 }
 
 impl Field {
-    const NAMES: [&'static str; 7] = [
+    const NAMES: [&'static str; 8] = [
         "root",
         "height",
         "screen",
@@ -25,15 +26,18 @@ impl Field {
         "storage beyond n",
         "n",
         "m",
+        "edition",
     ];
 
     /// The field that a byte of a sound session belongs to.
     pub fn at(session: &Stored, place: usize) -> Field {
         let (task, byte) = (place / TASK, place % TASK);
-        if place == SESSION - 2 {
+        if place == SESSION - 3 {
             Field::Count
-        } else if place == SESSION - 1 {
+        } else if place == SESSION - 2 {
             Field::Main
+        } else if place == SESSION - 1 {
+            Field::Edition
         } else if task >= usize::from(session.n) {
             Field::BeyondTasks
         } else if byte == 0 {
@@ -50,7 +54,7 @@ impl Field {
 
 /// Calls refused by 20, by field and kind of call.
 #[derive(Default)]
-pub struct Refused([[u64; 8]; 7]);
+pub struct Refused([[u64; 8]; 8]);
 
 impl Refused {
     pub fn add(&mut self, field: Field, kind: Kind) {

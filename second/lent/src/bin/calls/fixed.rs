@@ -1,7 +1,8 @@
 //! The calls that are made for every seed.
 
+use second::edition::{EDITIONS, EIGHT, SEVEN, SIX};
 use second::session::{MAX_HEIGHT, MAX_TASKS};
-use second::table::{flag_word, ALL_FLAGS, CLEAR_TASK, CLEAR_TOP, NEW_TASK};
+use second::table::{flag_word, ALL_FLAGS, CLEAR_TASK, CLEAR_TOP, NEW_TASK, REORDER_TO_FRONT};
 use second::{Session, Task};
 
 use lent_calls::call::Call;
@@ -12,11 +13,12 @@ use lent_calls::stored::{Stored, SESSION};
 
 use crate::fields::{Field, Refused};
 
-/// The sessions, sound under T: empty, small, typical, full.
-fn sound() -> [Session; 4] {
+/// Sessions of an edition, sound under T: small, typical, full.
+fn sized(edition: u8) -> [Session; 3] {
     let small = Session {
         tasks: vec![Task::new(3, &[3]), Task::new(0, &[1, 0])],
         main: 2,
+        edition,
     };
     let typical = Session {
         tasks: vec![
@@ -26,13 +28,28 @@ fn sound() -> [Session; 4] {
             Task::new(0, &[1, 0, 2, 2, 1, 0]),
         ],
         main: 4,
+        edition,
     };
     let screens: Vec<u8> = (0..MAX_HEIGHT).map(|at| at as u8 % 3).collect();
     let full = Session {
         tasks: vec![Task::new(0, &screens); MAX_TASKS],
         main: MAX_TASKS,
+        edition,
     };
+    [small, typical, full]
+}
+
+/// The empty session, and one of each size, each of another edition.
+fn sound() -> [Session; 4] {
+    let ([small, ..], [_, typical, _], [.., full]) = (sized(SIX), sized(SEVEN), sized(EIGHT));
     [Session::fresh(), small, typical, full]
+}
+
+/// The empty session, and one of each size and edition.
+fn all_sound() -> Vec<Session> {
+    let mut sessions = vec![Session::fresh()];
+    sessions.extend(EDITIONS.into_iter().flat_map(sized));
+    sessions
 }
 
 /// One call of each kind.
@@ -40,7 +57,7 @@ fn one_of_each(image: &[u8]) -> [Call<'_>; 8] {
     let (screen, flags) = (1, 0);
     let length = image.len();
     [
-        Call::Launch,
+        Call::Launch { edition: 0 },
         Call::Start { screen, flags },
         Call::FinishingStart { screen, flags },
         Call::Back,
@@ -126,7 +143,7 @@ pub fn no_affinities() -> [u8; 14] {
 /// Starts and finishing starts of every screen, with every flag bit and with
 /// every set of the six flags, and why of each, under a table with T's modes.
 pub fn starts(checker: &mut Checker, table: &[u8]) -> Checked {
-    for session in sound() {
+    for session in all_sound() {
         let present = held(&session);
         let mut check = |what, screen, flags| -> Checked {
             let start = Call::Start { screen, flags };
@@ -154,26 +171,69 @@ pub fn starts(checker: &mut Checker, table: &[u8]) -> Checked {
     Ok(())
 }
 
-/// Tasks of each height, cleared and emptied by starts of their root from inside
-/// and from another task, so that each number of screens closes that a rule can
-/// close.
+/// Sessions with every byte for an edition and every call on them, and launches
+/// with every edition byte.
+pub fn editions(checker: &mut Checker) -> Checked {
+    for session in all_sound() {
+        let image = session.image();
+        for edition in 0..=255 {
+            let mut held = held(&session);
+            let launch = Call::Launch { edition };
+            checker.check("every edition byte", &T, &held, launch)?;
+            held.edition = edition;
+            for call in one_of_each(&image) {
+                checker.check("every edition held", &T, &held, call)?;
+            }
+        }
+    }
+    Ok(())
+}
+
+/// Sessions with a task of this height whose root, at the bottom, is this screen,
+/// in front and behind another; it is the main task if that is the main screen.
+fn high(edition: u8, screen: u8, height: usize) -> [Session; 2] {
+    // 0 is the main screen; 3, single-task, and 5 have another affinity.
+    let is_main = screen == T[1];
+    let root = if is_main { 5 } else { T[1] };
+    let other = Task::new(root, &[root]);
+    let mut screens = vec![1; height];
+    screens[height - 1] = screen;
+    let high = Task::new(screen, &screens);
+    let session = |tasks, place| Session {
+        tasks,
+        main: if is_main { place } else { 0 },
+        edition,
+    };
+    [
+        session(vec![high.clone(), other.clone()], 1),
+        session(vec![other, high], 2),
+    ]
+}
+
+/// Tasks of each height, cleared, emptied and reordered by starts of their root
+/// from inside and from another task, so that each number of screens closes that a
+/// rule can close.
 pub fn heights(checker: &mut Checker) -> Checked {
-    let other = Task::new(0, &[0]);
-    for height in 1..=MAX_HEIGHT {
-        // 3 is single-task and 5 is standard; 0 has another affinity.
-        for screen in [3, 5] {
-            let mut screens = vec![1; height];
-            screens[height - 1] = screen;
-            let high = Task::new(screen, &screens);
-            let inside = vec![high.clone(), other.clone()];
-            let outside = vec![other.clone(), high];
-            for tasks in [inside, outside] {
-                let present = held(&Session { tasks, main: 0 });
-                for flags in [CLEAR_TOP, NEW_TASK | CLEAR_TOP, NEW_TASK | CLEAR_TASK] {
+    let words = [
+        CLEAR_TOP,
+        NEW_TASK | CLEAR_TOP,
+        NEW_TASK | CLEAR_TASK,
+        REORDER_TO_FRONT,
+    ];
+    for (edition, height) in EDITIONS
+        .into_iter()
+        .flat_map(|edition| (1..=MAX_HEIGHT).map(move |height| (edition, height)))
+    {
+        for screen in [0, 3, 5] {
+            for session in high(edition, screen, height) {
+                let present = held(&session);
+                for flags in words {
                     let start = Call::Start { screen, flags };
                     let finishing = Call::FinishingStart { screen, flags };
                     checker.check("tasks of each height", &T, &present, start)?;
                     checker.check("tasks of each height", &T, &present, finishing)?;
+                    let why = Call::Why { screen, flags };
+                    checker.check("tasks of each height", &T, &present, why)?;
                 }
             }
         }

@@ -5,14 +5,16 @@
 //!
 //! First a set that is the same for every seed: sessions bad in each of their
 //! fields, tables bad in each of theirs and of each wrong length, every screen,
-//! flag bit and set of flags, with affinities and with none, tasks of each height.
+//! flag bit and set of flags, with affinities and with none, every edition byte,
+//! tasks of each height, in each edition.
 //! Then calls on random sessions, made from the seed, until there are as many as
 //! asked for.
 //! After each call the whole lent session, the answer, the table, the buffer and
 //! the bytes around them are compared. At the first difference it is printed, and
 //! the exit code is 1. At the end the program prints how often each call was
-//! made, each refusal and each rule came up and how many screens were closed, and
-//! exits with 1 if one, or a number that a rule can close, never came up.
+//! made in each edition, each refusal and each rule came up and how many screens
+//! were closed, and exits with 1 if one, or a number that a rule can close, never
+//! came up.
 
 mod arguments;
 mod fields;
@@ -46,6 +48,7 @@ fn compare(checker: &mut Checker, seed: u64, calls: u64) -> Checked {
     fixed::tables(checker)?;
     fixed::starts(checker, &T)?;
     fixed::starts(checker, &fixed::no_affinities())?;
+    fixed::editions(checker)?;
     fixed::heights(checker)?;
     println!("fixed set: {} calls", checker.counts.all_calls());
     let mut random = Random::new(seed);

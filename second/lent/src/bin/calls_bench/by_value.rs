@@ -5,13 +5,14 @@
 //! library first.
 
 use lent_calls::stored::{Stored, StoredTask};
+use second::edition::{EDITIONS, EIGHT, SEVEN, SIX};
 use second::session::{MAX_HEIGHT, MAX_TASKS};
 use second::table::{
     ALL_FLAGS, CLEAR_TASK, CLEAR_TOP, MAX_SCREENS, MULTIPLE_TASK, NEW_TASK, NO_AFFINITY,
     REORDER_TO_FRONT, SINGLE_TOP,
 };
 
-type Answer = [u8; 7];
+type Answer = [u8; 8];
 
 struct Reply {
     session: Stored,
@@ -77,12 +78,23 @@ fn started(table: &[u8], mut session: Stored, b: u8, flags: u32, finishing: bool
 }
 
 fn told(number: u8, session: Stored, closed: u8) -> Reply {
-    let (n, main) = (session.n, session.main);
+    let Stored {
+        n, main, edition, ..
+    } = session;
     let front = &session.tasks[0];
     let answer = match (number, n) {
-        (0, 0) => [0, 0, 0, 0, 0, main, closed],
-        (0, _) => [0, top(front), front.root, front.height, n, main, closed],
-        _ => [number, 0, 0, 0, 0, 0, 0],
+        (0, 0) => [0, 0, 0, 0, 0, main, closed, edition],
+        (0, _) => [
+            0,
+            top(front),
+            front.root,
+            front.height,
+            n,
+            main,
+            closed,
+            edition,
+        ],
+        _ => [number, 0, 0, 0, 0, 0, 0, 0],
     };
     Reply { session, answer }
 }
@@ -128,6 +140,8 @@ fn is_sound(table: &[u8], session: &Stored) -> bool {
             0 => true,
             main => main <= n && tasks[main - 1].root == table[1],
         }
+        && EDITIONS.contains(&session.edition)
+        && (n > 0 || session.edition == EIGHT)
 }
 
 fn is_task_sound(table: &[u8], task: &StoredTask) -> bool {
@@ -199,53 +213,78 @@ fn plan(table: &[u8], session: &Stored, b: u8, flags: u32) -> Result<Plan, u8> {
     }
 }
 
-fn rule(table: &[u8], session: &Stored, b: u8, flags: u32) -> Plan {
-    let tasks = &session.tasks[..usize::from(session.n)];
+fn used(session: &Stored) -> &[StoredTask] {
+    &session.tasks[..usize::from(session.n)]
+}
+
+fn by_root(session: &Stored, b: u8) -> Option<usize> {
+    used(session).iter().position(|task| task.root == b)
+}
+
+fn by_affinity(table: &[u8], session: &Stored, b: u8) -> Option<usize> {
     let akin = |task: &StoredTask| {
         affinity(table, b) != NO_AFFINITY
             && mode(table, task.root) != 3
             && affinity(table, task.root) == affinity(table, b)
     };
-    let by_root = || tasks.iter().position(|task| task.root == b);
-    let by_affinity = || tasks.iter().position(akin);
+    used(session).iter().position(akin)
+}
+
+/// The index of the task found, and whether root found it.
+fn sought(table: &[u8], session: &Stored, b: u8) -> Option<(usize, bool)> {
+    let house = mode(table, b) == 2 && affinity(table, b) == NO_AFFINITY;
+    let root = match session.edition {
+        SIX if !house => None,
+        _ => by_root(session, b),
+    };
+    let affinity = || Some((by_affinity(table, session, b)?, false));
+    root.map(|i| (i, true)).or_else(affinity)
+}
+
+fn rule(table: &[u8], session: &Stored, b: u8, flags: u32) -> Plan {
     let set = |flag: u32| flags & flag != 0;
     let single = mode(table, b) == 1 || set(SINGLE_TOP);
-    let front = top(&tasks[0]);
+    let front = top(&session.tasks[0]);
     match mode(table, b) {
-        3 => by_root().map_or(Plan::New, |i| Plan::Move(i, Change::Keep)),
-        2 => match by_root().or_else(by_affinity) {
+        3 => by_root(session, b).map_or(Plan::New, |i| Plan::Move(i, Change::Keep)),
+        2 => match sought(table, session, b) {
             None => Plan::New,
-            Some(i) if set(CLEAR_TASK) => Plan::Move(i, Change::Renew),
-            Some(i) if topmost(&tasks[i], b).is_some() => Plan::Move(i, Change::Clear),
-            Some(i) => Plan::Move(i, Change::Push),
+            Some((i, _)) if set(CLEAR_TASK) => Plan::Move(i, Change::Renew),
+            Some((i, _)) if topmost(&session.tasks[i], b).is_some() => Plan::Move(i, Change::Clear),
+            Some((i, _)) => Plan::Move(i, Change::Push),
         },
         _ if !set(NEW_TASK) && mode(table, front) != 3 => {
-            let stays = front == b && (single || set(REORDER_TO_FRONT) || set(CLEAR_TOP));
-            let held = || topmost(&tasks[0], b).is_some();
-            let change = match () {
-                _ if stays => Change::Keep,
-                _ if set(CLEAR_TOP) && held() => Change::Clear,
-                _ if set(REORDER_TO_FRONT) && held() => Change::Lift,
-                _ => Change::Push,
-            };
-            Plan::Move(0, change)
+            Plan::Move(0, not_apart(session, b, flags, single))
         }
         _ if set(MULTIPLE_TASK) => Plan::New,
-        _ => {
-            let root = by_root();
-            let Some(i) = root.or_else(by_affinity) else {
-                return Plan::New;
-            };
-            let not_main = root.is_some() && i + 1 != usize::from(session.main);
-            let change = match () {
-                _ if set(CLEAR_TASK) => Change::Renew,
-                _ if set(CLEAR_TOP) && topmost(&tasks[i], b).is_some() => Change::Clear,
-                _ if set(CLEAR_TOP) => Change::Push,
-                _ if not_main || (single && top(&tasks[i]) == b) => Change::Keep,
-                _ => Change::Push,
-            };
-            Plan::Move(i, change)
-        }
+        _ => sought(table, session, b).map_or(Plan::New, |(i, rooted)| {
+            Plan::Move(i, apart(session, b, flags, single, (i, rooted)))
+        }),
+    }
+}
+
+fn not_apart(session: &Stored, b: u8, flags: u32, single: bool) -> Change {
+    let front = &session.tasks[0];
+    let (clear, reorder) = (flags & CLEAR_TOP != 0, flags & REORDER_TO_FRONT != 0);
+    let held = || topmost(front, b).is_some();
+    match (session.edition, session.main) {
+        _ if top(front) == b && (single || reorder || clear) => Change::Keep,
+        _ if clear && held() => Change::Clear,
+        (SEVEN, 1) if reorder && held() => Change::Renew,
+        _ if reorder && held() => Change::Lift,
+        _ => Change::Push,
+    }
+}
+
+fn apart(session: &Stored, b: u8, flags: u32, single: bool, (i, rooted): (usize, bool)) -> Change {
+    let task = &session.tasks[i];
+    let not_main = rooted && i + 1 != usize::from(session.main);
+    match flags & CLEAR_TOP != 0 {
+        _ if flags & CLEAR_TASK != 0 => Change::Renew,
+        true if topmost(task, b).is_some() => Change::Clear,
+        true => Change::Push,
+        false if not_main || (single && top(task) == b) => Change::Keep,
+        false => Change::Push,
     }
 }
 
@@ -340,6 +379,9 @@ fn close(session: &mut Stored, i: usize, below: usize) -> u8 {
     session.tasks.copy_within(i + 1..n, i);
     session.tasks[n - 1] = Stored::FRESH.tasks[0];
     session.n -= 1;
+    if session.n == 0 {
+        session.edition = EIGHT;
+    }
     session.main = match usize::from(session.main) {
         main if main == i + 1 => 0,
         main if main > i + 1 => session.main - 1,

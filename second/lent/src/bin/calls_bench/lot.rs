@@ -56,7 +56,7 @@ impl Lot {
     fn call(&self, place: usize) -> Call<'_> {
         let (screen, flags) = self.starts[place];
         match self.kind {
-            Kind::Launch => Call::Launch,
+            Kind::Launch => Call::Launch { edition: 0 },
             Kind::Start => Call::Start { screen, flags },
             Kind::FinishingStart => Call::FinishingStart { screen, flags },
             Kind::Back => Call::Back,
@@ -129,7 +129,7 @@ pub fn measured_second(lot: &Lot, sessions: &mut [Session]) {
     black_box(buffer);
 }
 
-fn made_by_value(call: Call, session: &mut Stored) -> [u8; 7] {
+fn made_by_value(call: Call, session: &mut Stored) -> [u8; 8] {
     match call {
         Call::Start { screen, flags } => by_value::start(&T, session, screen, flags),
         Call::FinishingStart { screen, flags } => {

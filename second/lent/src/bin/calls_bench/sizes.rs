@@ -35,7 +35,11 @@ impl Size {
         };
         let tasks: Vec<Task> = (0..count).map(|place| task(place, height)).collect();
         let main = tasks.iter().rposition(|task| task.root == 0).unwrap_or(0) + 1;
-        Session { tasks, main }
+        Session {
+            tasks,
+            main,
+            ..Session::fresh()
+        }
     }
 }
 

@@ -62,7 +62,7 @@ pub fn print_table() {
     }
     let copy = copies();
     println!(
-        "copying a session of 546 bytes: {:.1} ({:.1})",
+        "copying a session of 547 bytes: {:.1} ({:.1})",
         copy.best(),
         copy.middle()
     );

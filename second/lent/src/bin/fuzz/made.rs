@@ -25,6 +25,7 @@ pub struct Made {
     pub kind: Kind,
     pub table: Vec<u8>,
     pub session: Stored,
+    pub edition: u8,
     pub screen: u8,
     pub flags: u32,
     pub image: Vec<u8>,
@@ -44,6 +45,7 @@ impl Base {
             kind,
             table: self.table(random),
             session: self.stored(random),
+            edition: random.edition_byte(),
             screen: self.screen(random),
             flags: flags(random),
             image: match kind {
@@ -86,7 +88,7 @@ impl Base {
     fn image(&self, random: &mut Random) -> Vec<u8> {
         match random.below(200) {
             0 => damage::noise(random, LONGEST_IMAGE as u64),
-            1 => damage::with_trailer(vec![random.byte(3); 0xffff], random.byte(18), 0),
+            1 => damage::with_trailer(vec![random.byte(3); 0xffff], damage::any_fields(random)),
             2..=49 => self.session.image(),
             _ => damage::image(random, &self.listed, &self.session),
         }

@@ -129,7 +129,9 @@ impl Made {
     fn call<'a>(&self, image: &'a [u8]) -> Call<'a> {
         let (screen, flags) = (self.screen, self.flags);
         match self.kind {
-            Kind::Launch => Call::Launch,
+            Kind::Launch => Call::Launch {
+                edition: self.edition,
+            },
             Kind::Start => Call::Start { screen, flags },
             Kind::FinishingStart => Call::FinishingStart { screen, flags },
             Kind::Back => Call::Back,

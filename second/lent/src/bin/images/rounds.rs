@@ -1,5 +1,6 @@
 //! What is compared: a fixed set, and rounds over random sessions.
 
+use second::edition::{EDITIONS, EIGHT};
 use second::random::Random;
 use second::session::{MAX_HEIGHT, MAX_TASKS};
 use second::{Session, Task};
@@ -14,22 +15,30 @@ use lent_calls::stored::Stored;
 /// then.
 const SMALL: usize = 24;
 
-/// What is done for every seed: the paper's image, an empty session and a full
-/// one, each with every one-byte change, and bytes of every length.
+/// The paper's session in an edition.
+fn paper(edition: u8) -> Session {
+    Session {
+        tasks: vec![Task::new(3, &[3]), Task::new(0, &[1, 0])],
+        main: 2,
+        edition,
+    }
+}
+
+/// What is done for every seed: the paper's image in each edition, an empty session
+/// and a full one, each with every one-byte change, and bytes of every length.
 pub fn fixed(checker: &mut Checker, random: &mut Random) -> Checked {
     let listed = Listed::new(T.to_vec());
-    let stack = |root, top_first: &[u8]| Task::new(root, top_first);
-    let paper = Session {
-        tasks: vec![stack(3, &[3]), stack(0, &[1, 0])],
-        main: 2,
-    };
     let screens: Vec<u8> = (0..MAX_HEIGHT).map(|at| at as u8 % 3).collect();
     let full = Session {
-        tasks: vec![stack(0, &screens); MAX_TASKS],
+        tasks: vec![Task::new(0, &screens); MAX_TASKS],
         main: MAX_TASKS,
+        ..Session::fresh()
     };
-    let present = held(&paper);
-    for session in [paper, Session::fresh(), full] {
+    let present = held(&paper(EIGHT));
+    for session in [Session::fresh(), full]
+        .into_iter()
+        .chain(EDITIONS.map(paper))
+    {
         there_and_back(checker, random, &listed, &session)?;
         every_change(checker, &listed, &present, &session)?;
         long_images(checker, random, &listed, &session)?;
@@ -38,7 +47,7 @@ pub fn fixed(checker: &mut Checker, random: &mut Random) -> Checked {
         for fill in [0, 1, 0x42] {
             let bytes = vec![fill; length];
             restore(checker, "bytes alike", &T, &present, &bytes)?;
-            let image = damage::with_trailer(bytes, fill, 0);
+            let image = damage::with_trailer(bytes, [fill, 0, EIGHT]);
             restore(checker, "bytes alike with a trailer", &T, &present, &image)?;
         }
     }

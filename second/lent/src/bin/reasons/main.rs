@@ -4,12 +4,13 @@
 //!     reasons [--seed N] [--reasons N]
 //!
 //! Sessions and tables, good and bad, are made from a seed; under them why is
-//! asked with all 64 sets of flags and with other words, and the start is made,
-//! by the static library and by the second navigator, until there are as many
-//! reasons as asked for. At the first difference it is printed, and the exit code
-//! is 1. At the end the program prints how often each refusal and rule came up
-//! and what tasks were found by, and exits with 1 if a rule came up fewer than
-//! 1,000 times, or anything else never.
+//! asked with all 64 sets of flags, in each edition, and with other words, and the
+//! start is made, by the static library and by the second navigator, until there
+//! are as many reasons as asked for. At the first difference it is printed, and the
+//! exit code is 1. At the end the program prints how often each refusal and rule
+//! came up and what tasks were found by, and exits with 1 if a rule came up fewer
+//! than 1,000 times, or anything else never, as a rule in an edition where it can
+//! occur.
 
 mod rounds;
 

@@ -1,5 +1,6 @@
 //! What is compared: starts under random tables and from random sessions.
 
+use second::edition::EDITIONS;
 use second::random::Random;
 use second::table::flag_word;
 
@@ -10,8 +11,6 @@ use lent_calls::sessions::{self, held, Listed};
 use lent_calls::starts;
 use lent_calls::stored::Stored;
 
-/// How many screens are started with every set of flags.
-const SCREENS: usize = 3;
 /// How many starts are made of each other sort.
 const OTHERS: usize = 8;
 
@@ -21,8 +20,10 @@ pub fn round(checker: &mut Checker, random: &mut Random) -> Checked {
     let session = sessions::sound(random, &listed);
     checker.counts.add_session(&session);
     let present = held(&session);
-    for _ in 0..SCREENS {
-        let screen = starts::screen(random, &listed, &session);
+    let screen = starts::screen(random, &listed, &session);
+    for edition in EDITIONS {
+        // An empty session is refused in 6 and 7.
+        let present = Stored { edition, ..present };
         for set in 0..64 {
             let start = (screen, flag_word(set));
             ask(
