@@ -27,7 +27,7 @@ def write_recording(file, count):
         state ^= state >> 17
         state ^= state << 5 & 0xFFFFFFFF
         kind = KINDS[state % 100]
-        screen = (state >> 8) % 6
+        screen = 0 if kind == 1 else (state >> 8) % 6  # a launch's names the edition, and 0 is 8
         block += bytes((kind, screen)) + FLAGS[(state >> 16) % len(FLAGS)].to_bytes(4, "big")
     whole, rest = divmod(count, len(block) // 6)
     file.write(TABLE)
