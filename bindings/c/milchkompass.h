@@ -2,7 +2,8 @@
  *
  * A table is bytes: N (1 to 64), the main screen's number, then for screens 0 to N - 1 a launch mode and an affinity,
  * of which 0 is none.
- * A session belongs to its caller, who lends it to each call, and begins as MILCHKOMPASS_SESSION_FRESH.
+ * A session belongs to its caller, who lends it to each call, and begins as MILCHKOMPASS_SESSION_FRESH, which is not
+ * all zeros.
  *
  * For all arguments: an accepted call answers 0 and what is then in front; a refused call answers the number of the
  * first check that fails and zeros, and session and buffers keep every byte. The checks go in the order 1, 2, 20, then
@@ -26,7 +27,7 @@ extern "C" {
 #endif
 
 /* The number of this interface, which is raised with each change of a struct or of a signature. */
-#define MILCHKOMPASS_ABI 2
+#define MILCHKOMPASS_ABI 3
 
 /* The library's own number. Where it is not MILCHKOMPASS_ABI, header and library do not fit: make no other call. */
 uint32_t milchkompass_abi(void);
@@ -37,6 +38,13 @@ uint32_t milchkompass_abi(void);
 
 /* The length of the longest image of a session, in bytes. */
 #define MILCHKOMPASS_IMAGE_MAX 550
+
+/* Whose rules a session follows: those of Android 6.0, 7.0 or 8.0. Android's API levels are other numbers. */
+enum milchkompass_edition {
+    MILCHKOMPASS_EDITION_6 = 6,
+    MILCHKOMPASS_EDITION_7 = 7,
+    MILCHKOMPASS_EDITION_8 = 8
+};
 
 /* Launch modes, under the names and numbers of Android's ActivityInfo. The first is the manifest's "standard". */
 #define MILCHKOMPASS_LAUNCH_MULTIPLE 0
@@ -67,7 +75,8 @@ enum milchkompass_refusal {
     MILCHKOMPASS_EMPTY = 21,
     MILCHKOMPASS_NOT_EMPTY = 22,
     MILCHKOMPASS_TASKS_FULL = 23,
-    MILCHKOMPASS_TASK_FULL = 24
+    MILCHKOMPASS_TASK_FULL = 24,
+    MILCHKOMPASS_NO_SUCH_EDITION = 30
 };
 
 /* The condition of a refusal, as the rules say it. */
@@ -78,7 +87,7 @@ static inline const char *milchkompass_refusal_text(uint8_t refusal) {
     case MILCHKOMPASS_TABLE_CONTENT: return "main screen not below N, or a mode above 3";
     case MILCHKOMPASS_NO_SUCH_SCREEN: return "start: B not below N";
     case MILCHKOMPASS_OTHER_FLAG: return "start: a bit outside the six";
-    case MILCHKOMPASS_IMAGE_TRAILER: return "restore: under 6 bytes, last two bytes not hex 08 42, or length not L + 6";
+    case MILCHKOMPASS_IMAGE_TRAILER: return "restore: under 6 bytes, last two bytes not hex 06 42, 07 42 or 08 42, or length not L + 6";
     case MILCHKOMPASS_IMAGE_TASKS: return "restore: n above 16, or the L bytes are not exactly n tasks of height 1 to 32";
     case MILCHKOMPASS_IMAGE_UNSOUND: return "restore: the session read from the image is not sound under the table";
     case MILCHKOMPASS_BUFFER_SHORT: return "save: buffer shorter than the image";
@@ -87,6 +96,7 @@ static inline const char *milchkompass_refusal_text(uint8_t refusal) {
     case MILCHKOMPASS_NOT_EMPTY: return "launch: not empty";
     case MILCHKOMPASS_TASKS_FULL: return "a new task is needed and n = 16";
     case MILCHKOMPASS_TASK_FULL: return "a push onto a task of 32 (not after empty)";
+    case MILCHKOMPASS_NO_SUCH_EDITION: return "launch: edition not 0, 6, 7 or 8";
     default: return "no refusal of a call";
     }
 }
@@ -98,19 +108,23 @@ typedef struct milchkompass_task {
     uint8_t screens[MILCHKOMPASS_SCREENS];
 } milchkompass_task;
 
-/* A session: n tasks, front first, then zeros; and the place (from 1) of the task made by launch, 0 if it is gone. */
+/* A session: n tasks, front first, then zeros; the place (from 1) of the task made by launch, 0 if it is gone; and the
+ * edition whose rules it follows, 8 where it is empty. */
 typedef struct milchkompass_session {
     milchkompass_task tasks[MILCHKOMPASS_TASKS];
     uint8_t n;
     uint8_t main;
+    uint8_t edition;
 } milchkompass_session;
 
-/* A fresh session: no task. Every byte is 0. */
-#define MILCHKOMPASS_SESSION_FRESH {{{0, 0, {0}}}, 0, 0}
+/* A fresh session: no task, edition 8, and every other byte is 0. Zeros alone are no session, since 0 is no edition
+ * there: under a good table every call on them is refused with 20. */
+#define MILCHKOMPASS_SESSION_FRESH {{{0, 0, {0}}}, 0, 0, MILCHKOMPASS_EDITION_8}
 
 /* An answer: the refusal (0 if none), after the call the front screen, the root and the height of the front task, the
- * number of tasks and the main place, all 0 where the session is empty; and how many screens the call closed, which is
- * 0 for launch, look and restore. */
+ * number of tasks and the main place, all 0 where the session is empty; how many screens the call closed, which is 0
+ * for launch, look and restore; and the session's edition after the call, which is 8 where it is empty. A refused call
+ * has seven zeros behind its refusal. */
 typedef struct milchkompass_answer {
     uint8_t refusal;
     uint8_t screen;
@@ -119,6 +133,7 @@ typedef struct milchkompass_answer {
     uint8_t tasks;
     uint8_t main;
     uint8_t closed;
+    uint8_t edition;
 } milchkompass_answer;
 
 /* What a save gives: the refusal (0 if none), and the length of the image (0 if refused). */
@@ -144,12 +159,13 @@ typedef struct milchkompass_reason {
     uint8_t found;
 } milchkompass_reason;
 
-/* Launch. After it the session is one task whose root and only screen is the main screen; it is the main task. Its own
- * check: 22. */
-milchkompass_answer milchkompass_launch(const uint8_t *table, size_t table_length, milchkompass_session *s);
+/* Launch. After it the session is one task whose root and only screen is the main screen; it is the main task. Its
+ * edition is the one named, 8 where that is 0, until it is empty or an image is restored. Its own checks: 22, 30. */
+milchkompass_answer milchkompass_launch(const uint8_t *table, size_t table_length, milchkompass_session *s,
+                                        uint8_t edition);
 
-/* Start of screen b with a flag word. After it the session is what the first of the rules R1 to R18 that fits makes of
- * it. Its own checks: 3, 4, 21, then 23 or 24. */
+/* Start of screen b with a flag word. After it the session is what the first of the rules R1 to R18 that fits, in its
+ * edition, makes of it. Its own checks: 3, 4, 21, then 23 or 24. */
 milchkompass_answer milchkompass_start(const uint8_t *table, size_t table_length, milchkompass_session *s, uint8_t b,
                                        uint32_t word);
 
@@ -163,7 +179,8 @@ milchkompass_answer milchkompass_finish_start(const uint8_t *table, size_t table
 milchkompass_reason milchkompass_why(const uint8_t *table, size_t table_length, milchkompass_session s, uint8_t b,
                                      uint32_t word);
 
-/* Back. After it the front screen is gone, and its task too if that was its last. Its own check: 21. */
+/* Back. After it the front screen is gone, and its task too if that was its last. A session left empty has edition 8.
+ * Its own check: 21. */
 milchkompass_answer milchkompass_back(const uint8_t *table, size_t table_length, milchkompass_session *s);
 
 /* Look. The session stays, though it is written; the answer is what it shows. No check of its own. */
@@ -174,8 +191,8 @@ milchkompass_answer milchkompass_look(const uint8_t *table, size_t table_length,
 milchkompass_save_reply milchkompass_save(const uint8_t *table, size_t table_length, milchkompass_session s,
                                           uint8_t *out, size_t out_length);
 
-/* Restore of a whole image. After it the session is the one whose image it is, and the answer is that of a look at it.
- * Its own checks: 5, 6, 7. */
+/* Restore of a whole image. After it the session, with its edition, is the one whose image it is, and the answer is
+ * that of a look at it. Its own checks: 5, 6, 7. */
 milchkompass_answer milchkompass_restore(const uint8_t *table, size_t table_length, milchkompass_session *s,
                                          const uint8_t *image, size_t image_length);
 

@@ -1,4 +1,4 @@
-/* The header against the static library: layout, the examples of document 01, each refusal, save and restore. */
+/* The header against the static library: layout, the examples of document 01, editions, refusals, save and restore. */
 #include <stdbool.h>
 #include <stdio.h>
 #include <string.h>
@@ -28,6 +28,11 @@
 #define RTF FLAG_ACTIVITY_REORDER_TO_FRONT
 #define CTK FLAG_ACTIVITY_CLEAR_TASK
 
+/* The editions. */
+#define E6 MILCHKOMPASS_EDITION_6
+#define E7 MILCHKOMPASS_EDITION_7
+#define E8 MILCHKOMPASS_EDITION_8
+
 typedef milchkompass_session session;
 typedef milchkompass_answer answer;
 
@@ -37,7 +42,7 @@ static const uint8_t table_t[] = {6, 0, LAUNCH_MULTIPLE, 1, LAUNCH_MULTIPLE, 1, 
 #define T table_t, sizeof table_t
 
 /* P10: 3:[3] 0:[1,0], m 2, and its image. */
-static const session p10 = {{{3, 1, {3}}, {0, 2, {0, 1}}}, 2, 2};
+static const session p10 = {{{3, 1, {3}}, {0, 2, {0, 1}}}, 2, 2, E8};
 static const uint8_t p10_image[] = {3, 1, 3, 0, 2, 1, 0, 0, 7, 2, 2, 8, 0x42};
 
 static int checks, failures;
@@ -54,7 +59,7 @@ static bool same(session s, session t) {
     return memcmp(&s, &t, sizeof s) == 0;
 }
 
-/* The call answers these seven numbers. */
+/* The call answers these eight numbers. */
 #define ANSWERS(call, ...)                                                                                             \
     do {                                                                                                               \
         answer got = call, wanted = {__VA_ARGS__};                                                                     \
@@ -65,7 +70,7 @@ static bool same(session s, session t) {
 #define REFUSED(number, before, call)                                                                                  \
     do {                                                                                                               \
         session s = before;                                                                                            \
-        ANSWERS(call, number, 0, 0, 0, 0, 0, 0);                                                                       \
+        ANSWERS(call, number, 0, 0, 0, 0, 0, 0, 0);                                                                    \
         expect(same(s, before), #call ": the session");                                                                \
     } while (0)
 
@@ -87,32 +92,36 @@ static void number(void) {
 static void fresh_and_texts(void) {
     session fresh = MILCHKOMPASS_SESSION_FRESH, zeros;
     memset(&zeros, 0, sizeof zeros);
-    expect(same(fresh, zeros), "a fresh session is all zeros");
+    expect(!same(fresh, zeros), "a fresh session is not all zeros");
+    zeros.edition = E8;
+    expect(same(fresh, zeros), "a fresh session is zeros and edition 8");
     expect(strcmp(milchkompass_refusal_text(MILCHKOMPASS_ACCEPTED), "the call is accepted") == 0, "the text of 0");
     expect(strcmp(milchkompass_refusal_text(22), "launch: not empty") == 0, "the text of 22");
     for (int i = 0; i < 256; i++) {
-        bool known = (i <= 8) || (20 <= i && i <= 24);
+        bool known = (i <= 8) || (20 <= i && i <= 24) || i == 30;
         bool named = strcmp(milchkompass_refusal_text((uint8_t)i), "no refusal of a call") != 0;
         expect(known == named, "a text for each refusal, and for no other number");
     }
 }
 
-/* The player's example, call by call. */
-static void example(void) {
-    session s = MILCHKOMPASS_SESSION_FRESH;
-    ANSWERS(milchkompass_look(T, &s), 0, 0, 0, 0, 0, 0, 0);
-    ANSWERS(milchkompass_launch(T, &s), 0, 0, 0, 1, 1, 1, 0);
-    ANSWERS(milchkompass_start(T, &s, 1, 0), 0, 1, 0, 2, 1, 1, 0);
-    ANSWERS(milchkompass_start(T, &s, 3, 0), 0, 3, 3, 1, 2, 2, 0);
-    expect(same(s, p10), "the session of P10");
-    ANSWERS(milchkompass_look(T, &s), 0, 3, 3, 1, 2, 2, 0);
-    expect(same(s, p10), "a look changes nothing");
-    ANSWERS(milchkompass_finish_start(T, &s, 0, NTK), 0, 0, 0, 3, 1, 1, 1);
-    ANSWERS(milchkompass_back(T, &s), 0, 1, 0, 2, 1, 1, 1);
-    ANSWERS(milchkompass_back(T, &s), 0, 0, 0, 1, 1, 1, 1);
-    ANSWERS(milchkompass_back(T, &s), 0, 0, 0, 0, 0, 0, 1);
-    ANSWERS(milchkompass_back(T, &s), 21, 0, 0, 0, 0, 0, 0);
-    expect(same(s, (session){0}), "the end of the example is a fresh session");
+/* The player's example, call by call, launched so: it is the same in each edition but for that number. */
+static void example(uint8_t named, uint8_t edition) {
+    session s = MILCHKOMPASS_SESSION_FRESH, second = p10;
+    const session fresh = s;
+    second.edition = edition;
+    ANSWERS(milchkompass_look(T, &s), 0, 0, 0, 0, 0, 0, 0, 8);
+    ANSWERS(milchkompass_launch(T, &s, named), 0, 0, 0, 1, 1, 1, 0, edition);
+    ANSWERS(milchkompass_start(T, &s, 1, 0), 0, 1, 0, 2, 1, 1, 0, edition);
+    ANSWERS(milchkompass_start(T, &s, 3, 0), 0, 3, 3, 1, 2, 2, 0, edition);
+    expect(same(s, second), "the session of P10");
+    ANSWERS(milchkompass_look(T, &s), 0, 3, 3, 1, 2, 2, 0, edition);
+    expect(same(s, second), "a look changes nothing");
+    ANSWERS(milchkompass_finish_start(T, &s, 0, NTK), 0, 0, 0, 3, 1, 1, 1, edition);
+    ANSWERS(milchkompass_back(T, &s), 0, 1, 0, 2, 1, 1, 1, edition);
+    ANSWERS(milchkompass_back(T, &s), 0, 0, 0, 1, 1, 1, 1, edition);
+    ANSWERS(milchkompass_back(T, &s), 0, 0, 0, 0, 0, 0, 1, 8);
+    ANSWERS(milchkompass_back(T, &s), 21, 0, 0, 0, 0, 0, 0, 0);
+    expect(same(s, fresh), "the end of the example is a fresh session");
 }
 
 /* One of the stacks P1 to P9: a start, or a finishing one. */
@@ -128,62 +137,101 @@ typedef struct stack {
 
 /* Screens stand bottom first. */
 static const stack stacks[] = {
-    {"P1", {{{0, 3, {0, 1, 2}}}, 1, 1}, false, 1, RTF, {{{0, 3, {0, 2, 1}}}, 1, 1}, 0},
-    {"P2", {{{0, 3, {0, 1, 2}}}, 1, 1}, false, 1, CTP, {{{0, 2, {0, 1}}}, 1, 1}, 1},
-    {"P2, both", {{{0, 3, {0, 1, 2}}}, 1, 1}, false, 1, CTP | RTF, {{{0, 2, {0, 1}}}, 1, 1}, 1},
-    {"P3", {{{0, 3, {0, 1, 2}}}, 1, 1}, false, 2, 0, {{{0, 3, {0, 1, 2}}}, 1, 1}, 0},
-    {"P4", {{{4, 1, {4}}, {3, 1, {3}}, {0, 2, {0, 1}}}, 3, 3}, false, 1, 0,
-           {{{0, 3, {0, 1, 1}}, {4, 1, {4}}, {3, 1, {3}}}, 3, 1}, 0},
-    {"P5", {{{4, 1, {4}}, {3, 1, {3}}, {0, 2, {0, 1}}}, 3, 3}, false, 1, STP,
-           {{{0, 2, {0, 1}}, {4, 1, {4}}, {3, 1, {3}}}, 3, 1}, 0},
-    {"P6", {{{5, 2, {5, 1}}, {0, 1, {0}}}, 2, 2}, false, 5, NTK, {{{5, 2, {5, 1}}, {0, 1, {0}}}, 2, 2}, 0},
-    {"P7", {{{3, 1, {3}}, {0, 1, {0}}}, 2, 2}, false, 3, NTK | MTK, {{{3, 1, {3}}, {0, 1, {0}}}, 2, 2}, 0},
-    {"P8", {{{0, 1, {0}}}, 1, 1}, true, 0, NTK | CTK, {{{0, 1, {0}}}, 1, 1}, 1},
-    {"P9", {{{0, 1, {0}}}, 1, 1}, true, 0, NTK | STP, {{{0}}, 0, 0}, 1},
+    {"P1", {{{0, 3, {0, 1, 2}}}, 1, 1, E8}, false, 1, RTF, {{{0, 3, {0, 2, 1}}}, 1, 1, E8}, 0},
+    {"P2", {{{0, 3, {0, 1, 2}}}, 1, 1, E8}, false, 1, CTP, {{{0, 2, {0, 1}}}, 1, 1, E8}, 1},
+    {"P2, both", {{{0, 3, {0, 1, 2}}}, 1, 1, E8}, false, 1, CTP | RTF, {{{0, 2, {0, 1}}}, 1, 1, E8}, 1},
+    {"P3", {{{0, 3, {0, 1, 2}}}, 1, 1, E8}, false, 2, 0, {{{0, 3, {0, 1, 2}}}, 1, 1, E8}, 0},
+    {"P4", {{{4, 1, {4}}, {3, 1, {3}}, {0, 2, {0, 1}}}, 3, 3, E8}, false, 1, 0,
+           {{{0, 3, {0, 1, 1}}, {4, 1, {4}}, {3, 1, {3}}}, 3, 1, E8}, 0},
+    {"P5", {{{4, 1, {4}}, {3, 1, {3}}, {0, 2, {0, 1}}}, 3, 3, E8}, false, 1, STP,
+           {{{0, 2, {0, 1}}, {4, 1, {4}}, {3, 1, {3}}}, 3, 1, E8}, 0},
+    {"P6", {{{5, 2, {5, 1}}, {0, 1, {0}}}, 2, 2, E8}, false, 5, NTK, {{{5, 2, {5, 1}}, {0, 1, {0}}}, 2, 2, E8}, 0},
+    {"P7", {{{3, 1, {3}}, {0, 1, {0}}}, 2, 2, E8}, false, 3, NTK | MTK, {{{3, 1, {3}}, {0, 1, {0}}}, 2, 2, E8}, 0},
+    {"P8", {{{0, 1, {0}}}, 1, 1, E8}, true, 0, NTK | CTK, {{{0, 1, {0}}}, 1, 1, E8}, 1},
+    {"P9", {{{0, 1, {0}}}, 1, 1, E8}, true, 0, NTK | STP, {{{0}}, 0, 0, E8}, 1},
 };
 
-static void play_stacks(void) {
-    for (size_t i = 0; i < sizeof stacks / sizeof *stacks; i++) {
-        const stack *p = &stacks[i];
+/* Which rule moves each of them, where its task was found, and how. */
+static const milchkompass_reason told[] = {
+    {0, 9, 0, MILCHKOMPASS_FOUND_NONE},         {0, 8, 0, MILCHKOMPASS_FOUND_NONE},
+    {0, 8, 0, MILCHKOMPASS_FOUND_NONE},         {0, 7, 0, MILCHKOMPASS_FOUND_NONE},
+    {0, 17, 3, MILCHKOMPASS_FOUND_BY_AFFINITY}, {0, 16, 3, MILCHKOMPASS_FOUND_BY_AFFINITY},
+    {0, 15, 1, MILCHKOMPASS_FOUND_BY_ROOT},     {0, 4, 1, MILCHKOMPASS_FOUND_BY_ROOT},
+    {0, 12, 1, MILCHKOMPASS_FOUND_BY_ROOT},     {0, 16, 1, MILCHKOMPASS_FOUND_BY_ROOT},
+};
+_Static_assert(sizeof told / sizeof *told == sizeof stacks / sizeof *stacks, "a reason for each stack");
+
+/* What editions 6 and 7 do otherwise, and what they do alike. */
+static const stack other_stacks[] = {
+    {"7, R9, main task", {{{0, 3, {0, 1, 2}}}, 1, 1, E7}, false, 1, RTF, {{{0, 1, {1}}}, 1, 1, E7}, 3},
+    {"7, R9, finishing", {{{0, 3, {0, 1, 2}}}, 1, 1, E7}, true, 1, RTF, {{{0, 1, {1}}}, 1, 1, E7}, 3},
+    {"7, R9, no main task", {{{0, 3, {0, 1, 2}}}, 1, 0, E7}, false, 1, RTF, {{{0, 3, {0, 2, 1}}}, 1, 0, E7}, 0},
+    {"7, R9, other task", {{{5, 2, {5, 1}}, {0, 1, {0}}}, 2, 2, E7}, false, 5, RTF,
+                          {{{5, 2, {1, 5}}, {0, 1, {0}}}, 2, 2, E7}, 0},
+    {"7, R7", {{{0, 3, {0, 1, 2}}}, 1, 1, E7}, false, 2, RTF, {{{0, 3, {0, 1, 2}}}, 1, 1, E7}, 0},
+    {"6, R9", {{{0, 3, {0, 1, 2}}}, 1, 1, E6}, false, 1, RTF, {{{0, 3, {0, 2, 1}}}, 1, 1, E6}, 0},
+    {"6, P6", {{{5, 2, {5, 1}}, {0, 1, {0}}}, 2, 2, E6}, false, 5, NTK,
+              {{{5, 3, {5, 1, 5}}, {0, 1, {0}}}, 2, 2, E6}, 0},
+    {"6, single-task", {{{5, 1, {5}}, {0, 1, {0}}, {3, 1, {5}}}, 3, 2, E6}, false, 3, 0,
+                       {{{5, 2, {5, 3}}, {0, 1, {0}}, {3, 1, {5}}}, 3, 2, E6}, 0},
+    {"6, R1", {{{0, 1, {0}}, {4, 1, {4}}}, 2, 1, E6}, false, 4, 0, {{{4, 1, {4}}, {0, 1, {0}}}, 2, 2, E6}, 0},
+    {"6, P9", {{{0, 1, {0}}}, 1, 1, E6}, true, 0, NTK | STP, {{{0}}, 0, 0, E8}, 1},
+};
+
+static const milchkompass_reason other_told[] = {
+    {0, 9, 0, MILCHKOMPASS_FOUND_NONE},         {0, 9, 0, MILCHKOMPASS_FOUND_NONE},
+    {0, 9, 0, MILCHKOMPASS_FOUND_NONE},         {0, 9, 0, MILCHKOMPASS_FOUND_NONE},
+    {0, 7, 0, MILCHKOMPASS_FOUND_NONE},         {0, 9, 0, MILCHKOMPASS_FOUND_NONE},
+    {0, 17, 1, MILCHKOMPASS_FOUND_BY_AFFINITY}, {0, 5, 1, MILCHKOMPASS_FOUND_BY_AFFINITY},
+    {0, 1, 2, MILCHKOMPASS_FOUND_BY_ROOT},      {0, 16, 1, MILCHKOMPASS_FOUND_BY_AFFINITY},
+};
+_Static_assert(sizeof other_told / sizeof *other_told == sizeof other_stacks / sizeof *other_stacks, "the same");
+
+/* Of each stack what is told, and then the start. */
+static void play_stacks(const stack *p, const milchkompass_reason *wanted, size_t count) {
+    for (; count > 0; count--, p++, wanted++) {
         session s = p->before;
+        milchkompass_reason got = milchkompass_why(T, s, p->b, p->word);
+        expect(memcmp(&got, wanted, sizeof got) == 0, p->name);
         answer a = p->finishing ? milchkompass_finish_start(T, &s, p->b, p->word)
                                 : milchkompass_start(T, &s, p->b, p->word);
-        expect(a.refusal == MILCHKOMPASS_ACCEPTED && same(s, p->after) && a.closed == p->closed, p->name);
+        expect(a.refusal == MILCHKOMPASS_ACCEPTED && same(s, p->after), p->name);
+        expect(a.closed == p->closed && a.edition == p->after.edition, p->name);
     }
 }
 
 /* The reason of a start of b is these four numbers. */
-#define REASON(before, b, word, ...)                                                                                   \
+#define REASON(table, before, b, word, ...)                                                                            \
     do {                                                                                                               \
-        milchkompass_reason got = milchkompass_why(T, before, b, word), wanted = {__VA_ARGS__};                        \
+        milchkompass_reason got = milchkompass_why(table, sizeof table, before, b, word), wanted = {__VA_ARGS__};      \
         expect(memcmp(&got, &wanted, sizeof got) == 0, "why " #before " " #b " " #word);                               \
     } while (0)
 
-/* Which rule moves each of P1 to P9, where its task was found, and how. */
-static void reasons(void) {
-    const milchkompass_reason told[] = {
-        {0, 9, 0, MILCHKOMPASS_FOUND_NONE},    {0, 8, 0, MILCHKOMPASS_FOUND_NONE},
-        {0, 8, 0, MILCHKOMPASS_FOUND_NONE},    {0, 7, 0, MILCHKOMPASS_FOUND_NONE},
-        {0, 17, 3, MILCHKOMPASS_FOUND_BY_AFFINITY}, {0, 16, 3, MILCHKOMPASS_FOUND_BY_AFFINITY},
-        {0, 15, 1, MILCHKOMPASS_FOUND_BY_ROOT}, {0, 4, 1, MILCHKOMPASS_FOUND_BY_ROOT},
-        {0, 12, 1, MILCHKOMPASS_FOUND_BY_ROOT}, {0, 16, 1, MILCHKOMPASS_FOUND_BY_ROOT},
-    };
-    _Static_assert(sizeof told / sizeof *told == sizeof stacks / sizeof *stacks, "a reason for each stack");
-    for (size_t i = 0; i < sizeof stacks / sizeof *stacks; i++) {
-        const stack *p = &stacks[i];
-        milchkompass_reason got = milchkompass_why(T, p->before, p->b, p->word);
-        expect(memcmp(&got, &told[i], sizeof got) == 0, p->name);
-    }
-    const session fresh = {0}, unsound = {{{0}}, 0, 1};
+/* Why a start is refused. */
+static void refused_reasons(void) {
+    const session fresh = MILCHKOMPASS_SESSION_FRESH, unsound = {{{0}}, 0, 1, E8};
     const uint8_t bad_mode[] = {1, 0, 4, 0};
     milchkompass_reason cut = milchkompass_why(table_t, sizeof table_t - 1, unsound, 255, 1);
     expect(cut.refusal == MILCHKOMPASS_TABLE_LENGTH && cut.rule + cut.place + cut.found == 0, "why, table cut");
-    milchkompass_reason mode = milchkompass_why(bad_mode, sizeof bad_mode, unsound, 255, 1);
-    expect(mode.refusal == MILCHKOMPASS_TABLE_CONTENT && mode.rule + mode.place + mode.found == 0, "why, bad mode");
-    REASON(unsound, 255, 1, MILCHKOMPASS_SESSION_UNSOUND, 0, 0, 0);
-    REASON(p10, 6, 1, MILCHKOMPASS_NO_SUCH_SCREEN, 0, 0, 0);
-    REASON(fresh, 0, 1, MILCHKOMPASS_OTHER_FLAG, 0, 0, 0);
-    REASON(fresh, 0, 0, MILCHKOMPASS_EMPTY, 0, 0, 0);
+    REASON(bad_mode, unsound, 255, 1, MILCHKOMPASS_TABLE_CONTENT, 0, 0, 0);
+    REASON(table_t, unsound, 255, 1, MILCHKOMPASS_SESSION_UNSOUND, 0, 0, 0);
+    REASON(table_t, p10, 6, 1, MILCHKOMPASS_NO_SUCH_SCREEN, 0, 0, 0);
+    REASON(table_t, fresh, 0, 1, MILCHKOMPASS_OTHER_FLAG, 0, 0, 0);
+    REASON(table_t, fresh, 0, 0, MILCHKOMPASS_EMPTY, 0, 0, 0);
+}
+
+/* Screens without affinity in edition 6: a single-task one is sought by root, another is not sought at all. */
+static void without_affinity(void) {
+    const uint8_t table[] = {3, 0, LAUNCH_MULTIPLE, 1, LAUNCH_SINGLE_TASK, 0, LAUNCH_MULTIPLE, 0};
+    session s = {{{0, 1, {0}}, {1, 1, {1}}}, 2, 1, E6};
+    REASON(table, s, 1, 0, 0, 4, 2, MILCHKOMPASS_FOUND_BY_ROOT);
+    ANSWERS(milchkompass_start(table, sizeof table, &s, 1, 0), 0, 1, 1, 1, 2, 2, 0, 6);
+    s = (session){{{2, 1, {2}}, {0, 1, {0}}}, 2, 2, E6};
+    REASON(table, s, 2, NTK, 0, 18, 0, MILCHKOMPASS_FOUND_NONE);
+    ANSWERS(milchkompass_start(table, sizeof table, &s, 2, NTK), 0, 2, 2, 1, 3, 3, 0, 6);
+    s = (session){{{2, 1, {2}}, {0, 1, {0}}}, 2, 2, E8};
+    REASON(table, s, 2, NTK, 0, 15, 1, MILCHKOMPASS_FOUND_BY_ROOT);
+    ANSWERS(milchkompass_start(table, sizeof table, &s, 2, NTK), 0, 2, 2, 1, 2, 2, 0, 8);
 }
 
 /* P10's image, there and back, byte for byte. */
@@ -194,14 +242,40 @@ static void save_and_restore(void) {
     expect(reply.refusal == MILCHKOMPASS_ACCEPTED && reply.length == sizeof p10_image, "save of P10");
     expect(memcmp(out, p10_image, sizeof p10_image) == 0, "the image of P10");
     expect(out[sizeof p10_image] == 0xee, "the rest of the buffer");
-    session s = {0};
-    ANSWERS(milchkompass_restore(T, &s, out, reply.length), 0, 3, 3, 1, 2, 2, 0);
+    session s = MILCHKOMPASS_SESSION_FRESH;
+    ANSWERS(milchkompass_restore(T, &s, out, reply.length), 0, 3, 3, 1, 2, 2, 0, 8);
     expect(same(s, p10), "restore of P10");
+}
+
+/* The image of P10 with any byte for its edition: three are images, of three sessions. */
+static void editions_of_images(void) {
+    uint8_t image[sizeof p10_image], out[sizeof p10_image], empty[] = {0, 0, 0, 0, 8, 0x42};
+    memcpy(image, p10_image, sizeof image);
+    for (int i = 0; i < 256; i++) {
+        session s = MILCHKOMPASS_SESSION_FRESH, second = p10;
+        const session fresh = s;
+        uint8_t edition = second.edition = image[sizeof image - 2] = empty[4] = (uint8_t)i;
+        if (edition < E6 || edition > E8) {
+            REFUSED(MILCHKOMPASS_IMAGE_TRAILER, p10, milchkompass_restore(T, &s, image, sizeof image));
+            REFUSED(MILCHKOMPASS_IMAGE_TRAILER, p10, milchkompass_restore(T, &s, empty, sizeof empty));
+            continue;
+        }
+        ANSWERS(milchkompass_restore(T, &s, image, sizeof image), 0, 3, 3, 1, 2, 2, 0, edition);
+        expect(same(s, second), "restore of P10 in an edition");
+        milchkompass_save_reply reply = milchkompass_save(T, s, out, sizeof out);
+        expect(reply.length == sizeof out && memcmp(out, image, sizeof out) == 0, "the image of P10 in an edition");
+        if (edition == E8) {
+            ANSWERS(milchkompass_restore(T, &s, empty, sizeof empty), 0, 0, 0, 0, 0, 0, 0, 8);
+            expect(same(s, fresh), "restore of a fresh session");
+        } else {
+            REFUSED(MILCHKOMPASS_IMAGE_UNSOUND, p10, milchkompass_restore(T, &s, empty, sizeof empty));
+        }
+    }
 }
 
 /* Every call is refused by this number, whatever else it is given. */
 static void all_refused(uint8_t number, const uint8_t *table, size_t length, session before) {
-    REFUSED(number, before, milchkompass_launch(table, length, &s));
+    REFUSED(number, before, milchkompass_launch(table, length, &s, 5));
     REFUSED(number, before, milchkompass_start(table, length, &s, 255, 1));
     REFUSED(number, before, milchkompass_finish_start(table, length, &s, 255, 1));
     REFUSED(number, before, milchkompass_back(table, length, &s));
@@ -213,16 +287,37 @@ static void all_refused(uint8_t number, const uint8_t *table, size_t length, ses
 /* Refusals 1, 2 and 20. */
 static void shared_refusals(void) {
     const uint8_t no_main[] = {1, 1, LAUNCH_MULTIPLE, 0}, bad_mode[] = {1, 0, 4, 0};
-    const session unsound = {{{0}}, 0, 1};
+    const session unsound = {{{0}}, 0, 1, E8};
     all_refused(MILCHKOMPASS_TABLE_LENGTH, table_t, sizeof table_t - 1, unsound);
     all_refused(MILCHKOMPASS_TABLE_CONTENT, no_main, sizeof no_main, unsound);
     all_refused(MILCHKOMPASS_TABLE_CONTENT, bad_mode, sizeof bad_mode, unsound);
     all_refused(MILCHKOMPASS_SESSION_UNSOUND, T, unsound);
 }
 
-/* Refusals 3, 4, 21 and 22. */
+/* Refusal 20 by the edition: none of the three, which all zeros have too, or one that an empty session has not. */
+static void held_editions(void) {
+    session empty = MILCHKOMPASS_SESSION_FRESH, second = p10;
+    for (int i = 0; i < 256; i++) {
+        uint8_t edition = empty.edition = second.edition = (uint8_t)i;
+        if (edition != E8) all_refused(MILCHKOMPASS_SESSION_UNSOUND, T, empty);
+        if (edition < E6 || edition > E8) all_refused(MILCHKOMPASS_SESSION_UNSOUND, T, second);
+    }
+}
+
+/* Refusal 30, after 22: launch takes 0, 6, 7 and 8. */
+static void launch_refusals(void) {
+    const session fresh = MILCHKOMPASS_SESSION_FRESH;
+    for (int i = 0; i < 256; i++) {
+        uint8_t edition = (uint8_t)i;
+        REFUSED(MILCHKOMPASS_NOT_EMPTY, p10, milchkompass_launch(T, &s, edition));
+        if (edition == 0 || edition == E6 || edition == E7 || edition == E8) continue;
+        REFUSED(MILCHKOMPASS_NO_SUCH_EDITION, fresh, milchkompass_launch(T, &s, edition));
+    }
+}
+
+/* Refusals 3, 4 and 21. */
 static void call_refusals(void) {
-    const session fresh = {0};
+    const session fresh = MILCHKOMPASS_SESSION_FRESH;
     REFUSED(MILCHKOMPASS_NO_SUCH_SCREEN, p10, milchkompass_start(T, &s, 6, 1));
     REFUSED(MILCHKOMPASS_NO_SUCH_SCREEN, p10, milchkompass_finish_start(T, &s, 6, 1));
     REFUSED(MILCHKOMPASS_OTHER_FLAG, fresh, milchkompass_start(T, &s, 0, 1));
@@ -230,7 +325,6 @@ static void call_refusals(void) {
     REFUSED(MILCHKOMPASS_EMPTY, fresh, milchkompass_start(T, &s, 0, 0));
     REFUSED(MILCHKOMPASS_EMPTY, fresh, milchkompass_finish_start(T, &s, 0, 0));
     REFUSED(MILCHKOMPASS_EMPTY, fresh, milchkompass_back(T, &s));
-    REFUSED(MILCHKOMPASS_NOT_EMPTY, p10, milchkompass_launch(T, &s));
 }
 
 /* Refusals 5, 6, 7 and 8. */
@@ -244,31 +338,42 @@ static void image_refusals(void) {
 
 /* Refusals 23 and 24: a session of 16 tasks, and a task of 32 screens; one less takes one more. */
 static void full(void) {
-    session s = {0};
-    milchkompass_launch(T, &s);
+    session s = MILCHKOMPASS_SESSION_FRESH;
+    milchkompass_launch(T, &s, E8);
     for (int i = 2; i <= MILCHKOMPASS_TASKS; i++)
-        ANSWERS(milchkompass_start(T, &s, 0, NTK | MTK), 0, 0, 0, 1, i, i, 0);
+        ANSWERS(milchkompass_start(T, &s, 0, NTK | MTK), 0, 0, 0, 1, i, i, 0, 8);
     const session tasks = s;
     REFUSED(MILCHKOMPASS_TASKS_FULL, tasks, milchkompass_start(T, &s, 0, NTK | MTK));
     REFUSED(MILCHKOMPASS_TASKS_FULL, tasks, milchkompass_finish_start(T, &s, 0, NTK | MTK));
-    s = (session){0};
-    milchkompass_launch(T, &s);
+    s = (session)MILCHKOMPASS_SESSION_FRESH;
+    milchkompass_launch(T, &s, 0);
     for (int i = 2; i <= MILCHKOMPASS_SCREENS; i++)
-        ANSWERS(milchkompass_start(T, &s, 1, 0), 0, 1, 0, i, 1, 1, 0);
+        ANSWERS(milchkompass_start(T, &s, 1, 0), 0, 1, 0, i, 1, 1, 0, 8);
     const session screens = s;
     REFUSED(MILCHKOMPASS_TASK_FULL, screens, milchkompass_start(T, &s, 1, 0));
     REFUSED(MILCHKOMPASS_TASK_FULL, screens, milchkompass_finish_start(T, &s, 1, 0));
-    ANSWERS(milchkompass_start(T, &s, 0, RTF), 0, 0, 0, 32, 1, 1, 0);
+    ANSWERS(milchkompass_start(T, &s, 0, RTF), 0, 0, 0, 32, 1, 1, 0, 8);
+    s = screens;
+    s.edition = E7;
+    ANSWERS(milchkompass_start(T, &s, 0, RTF), 0, 0, 0, 1, 1, 1, 32, 7);
 }
 
 int main(void) {
     number();
     fresh_and_texts();
-    example();
-    play_stacks();
-    reasons();
+    example(0, E8);
+    example(E8, E8);
+    example(E7, E7);
+    example(E6, E6);
+    play_stacks(stacks, told, sizeof stacks / sizeof *stacks);
+    play_stacks(other_stacks, other_told, sizeof other_stacks / sizeof *other_stacks);
+    without_affinity();
+    refused_reasons();
     save_and_restore();
+    editions_of_images();
     shared_refusals();
+    held_editions();
+    launch_refusals();
     call_refusals();
     image_refusals();
     full();

@@ -39,7 +39,7 @@ fn call(session: &mut Session, record: &[u8]) -> Told {
     let (screen, flags) = (record[1], flags_of(&record[2..]));
     let reason = session.why(screen, flags);
     let answer = match record[0] {
-        1 => session.launch(),
+        1 => session.launch_byte(screen),
         2 => session.start(screen, flags),
         3 => session.finish_start(screen, flags),
         4 => session.back(),
@@ -65,10 +65,16 @@ fn tell(session: &mut Result<Session, Refusal>, record: &[u8]) -> Told {
 fn line(kind: u8, answer: &Result<Answer, Refused>) -> String {
     match answer {
         Ok(a) => format!(
-            "{kind} 0 {} {} {} {} {} {}\n",
-            a.screen, a.root, a.height, a.tasks, a.main, a.closed
+            "{kind} 0 {} {} {} {} {} {} {}\n",
+            a.screen,
+            a.root,
+            a.height,
+            a.tasks,
+            a.main,
+            a.closed,
+            a.edition.number()
         ),
-        Err((number, _)) => format!("{kind} {number} 0 0 0 0 0 0\n"),
+        Err((number, _)) => format!("{kind} {number} 0 0 0 0 0 0 0\n"),
     }
 }
 
@@ -95,7 +101,7 @@ fn main() -> io::Result<()> {
     io::stdin().read_to_end(&mut recording)?;
     let mut out = io::BufWriter::new(io::stdout().lock());
     let Some((table, records)) = parts(&recording) else {
-        return out.write_all(b"0 1 0 0 0 0 0 0\n");
+        return out.write_all(b"0 1 0 0 0 0 0 0 0\n");
     };
     let mut session = Table::from_bytes(table).map(Session::new);
     for record in records.chunks(6) {

@@ -2,7 +2,7 @@
 //! flags, affinities and Back, on Android's terms.
 //!
 //! ```
-//! use milchkompass::{Flags, LaunchMode, Refusal, Screen, Session, Table};
+//! use milchkompass::{Edition, Flags, LaunchMode, Refusal, Screen, Session, Table};
 //!
 //! # fn main() -> Result<(), Refusal> {
 //! // Screen 0 is the main one; screen 2 lives in a task of its own.
@@ -12,7 +12,7 @@
 //!     Screen::new(LaunchMode::SingleTask, 2),
 //! ])?;
 //! let mut session = Session::new(table);
-//! session.launch()?;
+//! session.launch(Edition::Android8)?;
 //! session.start(1, Flags::NONE)?;
 //! let answer = session.start(2, Flags::NONE)?;
 //! assert_eq!((answer.screen, answer.tasks), (2, 2));
@@ -25,7 +25,7 @@
 //! session.restore(&image)?;
 //!
 //! // A refused call says why, and changes nothing.
-//! assert_eq!(session.launch(), Err(Refusal::NotEmpty));
+//! assert_eq!(session.launch(Edition::Android8), Err(Refusal::NotEmpty));
 //! assert_eq!(session.back()?.screen, 1);
 //! # Ok(())
 //! # }
@@ -40,6 +40,7 @@
 
 #![warn(missing_docs)]
 
+mod edition;
 mod flags;
 mod number;
 mod raw;
@@ -48,6 +49,7 @@ mod refusal;
 mod session;
 mod table;
 
+pub use edition::Edition;
 pub use flags::Flags;
 pub use number::UnknownNumber;
 pub use reason::{Found, FoundBy, Reason, Rule};

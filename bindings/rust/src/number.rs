@@ -3,7 +3,7 @@
 use std::error::Error;
 use std::fmt;
 
-/// A number that no launch mode, no refusal, or no rule, has.
+/// A number that no launch mode, no edition, no refusal, or no rule, has.
 #[derive(Clone, Copy, Debug, PartialEq, Eq, Hash)]
 pub struct UnknownNumber {
     pub(crate) number: u8,

@@ -2,7 +2,7 @@
 //! length.
 
 /// The number of the interface that this file declares.
-const ABI: u32 = 2;
+const ABI: u32 = 3;
 
 /// The limits of a session: its tasks, and the screens of a task.
 const TASKS: usize = 16;
@@ -20,16 +20,18 @@ pub struct Task {
     pub screens: [u8; SCREENS],
 }
 
-/// A session: n tasks, front first, and the main place.
+/// A session: n tasks, front first, the main place, and the edition.
 #[repr(C)]
 #[derive(Clone, Copy, PartialEq, Eq, Hash)]
 pub struct Session {
     pub tasks: [Task; TASKS],
     pub n: u8,
     pub main: u8,
+    pub edition: u8,
 }
 
 impl Session {
+    /// No task, and edition 8.
     pub const FRESH: Session = Session {
         tasks: [Task {
             root: 0,
@@ -38,10 +40,11 @@ impl Session {
         }; TASKS],
         n: 0,
         main: 0,
+        edition: 8,
     };
 }
 
-/// An answer: seven numbers.
+/// An answer: eight numbers.
 #[repr(C)]
 pub struct Answer {
     pub refusal: u8,
@@ -51,6 +54,7 @@ pub struct Answer {
     pub tasks: u8,
     pub main: u8,
     pub closed: u8,
+    pub edition: u8,
 }
 
 /// What a save gives.
@@ -71,7 +75,12 @@ pub struct Reason {
 
 extern "C" {
     fn milchkompass_abi() -> u32;
-    fn milchkompass_launch(table: *const u8, table_length: usize, s: *mut Session) -> Answer;
+    fn milchkompass_launch(
+        table: *const u8,
+        table_length: usize,
+        s: *mut Session,
+        edition: u8,
+    ) -> Answer;
     fn milchkompass_start(
         table: *const u8,
         table_length: usize,
@@ -126,8 +135,8 @@ pub fn check_abi() {
     );
 }
 
-pub fn launch(table: &[u8], s: &mut Session) -> Answer {
-    unsafe { milchkompass_launch(table.as_ptr(), table.len(), s) }
+pub fn launch(table: &[u8], s: &mut Session, edition: u8) -> Answer {
+    unsafe { milchkompass_launch(table.as_ptr(), table.len(), s, edition) }
 }
 
 pub fn start(table: &[u8], s: &mut Session, b: u8, word: u32) -> Answer {

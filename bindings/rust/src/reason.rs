@@ -39,7 +39,7 @@ rules! {
     6 R6 "no task is found for the single-task screen: a new task of it alone comes to the front"
     7 R7 "the screen is in front already: the start moves nothing"
     8 R8 "the front task holds the screen, and CLEAR_TOP is set: what lay above the screen closes"
-    9 R9 "the front task holds the screen, and REORDER_TO_FRONT is set: the screen comes to its top"
+    9 R9 "the front task holds the screen, and REORDER_TO_FRONT is set: it comes to the top; edition 7 empties a main task first"
     10 R10 "the screen opens on top of the front task"
     11 R11 "MULTIPLE_TASK is set: a new task of the screen alone comes to the front"
     12 R12 "a task is found for it, and CLEAR_TASK is set: it comes to the front, all in it closes, and the screen opens in it"

@@ -35,7 +35,7 @@ refusals! {
     2 TableContent "main screen not below N, or a mode above 3"
     3 NoSuchScreen "start: B not below N"
     4 OtherFlag "start: a bit outside the six"
-    5 ImageTrailer "restore: under 6 bytes, last two bytes not hex 08 42, or length not L + 6"
+    5 ImageTrailer "restore: under 6 bytes, last two bytes not hex 06 42, 07 42 or 08 42, or length not L + 6"
     6 ImageTasks "restore: n above 16, or the L bytes are not exactly n tasks of height 1 to 32"
     7 ImageUnsound "restore: the session read from the image is not sound under the table"
     8 BufferShort "save: buffer shorter than the image"
@@ -44,6 +44,7 @@ refusals! {
     22 NotEmpty "launch: not empty"
     23 TasksFull "a new task is needed and n = 16"
     24 TaskFull "a push onto a task of 32 (not after empty)"
+    30 NoSuchEdition "launch: edition not 0, 6, 7 or 8"
 }
 
 impl Refusal {

@@ -3,10 +3,10 @@
 use std::fmt;
 
 use crate::raw;
-use crate::{Flags, Reason, Refusal, Table};
+use crate::{Edition, Flags, Reason, Refusal, Table};
 
 /// What an accepted call leaves in front, all zeros where the session is empty,
-/// and how many screens it closed.
+/// how many screens it closed, and the session's edition.
 #[derive(Clone, Copy, Debug, Default, PartialEq, Eq, Hash)]
 pub struct Answer {
     /// The front screen.
@@ -21,6 +21,8 @@ pub struct Answer {
     pub main: u8,
     /// How many screens the call closed; 0 for launch, look and restore.
     pub closed: u8,
+    /// The session's edition after the call, Android 8.0 where it is empty.
+    pub edition: Edition,
 }
 
 impl Answer {
@@ -43,8 +45,8 @@ pub struct Task<'a> {
 /// list of calls tells equal ones apart. Threads may share a `&Session`: look,
 /// save and why lend the library a copy.
 ///
-/// It shows its tasks, front first, as `root:[top,..,bottom]`, and the main
-/// place: `3:[3] 0:[1,0], m 2`.
+/// It shows its tasks, front first, as `root:[top,..,bottom]`, the main place,
+/// and its edition where that is not 8: `3:[3] 0:[1,0], m 2, edition 7`.
 #[derive(Clone, PartialEq, Eq, Hash)]
 pub struct Session {
     table: Table,
@@ -52,7 +54,7 @@ pub struct Session {
 }
 
 impl Session {
-    /// A fresh session: no task.
+    /// A fresh session: no task, and the edition of an empty session.
     pub fn new(table: Table) -> Session {
         Session {
             table,
@@ -79,16 +81,35 @@ impl Session {
         self.stored.main
     }
 
-    /// Launch: one task of the main screen alone, which is the main task.
+    /// The edition: the one of its launch, or of the image that was restored,
+    /// and Android 8.0 where the session is empty.
+    pub fn edition(&self) -> Edition {
+        edition_of(self.stored.edition)
+    }
+
+    /// Launch: one task of the main screen alone, which is the main task. The
+    /// session keeps the edition until it is empty or an image is restored.
     ///
     /// # Errors
     ///
     /// [`NotEmpty`](Refusal::NotEmpty).
-    pub fn launch(&mut self) -> Result<Answer, Refusal> {
-        outcome(raw::launch(self.table.bytes(), &mut self.stored))
+    pub fn launch(&mut self, edition: Edition) -> Result<Answer, Refusal> {
+        self.launch_byte(edition.number())
     }
 
-    /// Start of a screen, by the first of the rules R1 to R18 that fits.
+    /// As [`launch`](Session::launch), with the edition as a recording has it:
+    /// the screen byte of a launch record, in which 0 stands for 8.
+    ///
+    /// # Errors
+    ///
+    /// The first that applies: [`NotEmpty`](Refusal::NotEmpty),
+    /// [`NoSuchEdition`](Refusal::NoSuchEdition).
+    pub fn launch_byte(&mut self, edition: u8) -> Result<Answer, Refusal> {
+        outcome(raw::launch(self.table.bytes(), &mut self.stored, edition))
+    }
+
+    /// Start of a screen, by the first of the rules R1 to R18 that fits in the
+    /// session's edition.
     ///
     /// # Errors
     ///
@@ -158,7 +179,8 @@ impl Session {
         Ok(reply.length)
     }
 
-    /// Restore: the session of a whole image, in the place of the present one.
+    /// Restore: the session of a whole image, with its edition, in the place of
+    /// the present one.
     ///
     /// # Errors
     ///
@@ -173,6 +195,10 @@ impl Session {
 /// The table is good, the session was fresh, and calls keep it sound.
 const NEVER: &str = "refused only where table or session are bad";
 
+fn edition_of(number: u8) -> Edition {
+    Edition::try_from(number).expect("the library gives no other number")
+}
+
 fn outcome(answer: raw::Answer) -> Result<Answer, Refusal> {
     Refusal::check(answer.refusal)?;
     Ok(Answer {
@@ -182,6 +208,7 @@ fn outcome(answer: raw::Answer) -> Result<Answer, Refusal> {
         tasks: answer.tasks,
         main: answer.main,
         closed: answer.closed,
+        edition: edition_of(answer.edition),
     })
 }
 
@@ -193,7 +220,11 @@ impl fmt::Display for Session {
             write!(f, "{space}{}:[{}]", task.root, screens.join(","))?;
         }
         let comma = if self.tasks().len() == 0 { "" } else { ", " };
-        write!(f, "{comma}m {}", self.main_place())
+        write!(f, "{comma}m {}", self.main_place())?;
+        match self.edition() {
+            Edition::Android8 => Ok(()),
+            other => write!(f, ", edition {}", other.number()),
+        }
     }
 }
 

@@ -6,7 +6,7 @@ use std::collections::HashSet;
 use std::thread;
 
 use common::{image, session, table_t};
-use milchkompass::{Answer, Flags, LaunchMode, Refusal, Screen, Session, Table, Task};
+use milchkompass::{Answer, Edition, Flags, LaunchMode, Refusal, Screen, Session, Table, Task};
 
 const NTK: Flags = Flags::NEW_TASK;
 const STP: Flags = Flags::SINGLE_TOP;
@@ -15,6 +15,7 @@ const CTP: Flags = Flags::CLEAR_TOP;
 const RTF: Flags = Flags::REORDER_TO_FRONT;
 const CTK: Flags = Flags::CLEAR_TASK;
 
+/// An answer in edition 8.
 fn answer(screen: u8, root: u8, height: u8, tasks: u8, main: u8, closed: u8) -> Answer {
     Answer {
         screen,
@@ -23,6 +24,7 @@ fn answer(screen: u8, root: u8, height: u8, tasks: u8, main: u8, closed: u8) -> 
         tasks,
         main,
         closed,
+        edition: Edition::Android8,
     }
 }
 
@@ -35,7 +37,8 @@ fn seen(s: &Session, closed: u8) -> Answer {
 fn the_players_example() {
     let mut s = Session::new(table_t());
     assert!(s.look().is_empty());
-    assert_eq!(s.launch(), Ok(answer(0, 0, 1, 1, 1, 0)));
+    let launched = s.launch(Edition::Android8);
+    assert_eq!(launched, Ok(answer(0, 0, 1, 1, 1, 0)));
     assert_eq!(s.start(1, Flags::NONE), Ok(answer(1, 0, 2, 1, 1, 0)));
     assert_eq!(s.start(3, Flags::NONE), Ok(answer(3, 3, 1, 2, 2, 0)));
     assert_eq!(s.look(), answer(3, 3, 1, 2, 2, 0));
@@ -182,8 +185,10 @@ fn what_a_session_holds() {
     let task = |root, screens| Task { root, screens };
     assert_eq!(tasks, [task(3, &[3]), task(0, &[0, 1])]);
     assert_eq!((p10.tasks().len(), p10.main_place()), (2, 2));
+    assert_eq!(p10.edition(), Edition::Android8);
     let fresh = Session::new(table_t());
     assert_eq!((fresh.tasks().len(), fresh.main_place()), (0, 0));
+    assert_eq!(fresh.edition(), Edition::Android8);
 }
 
 #[test]

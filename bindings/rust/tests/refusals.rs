@@ -4,7 +4,7 @@
 mod common;
 
 use common::{image, session, table_t};
-use milchkompass::{Flags, LaunchMode, Refusal, Screen, Session, Table};
+use milchkompass::{Edition, Flags, LaunchMode, Refusal, Screen, Session, Table};
 
 const PLAIN: Screen = Screen::new(LaunchMode::Standard, 0);
 
@@ -61,8 +61,27 @@ fn launch_and_back() {
     assert_eq!(fresh, Session::new(table_t()));
     let before = session(&[(3, &[3]), (0, &[1, 0])], 2);
     let mut s = before.clone();
-    assert_eq!(s.launch(), Err(Refusal::NotEmpty));
-    assert_eq!(s, before);
+    for edition in Edition::ALL {
+        assert_eq!(s.launch(*edition), Err(Refusal::NotEmpty));
+        assert_eq!(s, before);
+    }
+}
+
+/// Launch takes the bytes 0, 6, 7 and 8; 22 comes before 30.
+#[test]
+fn editions_of_a_launch() {
+    let fresh = Session::new(table_t());
+    let full = session(&[(3, &[3]), (0, &[1, 0])], 2);
+    for byte in 0..=255 {
+        let mut s = full.clone();
+        assert_eq!(s.launch_byte(byte), Err(Refusal::NotEmpty));
+        assert_eq!(s, full);
+        if ![0, 6, 7, 8].contains(&byte) {
+            let mut s = fresh.clone();
+            assert_eq!(s.launch_byte(byte), Err(Refusal::NoSuchEdition));
+            assert_eq!(s, fresh);
+        }
+    }
 }
 
 #[test]
@@ -90,7 +109,8 @@ fn errors() {
     let error: Box<dyn std::error::Error> = Box::new(Refusal::NotEmpty);
     assert_eq!(error.to_string(), "refusal 22: launch: not empty");
     let numbers: Vec<u8> = Refusal::ALL.iter().map(|r| r.number()).collect();
-    assert_eq!(numbers, [1, 2, 3, 4, 5, 6, 7, 8, 20, 21, 22, 23, 24]);
+    let known = [1, 2, 3, 4, 5, 6, 7, 8, 20, 21, 22, 23, 24, 30];
+    assert_eq!(numbers, known);
     for number in 0..=255 {
         match Refusal::try_from(number) {
             Ok(refusal) => assert_eq!(refusal.number(), number),

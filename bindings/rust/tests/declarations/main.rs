@@ -1,12 +1,13 @@
 //! The C header and this crate declare what the library's source declares:
 //! the number of the interface and its row, each function, each struct that one
-//! of them names, the limits, the launch modes, the flags, the refusals by the
-//! sentences that the definitions quote, and the rules by their own.
+//! of them names, the limits, the editions, the launch modes, the flags, the
+//! refusals by the sentences that the definitions quote, and the rules by their
+//! own.
 
 mod render;
 mod source;
 
-use milchkompass::{Flags, LaunchMode, Refusal, Rule};
+use milchkompass::{Edition, Flags, LaunchMode, Refusal, Rule};
 use source::read;
 
 /// Without white space and without a comma after the last of a list.
@@ -131,6 +132,33 @@ fn limits() {
     );
 }
 
+/// What stands between the braces of an enum of the header.
+fn names_of(name: &str) -> String {
+    let (header, head) = (header(), format!("enum milchkompass_{name} {{"));
+    let (_, rest) = header.split_once(&head).expect(name);
+    let (names, _) = rest.split_once('}').expect("their end");
+    names.to_string()
+}
+
+#[test]
+fn editions() {
+    let number = |n: u8| format!("MILCHKOMPASS_EDITION_{n}");
+    let all = Edition::ALL.iter().map(|edition| edition.number());
+    let declared: Vec<String> = all.map(|n| format!("{} = {n}", number(n))).collect();
+    let wanted = squeezed(&declared.join(","));
+    assert_eq!(squeezed(&names_of("edition")), wanted);
+    let fresh = Edition::default().number();
+    let in_c = format!(
+        "SESSION_FRESH {{{{{{0, 0, {{0}}}}}}, 0, 0, {}}}",
+        number(fresh)
+    );
+    has_line(&header(), &format!("#define MILCHKOMPASS_{in_c}"));
+    has(
+        &declared_in_rust(),
+        &format!("main: 0, edition: {fresh}, }};"),
+    );
+}
+
 /// Android's name for a constant of the header, which has it with the prefix,
 /// and without only for who asks.
 fn named(name: &str, value: &str) {
@@ -229,9 +257,5 @@ fn refusals() {
     }
     let with_accepted = Refusal::ALL.len() + 1;
     assert_eq!(header.matches("case MILCHKOMPASS_").count(), with_accepted);
-    let (_, rest) = header
-        .split_once("enum milchkompass_refusal {")
-        .expect("them");
-    let (names, _) = rest.split_once('}').expect("their end");
-    assert_eq!(names.matches(" = ").count(), with_accepted);
+    assert_eq!(names_of("refusal").matches(" = ").count(), with_accepted);
 }
