@@ -78,17 +78,19 @@ fn lowered(t: Task, h: u8) -> Task
 }
 
 // The screen behind m others is gone, the next k come down by one, and b stands where the last of them stood.
-pub fn closed_up(t: Task, m: usize, k: usize, b: u8) -> Task
+pub fn closed_up(t: Task, m: u8, k: u8, b: u8) -> Task
     requires { ⌜ m + k < mostHeight ⌝ }
     ensures { λ r. ⌜ r ≡ withScreens t (closedUp m k b (t .screens)) ⌝ }
 {
     let mut out = t;
-    let mut j: usize = 0;
+    let mut j: u8 = 0;
     while j < k {
-        out.screens[m + j] = out.screens[m + j + 1];
+        let i = (m + j) as usize;
+        out.screens[i] = out.screens[i + 1];
         j += 1;
     }
-    out.screens[m + k] = b;
+    let last = (m + k) as usize;
+    out.screens[last] = b;
     out
 }
 
@@ -122,7 +124,7 @@ fn lifted(t: Task, b: u8, place: u8) -> Task
     if place == 0 {
         return t;
     }
-    closed_up(t, (t.height - place) as usize, (place - 1) as usize, b)
+    closed_up(t, t.height - place, place - 1, b)
 }
 
 // What b is pushed onto: the task, emptied where it is renewed.

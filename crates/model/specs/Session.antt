@@ -97,7 +97,7 @@ editionKept (suc n) e = e
 
 -- ---- soundness
 
--- "Fresh means empty and sound: n = 0, m = 0."
+-- "Fresh means empty and sound: n = 0, m = 0." So its edition is 8.
 abbrev pub fresh : State ℕ
 fresh = state [] 0 8
 

@@ -22,4 +22,4 @@ returns c =
     ∙ sym (screen-gone t l (start .pre .0) (start .args .below) (start .pre .1))
 
 pub without-screen-spec : {M : Type 1} → statement M
-without-screen-spec = tie.close (tie.spec (λ c. search needs) (λ c. search needs) (λ c. search needs) closed-up-requires (λ c. search needs) returns)
+without-screen-spec = tie.close (tie.spec (λ c. search needs) (λ c. search needs) closed-up-requires (λ c. search needs) returns)

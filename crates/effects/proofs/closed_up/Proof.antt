@@ -56,4 +56,5 @@ closed-up-spec =
     loop-again
     (λ c. search needs)
     (λ c. search needs)
+    (λ c. search needs)
     returns)

@@ -40,4 +40,4 @@ returns-2 c =
     ∙ sym (lift-found (start .args .t) l (start .pre .0) (start .args .b) (start .args .place) (start .pre .1) (c .before .before .if1 .left))
 
 pub lifted-spec : {M : Type 1} → statement M
-lifted-spec = tie.close (tie.spec returns sub-closed-up (λ c. search needs) (λ c. search needs) (λ c. search needs) closed-up-requires returns-2)
+lifted-spec = tie.close (tie.spec returns sub-closed-up (λ c. search needs) closed-up-requires returns-2)
