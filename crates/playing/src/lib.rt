@@ -7,15 +7,12 @@ ghost use Prim.Native.Nat.{ℕ, _+_, _≤_};
 ghost use mathlib.Core.Path.{_≡_};
 ghost use mathlib.Core.List.{List, _++_};
 ghost use lib.ListN.{length};
-ghost use Rattle.io.specs.Counts.{Counts};
-ghost use Rattle.model.specs.Table.{longestTable};
 ghost use Rattle.model.specs.Player.{recordsIn};
 ghost use Rattle.notes.specs.Places.{Tells};
 ghost use Rattle.play.specs.Steps.{Playable};
 ghost use Rattle.playing.specs.Restores.{restoresFrom, behind};
 ghost use Rattle.playing.specs.Turns.{mostRecords, Says, Turns};
 use libc::STDERR_FILENO;
-use libc::STDOUT_FILENO;
 use notes::Notes;
 use session::Session;
 use table::Beginning;
@@ -24,38 +21,6 @@ use table::Beginning;
 const RECORDS: usize = 10000;
 
 const BLOCK: usize = 6 * RECORDS;
-
-// ---- reading and writing
-
-// Says why nothing more can be read, unless the input is at its end.
-fn check_end(fd: i32) {
-    let mut beyond = [0u8; 1];
-    if libc::read(fd, &mut beyond) < 0 {
-        os::fail(b"input");
-    }
-}
-
-// Reads until the buffer is full or the input ends, and yields how many bytes were read.
-fn read_block(fd: i32, buffer: &mut [u8]) -> usize
-    ensures { λ r. ⌜ Counts r (now (buffer .exit)) ⌝ }
-{
-    let got = io::read_full(fd, buffer);
-    if got < buffer.len() {
-        check_end(fd);
-    }
-    got
-}
-
-// Writes text to standard output and yields whether it went. It says why not, but where nobody reads on.
-fn print(text: &[u8]) -> bool {
-    if io::write_all(STDOUT_FILENO, text) {
-        return true;
-    }
-    if os::errno() != libc::EPIPE {
-        os::fail(b"standard output");
-    }
-    false
-}
 
 // ---- kind 6, which is the restore of `same` and no record of the player
 
@@ -137,7 +102,7 @@ fn say_lines(table: &[u8], s: Session, block: &[u8]) -> Said
     let mut output = [0u8; line::LONGEST * RECORDS];
     let played = play::play(table, s, block, &mut output);
     let written = played.written;
-    let went = print(&output[..written]);
+    let went = reading::print(&output[..written]);
     let after = played.session;
     Said {
         session: after,
@@ -154,7 +119,7 @@ fn say_reasons(table: &[u8], s: Session, block: &[u8], words: bool) -> Said
     let mut output = [0u8; explained::LONGEST * RECORDS];
     let played = explained::explain(table, s, block, words, &mut output);
     let written = played.written;
-    let went = print(&output[..written]);
+    let went = reading::print(&output[..written]);
     let after = played.session;
     Said {
         session: after,
@@ -188,7 +153,8 @@ fn turn(fd: i32, table: &[u8], s: Session, manner: Manner) -> Turned
     ensures { λ r. ⌜ Turns (now (table .entry)) s r ⌝ }
 {
     let mut input = [0u8; BLOCK];
-    let got = read_block(fd, &mut input);
+    let read = reading::read_block(fd, &mut input);
+    let got = read.count;
     let met = restores(&input[..got]);
     let said = say(table, s, &input[..got], manner);
     let after = said.session;
@@ -219,30 +185,19 @@ fn run(fd: i32, table: &[u8], manner: Manner) {
     }
 }
 
-// Reads a table to the start of the buffer: two bytes, and then as many as its N says. Yields how many were read.
-fn read_table(fd: i32, buffer: &mut [u8]) -> usize
-    requires { ⌜ longestTable ≤ length (now buffer) ⌝ }
-    ensures { λ r. ⌜ r ≤ longestTable ⌝ }
-{
-    let got = read_block(fd, &mut buffer[..2]);
-    let Beginning::Cut(long) = table::beginning_of(&buffer[..got]) else {
-        return got;
-    };
-    got + read_block(fd, &mut buffer[got..long])
-}
-
 // Says that there is no table.
 fn stop() {
     let mut line = [0u8; line::LONGEST];
     let long = input::write_stop(&mut line);
-    print(&line[..long]);
+    reading::print(&line[..long]);
 }
 
 // Plays what a file descriptor gives, in this manner: the table, then the records. What is read and written no contract can
 // say; what the player's text is stands in `input`, what a block gives in `play` and `explained`.
 pub fn play_from(fd: i32, manner: Manner) {
     let mut buffer = [0u8; table::LONGEST];
-    let got = read_table(fd, &mut buffer);
+    let read = reading::read_table(fd, &mut buffer);
+    let got = read.count;
     let Beginning::Table(long) = table::beginning_of(&buffer[..got]) else {
         stop();
         return;

@@ -18,8 +18,8 @@ slice-aggregate-beginning-of c = sym (length-take-le _ _ (array-share-prefix-buf
 array-share-prefix-buffer-2 : tie.Need-array-share-prefix-buffer-2
 array-share-prefix-buffer-2 c =
     let read = c .before .before .before .before .before .before .read-table in
-    let k = told (take (read .result) (read .last .1 .0)) (Beginning.Table (c .before .long .given .0 .0)) (c .before .before .before .beginning-of .ensures) (c .before .long .given .1) in
-    omega (arith, length-take (read .result) (read .last .1 .0))
+    let k = told (take (read .result .count) (read .last .1 .0)) (Beginning.Table (c .before .long .given .0 .0)) (c .before .before .before .beginning-of .ensures) (c .before .long .given .1) in
+    omega (arith, length-take (read .result .count) (read .last .1 .0))
 
 slice-aggregate-run : tie.Need-slice-aggregate-run
 slice-aggregate-run c = sym (length-take-le _ _ (array-share-prefix-buffer-2 (c .before)))

@@ -28,12 +28,12 @@ slice-aggregate-read-block c = search needs
 
 -- the block that was read
 abbrev block : tie.After-read-block → List ℕ
-block c = take (c .read-block .result) (c .read-block .last .1 .0)
+block c = take (c .read-block .result .count) (c .read-block .last .1 .0)
 
-long : (c : tie.After-read-block) → (length (block c) ≡ c .read-block .result) × (length (recordsIn (block c)) ≤ mostRecords)
+long : (c : tie.After-read-block) → (length (block c) ≡ c .read-block .result .count) × (length (recordsIn (block c)) ≤ mostRecords)
 long c =
     let read = c .read-block in
-    let e : length (block c) ≡ read .result = length-take-le (read .result) (read .last .1 .0) (read .ensures .0) in
+    let e : length (block c) ≡ read .result .count = length-take-le (read .result .count) (read .last .1 .0) (read .ensures .0) in
     let few = within (read .ensures .0) (read .kept .1 .0) (slice-aggregate-read-block (c .before)) (leb-true _ (6 * mostRecords) refl) in
     let k = records-few (block c) in
     (e, omega arith)

@@ -1,5 +1,5 @@
 -- Two bytes at most are read first; a table that is cut there has at most as many bytes as the longest table by its N.
-use Prim.Native.Nat.{_+_, _≤_, _<_}
+use Prim.Native.Nat.{_≤_, _<_}
 use mathlib.Core.Path.{sym}
 use mathlib.Core.List.{_++_}
 use native.Mathlib.Omega.{arith}
@@ -9,8 +9,8 @@ use borrow.Author.Needs.{needs}
 use borrow.Rule.Slice.PartMut.{mid-len}
 use Rattle.table.specs.declared.Beginning.{Beginning}
 use Rattle.table.proofs.BeginningLaws.{told}
-use Rattle.playing.proofs.read_table.Statement.{statement}
-use Rattle.playing.proofs.read_table.Tie as tie
+use Rattle.reading.proofs.read_table.Statement.{statement}
+use Rattle.reading.proofs.read_table.Tie as tie
 
 slice-aggregate-read-block : tie.Need-slice-aggregate-read-block
 slice-aggregate-read-block c = sym (length-take-le 2 (c .before .before .args .buffer .now) (omega arith))
@@ -18,7 +18,7 @@ slice-aggregate-read-block c = sym (length-take-le 2 (c .before .before .args .b
 -- what was read, and what stands in the buffer then
 few : (c : tie.After-read-block)
     → let there = c .read-block .last .1 .0 ++ drop 2 (c .before .before .before .args .buffer .now) in
-    (c .read-block .result ≤ 2) × ((c .read-block .result ≤ length there) × (130 ≤ length there))
+    (c .read-block .result .count ≤ 2) × ((c .read-block .result .count ≤ length there) × (130 ≤ length there))
 few c =
     let read = c .read-block in
     let buffer = c .before .before .before .args .buffer .now in
@@ -37,35 +37,45 @@ returns : tie.Need-returns
 returns c = omega (arith, few (c .before .before .before .before .before) .0)
 
 -- the table is cut there
-cut : (c : tie.After-long) → (c .before .before .before .before .before .before .read-block .result < c .long .given .0 .0) × (c .long .given .0 .0 ≤ 130)
+abbrev first : tie.After-long → tie.After-read-block
+first c = c .before .before .before .before .before .before
+
+cut : (c : tie.After-long) → (first c .read-block .result .count < c .long .given .0 .0) × (c .long .given .0 .0 ≤ 130)
 cut c =
-    let read = c .before .before .before .before .before .before in
+    let read = first c in
     let there = read .read-block .last .1 .0 ++ drop 2 (read .before .before .before .args .buffer .now) in
-    let k = told (take (read .read-block .result) there) (Beginning.Cut (c .long .given .0 .0)) (c .before .before .beginning-of .ensures) (c .long .given .1) in
-    let l = length-take-le (read .read-block .result) there (few read .1 .0) in
+    let k = told (take (read .read-block .result .count) there) (Beginning.Cut (c .long .given .0 .0)) (c .before .before .beginning-of .ensures) (c .long .given .1) in
+    let l = length-take-le (read .read-block .result .count) there (few read .1 .0) in
     (omega arith, omega arith)
 
+returns-2 : tie.Need-returns-2
+returns-2 c = omega (arith, few (first (c .before .before)) .0)
+
 sub-read-block : tie.Need-sub-read-block
-sub-read-block c = omega (arith, cut (c .before) .0)
+sub-read-block c = omega (arith, cut (c .before .before) .0)
 
 part-read-block-start : tie.Need-part-read-block-start
-part-read-block-start c = omega (arith, cut (c .before) .0)
+part-read-block-start c = omega (arith, cut (c .before .before) .0)
 
 part-read-block-end : tie.Need-part-read-block-end
 part-read-block-end c =
-    let k = cut (c .before) .1 in
-    let l = few (c .before .before .before .before .before .before .before) .1 .1 in
+    let k = cut (c .before .before) .1 in
+    let l = few (first (c .before .before)) .1 .1 in
     omega arith
 
-returns-2 : tie.Need-returns-2
-returns-2 c =
-    let long = c .before .before .before .before .before in
-    let read = long .before .before .before .before .before .before in
+returns-3 : tie.Need-returns-3
+returns-3 c =
+    let then = c .before .before .before in
+    let long = then .before .before .before .before in
+    let read = first long in
     let there = read .read-block .last .1 .0 ++ drop 2 (read .before .before .before .args .buffer .now) in
     let k = cut long in
     let l = few read .1 .1 in
-    let lent = mid-len (read .read-block .result) (long .long .given .0 .0) there (omega arith) in
-    omega (arith, c .before .before .read-block2 .ensures, c .before .before .read-block2 .kept .1 .0)
+    let lent = mid-len (read .read-block .result .count) (long .long .given .0 .0) there (omega arith) in
+    omega (arith, then .read-block2 .ensures, then .read-block2 .kept .1 .0)
+
+add-t14 : tie.Need-add-t14
+add-t14 c = let r = returns-3 c in omega arith
 
 pub read-table-spec : {M : Type 1} → statement M
 read-table-spec =
@@ -80,10 +90,12 @@ read-table-spec =
     (λ c. search needs)
     (λ c. search needs)
     returns
+    (λ c. search needs)
+    returns-2
     sub-read-block
     part-read-block-start
     part-read-block-end
     (λ c κs. search needs)
+    add-t14
     (λ c. search needs)
-    (λ c. search needs)
-    returns-2)
+    returns-3)
