@@ -1,0 +1,4 @@
+pub mod Tallying
+pub mod Figures
+pub mod BlockLaws
+pub mod Counting
