@@ -7,7 +7,8 @@
  *
  * For all arguments: an accepted call answers 0 and what is then in front; a refused call answers the number of the
  * first check that fails and zeros, and session and buffers keep every byte. The checks go in the order 1, 2, 20, then
- * those named for the call. A session that is sound under the table stays so.
+ * those named for the call. A session that is sound under the table stays so. The tally's two calls have a check of
+ * their own, 31.
  *
  * A pointer with a length is to that many bytes, and no pointer is null, even with length 0. What a call may write, a
  * session or a buffer, shares no byte with its other arguments. The library keeps no pointer, allocates nothing and has
@@ -15,7 +16,8 @@
  *
  * Threads may make calls at the same time, and may share a table and an image, which are only read. A session that is
  * lent by pointer is written in every call, in look too: look stores the session that it read, so its pointer is not
- * const. During the call no other thread reads or writes that session. Save and why take a copy. */
+ * const. During the call no other thread reads or writes that session. Save and why take a copy. So it is with a tally:
+ * add writes it, and report takes a copy. */
 #ifndef MILCHKOMPASS_H
 #define MILCHKOMPASS_H
 
@@ -60,7 +62,7 @@ enum milchkompass_edition {
 #define MILCHKOMPASS_FLAG_ACTIVITY_REORDER_TO_FRONT UINT32_C(0x00020000)
 #define MILCHKOMPASS_FLAG_ACTIVITY_CLEAR_TASK UINT32_C(0x00008000)
 
-/* The refusals; milchkompass_refusal_text says what each means. 9 is the player's alone. */
+/* The refusals; milchkompass_refusal_text says what each means. 9 is the player's alone, and 31 a tally's. */
 enum milchkompass_refusal {
     MILCHKOMPASS_ACCEPTED = 0,
     MILCHKOMPASS_TABLE_LENGTH = 1,
@@ -76,7 +78,8 @@ enum milchkompass_refusal {
     MILCHKOMPASS_NOT_EMPTY = 22,
     MILCHKOMPASS_TASKS_FULL = 23,
     MILCHKOMPASS_TASK_FULL = 24,
-    MILCHKOMPASS_NO_SUCH_EDITION = 30
+    MILCHKOMPASS_NO_SUCH_EDITION = 30,
+    MILCHKOMPASS_NOT_TALLIED = 31
 };
 
 /* The condition of a refusal, as the rules say it. */
@@ -97,6 +100,7 @@ static inline const char *milchkompass_refusal_text(uint8_t refusal) {
     case MILCHKOMPASS_TASKS_FULL: return "a new task is needed and n = 16";
     case MILCHKOMPASS_TASK_FULL: return "a push onto a task of 32 (not after empty)";
     case MILCHKOMPASS_NO_SUCH_EDITION: return "launch: edition not 0, 6, 7 or 8";
+    case MILCHKOMPASS_NOT_TALLIED: return "tally: a 65,536th call, an accepted height above 32, or a tally that no list of answers gives";
     default: return "no refusal of a call";
     }
 }
@@ -159,6 +163,32 @@ typedef struct milchkompass_reason {
     uint8_t found;
 } milchkompass_reason;
 
+/* A tally of answers: the sum of the front heights of the accepted ones, how many were accepted and how many refused,
+ * and the greatest front height of the accepted ones. It belongs to its caller. */
+typedef struct milchkompass_tally {
+    uint32_t sum;
+    uint16_t accepted;
+    uint16_t refused;
+    uint8_t greatest;
+} milchkompass_tally;
+
+/* A tally of no answer: every number is 0. */
+#define MILCHKOMPASS_TALLY_FRESH {0, 0, 0, 0}
+
+/* A tally counts at most so many answers, accepted and refused together. */
+#define MILCHKOMPASS_TALLY_MAX 65535
+
+/* The report of a tally: how many answers were accepted and how many refused, the mean of the accepted ones' front
+ * heights in tenths, rounded to the nearest with the half upward, the refusal (0 if none), and the greatest of those
+ * heights. Mean and greatest are 0 where none was accepted. A refused report has four zeros beside its refusal. */
+typedef struct milchkompass_report {
+    uint16_t accepted;
+    uint16_t refused;
+    uint16_t tenths;
+    uint8_t refusal;
+    uint8_t greatest;
+} milchkompass_report;
+
 /* Launch. After it the session is one task whose root and only screen is the main screen; it is the main task. Its
  * edition is the one named, 8 where that is 0, until it is empty or an image is restored. Its own checks: 22, 30. */
 milchkompass_answer milchkompass_launch(const uint8_t *table, size_t table_length, milchkompass_session *s,
@@ -195,6 +225,14 @@ milchkompass_save_reply milchkompass_save(const uint8_t *table, size_t table_len
  * that of a look at it. Its own checks: 5, 6, 7. */
 milchkompass_answer milchkompass_restore(const uint8_t *table, size_t table_length, milchkompass_session *s,
                                          const uint8_t *image, size_t image_length);
+
+/* Add. An answer, by its refusal and its front height, joins the tally, and 0 is given; the height of a refused answer
+ * is not looked at. Otherwise 31, and the tally keeps its numbers: where it has MILCHKOMPASS_TALLY_MAX answers already,
+ * where an accepted height is above MILCHKOMPASS_SCREENS, and where no list of answers gives the tally. */
+uint8_t milchkompass_tally_add(milchkompass_tally *t, uint8_t refusal, uint8_t height);
+
+/* The report of a tally. Its check is 31, for a tally that no list of answers gives. */
+milchkompass_report milchkompass_tally_report(milchkompass_tally t);
 
 #ifdef __cplusplus
 }

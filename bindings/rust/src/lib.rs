@@ -48,6 +48,7 @@ mod reason;
 mod refusal;
 mod session;
 mod table;
+mod tally;
 
 pub use edition::Edition;
 pub use flags::Flags;
@@ -56,3 +57,4 @@ pub use reason::{Found, FoundBy, Reason, Rule};
 pub use refusal::Refusal;
 pub use session::{Answer, Session, Task};
 pub use table::{LaunchMode, Screen, Table};
+pub use tally::{Report, Tally};

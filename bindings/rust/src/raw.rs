@@ -73,6 +73,26 @@ pub struct Reason {
     pub found: u8,
 }
 
+/// A tally of answers.
+#[repr(C)]
+#[derive(Clone, Copy)]
+pub struct Tally {
+    pub sum: u32,
+    pub accepted: u16,
+    pub refused: u16,
+    pub greatest: u8,
+}
+
+/// The report of a tally.
+#[repr(C)]
+pub struct Report {
+    pub accepted: u16,
+    pub refused: u16,
+    pub tenths: u16,
+    pub refusal: u8,
+    pub greatest: u8,
+}
+
 extern "C" {
     fn milchkompass_abi() -> u32;
     fn milchkompass_launch(
@@ -118,6 +138,8 @@ extern "C" {
         image: *const u8,
         image_length: usize,
     ) -> Answer;
+    fn milchkompass_tally_add(t: *mut Tally, refusal: u8, height: u8) -> u8;
+    fn milchkompass_tally_report(t: Tally) -> Report;
 }
 
 // SAFETY of each call below: pointers and lengths are those of whole slices,
@@ -169,4 +191,16 @@ pub fn save(table: &[u8], s: &Session, out: &mut [u8]) -> SaveReply {
 pub fn restore(table: &[u8], s: &mut Session, image: &[u8]) -> Answer {
     let (bytes, length) = (image.as_ptr(), image.len());
     unsafe { milchkompass_restore(table.as_ptr(), table.len(), s, bytes, length) }
+}
+
+/// No table is made for a tally, so the interface is compared here.
+pub fn tally_add(t: &mut Tally, refusal: u8, height: u8) -> u8 {
+    check_abi();
+    unsafe { milchkompass_tally_add(t, refusal, height) }
+}
+
+/// As `tally_add`.
+pub fn tally_report(t: Tally) -> Report {
+    check_abi();
+    unsafe { milchkompass_tally_report(t) }
 }

@@ -45,6 +45,7 @@ refusals! {
     23 TasksFull "a new task is needed and n = 16"
     24 TaskFull "a push onto a task of 32 (not after empty)"
     30 NoSuchEdition "launch: edition not 0, 6, 7 or 8"
+    31 NotTallied "tally: a 65,536th call, an accepted height above 32, or a tally that no list of answers gives"
 }
 
 impl Refusal {
@@ -63,7 +64,7 @@ impl Refusal {
 }
 
 /// The refusal of this number, as the player prints it. 0 is none: the call is
-/// accepted. 9 is the player's alone.
+/// accepted. 9 is the player's alone, and 31 a tally's.
 impl TryFrom<u8> for Refusal {
     type Error = UnknownNumber;
 

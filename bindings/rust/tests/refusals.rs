@@ -1,5 +1,5 @@
 //! Every refusal that a caller can provoke, and that it changes nothing. 20
-//! cannot be: a session's storage is its own.
+//! cannot be: a session's storage is its own. 31 stands with the tally.
 
 mod common;
 
@@ -109,7 +109,7 @@ fn errors() {
     let error: Box<dyn std::error::Error> = Box::new(Refusal::NotEmpty);
     assert_eq!(error.to_string(), "refusal 22: launch: not empty");
     let numbers: Vec<u8> = Refusal::ALL.iter().map(|r| r.number()).collect();
-    let known = [1, 2, 3, 4, 5, 6, 7, 8, 20, 21, 22, 23, 24, 30];
+    let known = [1, 2, 3, 4, 5, 6, 7, 8, 20, 21, 22, 23, 24, 30, 31];
     assert_eq!(numbers, known);
     for number in 0..=255 {
         match Refusal::try_from(number) {

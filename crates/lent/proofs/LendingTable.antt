@@ -24,19 +24,18 @@ use denote.Triple.Clauses.{Ended, Clauses, atExit}
 use denote.Triple.End.{all}
 use denote.Triple.Walked.{Stays, stay-ref, stay-none-slice, walkOf, ends-at, hasOf}
 use denote.Exit.{yes}
-use denote.Struct.Laws as LL
 use Rattle.model.specs.Calls.{Call}
 use Rattle.model.specs.declared.Answer.{Answer}
 use Rattle.model.proofs.Answer as N
 use Rattle.model.proofs.Answer.Laws as N′
 use Rattle.session.specs.declared.Session.{Session}
 use Rattle.session.proofs.Session as S
-use Rattle.session.proofs.Session.Laws as S′
 use Rattle.session.proofs.Known.{Sized, sized}
 use Rattle.calls.specs.declared.Reply.{Reply}
 use Rattle.calls.specs.StoredCalls.{reply, callStored}
 use Rattle.calls.proofs.Reply as R
-use Rattle.lent.proofs.Lending.{ensuring, Shut}
+use Rattle.lent.proofs.Lending.{Has, makes, ensuring, Shut}
+use Rattle.lent.proofs.LendingReply.{a-session, an-answer}
 use Rattle.lent.proofs.LendingNumbers as X
 use Rattle.lent.proofs.LendingNumbers.{Numbers, slots}
 
@@ -114,7 +113,7 @@ module _ {M : Type 1} (𝓤 : URA M) {ws : List Width} (F : Frame ws) where
 
   -- what is left when the locals are gone: the borrow of the session, closed at the new one, and what the table owns
   abbrev pub Left : Session → List (Item 𝓤)
-  Left s′ = Shut (F .κs) (F .qs) (F .γ) (F .p) (F .o) s′ (Tokens ∷ ‵ (OwnTable F) ∷ [])
+  Left s′ = Shut a-session (F .κs) (F .qs) (F .γ) (F .p) (F .o) s′ (Tokens ∷ ‵ (OwnTable F) ∷ [])
 
 -- clauses, those of the function, follow from what the reply is, and from the lengths of the session's arrays
 abbrev pub Shown : {M : Type 1} (𝓤 : URA M) (ws : List Width) → (Numbers ws → Call) → Clauses 𝓤 (outer ws) → Type 1
@@ -136,8 +135,8 @@ module _ {M : Type 1} (𝓤 : URA M) (H : Heap 𝓤) (A : Atoms 𝓤) (W : Given
       hasOf (lfts F) (slots 2 ws) (all yes (slots 2 ws)) (X.stays 2 ws) (F .x) (X.last 2 (lfts F) ws (F .x))
       (X.vals 2 (lfts F) ws (F .x))
 
-  pub exits : (a : Answer) (s′ : Session) → Is N.the-row a (N′.lowered a ∷ [])
-      → Is S.the-row (F .s) (S′.lowered (F .s) ∷ []) → reply s′ a ≡ callStored (now (F .table)) (F .s) (does (numbers F))
+  pub exits : (a : Answer) (s′ : Session) → Has an-answer a → Has a-session (F .s)
+      → reply s′ a ≡ callStored (now (F .table)) (F .s) (does (numbers F))
       → ent 𝓤 (⋆ 𝓤 H A (Left 𝓤 F s′)) (Post (N′.lowered a))
   exits a s′ is is-s e =
       qed W (Left 𝓤 F s′) ∵
@@ -152,4 +151,4 @@ module _ {M : Type 1} (𝓤 : URA M) (H : Heap 𝓤) (A : Atoms 𝓤) (W : Given
       use0 W (‵ Had) (X.had 2 (lfts F) 𝓤 H A ws (F .x)) $
       move ! (1 ∷ 0 ∷ []) $ fjoin ! $ move ! (1 ∷ 0 ∷ []) $ fjoin ! $
       -- the answer
-      owned ! N.the-row (Is N.the-row) (LL.makes N.the-type N′.the-plain 𝓤 H A) a _ is $ move ! (1 ∷ 0 ∷ []) $ done !
+      owned ! N.the-row (Is N.the-row) (makes an-answer W) a _ is $ move ! (1 ∷ 0 ∷ []) $ done !

@@ -37,12 +37,13 @@ use Rattle.session.proofs.Session.Laws as S′
 use Rattle.calls.specs.declared.Reply.{Reply}
 use Rattle.calls.specs.StoredCalls.{callStored}
 use Rattle.calls.proofs.Reply.Laws as R′
-use Rattle.lent.proofs.Lending.{local-of, bytesTy, lentTy, stored, found, Open, answer-is}
-use Rattle.lent.proofs.LendingCalls.{a-session, a-reply, on-table, calls-slices}
+use Rattle.lent.proofs.Lending.{local-of, bytesTy, lentTy, stored, Has, typed, makes, found, Open}
+use Rattle.lent.proofs.LendingCalls.{on-table, calls-slices}
 use Rattle.lent.proofs.LendingNumbers as X
 use Rattle.lent.proofs.LendingNumbers.{Numbers, Held, env, behind}
 use Rattle.lent.proofs.LendingTable.{outer, core, stayed, Frame, vt, OwnTable, lfts, args, vals, numbers, Tokens, Shown, Post, exits}
-use Rattle.lent.proofs.LendingWays.{vacant, holding, freed, opened, of-reply, stores-within}
+use Rattle.lent.proofs.LendingWays.{vacant, holding, freed, opened, stores-within}
+use Rattle.lent.proofs.LendingReply.{a-session, a-reply, answer-is, of-reply}
 
 -- the local j of those behind the borrow: first the numbers, then the reply, then the copy of the session
 abbrev next : ℕ → ℕ
@@ -54,13 +55,13 @@ function #core ws = record {
   lifetimes = 2;
   outlives = [];
   params = behind ws 2;
-  locals = local-of N′.mir ∷ local-of (bytesTy 0) ∷ local-of lentTy
+  locals = local-of N′.mir ∷ local-of (bytesTy 0) ∷ local-of (lentTy 1 a-session)
       ∷ X.locals ws (local-of R′.mir ∷ local-of S′.mir ∷ []);
   body = seq (assign (place (next (behind ws 1)) []) (rvOpd (copy (place 2 (deref S′.mir ∷ [])))))
       (seq
       (call #core (copy (place 1 []) ∷ copy (place (next (behind ws 1)) []) ∷ X.operands ws next)
       (place (next (behind ws 0)) []))
-      (stored (next (behind ws 0))));
+      (stored a-session 2 (next (behind ws 0))));
 }
 
 -- does is the call that the function makes of the numbers; Rest is what its contract says besides what it gives
@@ -108,13 +109,13 @@ module _ {M : Type 1} (𝓤 : URA M) (H : Heap 𝓤) (A : Atoms 𝓤) (ws : List
         subst (λ (x : Numbers ws). ent 𝓤 (Said x r) (fact 𝓤 (Made (numbers F) r)))
         (sym (X.numbers-passed 1 κ ws (numbers F))) (fst∗ 𝓤 (fact 𝓤 (Made (numbers F) r)) (Rest (now (F .table)) (F .s) r))
 
-    module _ (is : Is S.the-row (F .s) (S′.lowered (F .s) ∷ [])) (C : Calls 𝓤 H) (Λ : Loops 𝓤 H)
+    module _ (is : Has a-session (F .s)) (C : Calls 𝓤 H) (Λ : Loops 𝓤 H)
         (fm : FmC 𝓤 H (W .laws) C) (known : Known C) (l0 l1 l2 lr ls : ℕ) (bs : Numbers ws) where
       abbrev Last : List (Ty × ℕ)
       Last = (R′.mir, lr) ∷ (S′.mir, ls) ∷ []
 
       abbrev Env-of : List (Ty × ℕ)
-      Env-of = (N′.mir, l0) ∷ (bytesTy 0, l1) ∷ (lentTy, l2) ∷ env ws bs Last
+      Env-of = (N′.mir, l0) ∷ (bytesTy 0, l1) ∷ (lentTy 1 a-session, l2) ∷ env ws bs Last
 
       at-reply : spotOf 𝓤 H Env-of (next (behind ws 0)) ≡ (R′.mir, lr, 0)
       at-reply = ap (λ (e : Ty × ℕ). (e .0, e .1, 0)) (X.env-behind ws bs Last 0 (noLocal 𝓤 H))
@@ -122,16 +123,17 @@ module _ {M : Type 1} (𝓤 : URA M) (H : Heap 𝓤) (A : Atoms 𝓤) (ws : List
       at-copy : spotOf 𝓤 H Env-of (next (behind ws 1)) ≡ (S′.mir, ls, 0)
       at-copy = ap (λ (e : Ty × ℕ). (e .0, e .1, 0)) (X.env-behind ws bs Last 1 (noLocal 𝓤 H))
 
-      -- the context: Tokens, OwnTable, the open borrow, and each local with its end, the numbers in one entry
+      -- the context: Tokens, OwnTable, the open borrow, and each local with its end, the borrow before the table and the
+      -- numbers in one entry
       walk-body : Sq W
-          (Tokens 𝓤 F ∷ ‵ (OwnTable F) ∷ Open (F .κs) (F .qs) (F .γ) (F .p) (F .o) (F .s)
-          (vacant N′.mir l0 (holding (bytesTy 0) (vt F) l1 (holding lentTy (vptr (F .p) (F .o)) l2
+          (Tokens 𝓤 F ∷ ‵ (OwnTable F) ∷ Open a-session (F .κs) (F .qs) (F .γ) (F .p) (F .o) (F .s)
+          (vacant N′.mir l0 (holding (lentTy 1 a-session) (vptr (F .p) (F .o)) l2 (holding (bytesTy 0) (vt F) l1
           (Held ws bs (numbers F) ∷ vacant R′.mir lr (vacant S′.mir ls []))))))
           (runs C Λ Env-of (function #core ws .body) (atRet Env-of Ends))
       walk-body =
-          assigns ! (of-opd ! (load ! (from ! (hop ! (look ! 10 refl) (stop !))) (look-raw ! 2 refl)))
-          (found ! at-copy (stop !)) (init ! 15 refl (a-session 𝓤 H A W .typed (F .s) is)) $
-          calls-slices ! (a-reply 𝓤 H A W) fm (Core 𝓤 H A ws does Rest) known (
+          assigns ! (of-opd ! (load ! (from ! (hop ! (look ! 8 refl) (stop !))) (look-raw ! 2 refl)))
+          (found ! at-copy (stop !)) (init ! 15 refl (typed a-session W (F .s) is)) $
+          calls-slices ! a-reply fm (Core 𝓤 H A ws does Rest) known (
             (
               κ,
               (F .qt, tt),
@@ -143,17 +145,17 @@ module _ {M : Type 1} (𝓤 : URA M) (H : Heap 𝓤) (A : Atoms 𝓤) (ws : List
           )
           (on-table W (S.the-row ∷ X.rows 1 κ ws) (F .κt) (F .qt) (F .table)
           (F .s, passed) (S′.lowered (F .s) ∷ [], X.vals 1 κ ws passed)
-          (a-session 𝓤 H A W .makes, X.make 1 κ 𝓤 H A W ws) (is, X.fit-on 2 1 (lfts F) κ ws (F .x) (F .fits)) (id⊢ 𝓤 _))
+          (makes a-session W, X.make 1 κ 𝓤 H A W ws) (is, X.fit-on 2 1 (lfts F) κ ws (F .x) (F .fits)) (id⊢ 𝓤 _))
           (core ws) κ (F .table, (F .s, passed)) (Made (numbers F)) made (λ u. id⊢ 𝓤 _)
-          (and-then ! (load ! (from ! (stop !)) (look ! 8 refl))
+          (and-then ! (load ! (from ! (stop !)) (look ! 10 refl))
           (and-then ! (load ! (found ! at-copy (stop !)) (look ! 15 refl))
           (X.read-at ! 12 (X.read-numbers ! 1 κ ws bs (numbers F) Last next (λ j. refl)))))
           11 refl at-reply (λ r is-r made-r.
-          stores-within ! (F .s) (of-reply W r is-r) Ends 2 refl at-reply refl $
-          forget ! 7 refl $ forget ! 12 refl $ forget ! 14 refl $
-          move ! (5 ∷ 6 ∷ []) $ free1 ! $ move ! (5 ∷ 6 ∷ []) $ free1 ! $ move ! (5 ∷ 6 ∷ []) $ free1 ! $
+          stores-within ! a-session (F .s) (of-reply r is-r W) Ends 4 refl at-reply refl refl $
+          forget ! 9 refl $ forget ! 12 refl $ forget ! 14 refl $
+          move ! (5 ∷ 6 ∷ []) $ free1 ! $ move ! (7 ∷ 8 ∷ []) $ free1 ! $ move ! (5 ∷ 6 ∷ []) $ free1 ! $
           move ! (5 ∷ []) $ X.free-numbers ! ws bs (numbers F) $ freed ! Last $
-          by ! (exits 𝓤 H A W ws does clauses shown F g (r .answer) (r .session) (answer-is r _ is-r) is made-r))
+          by ! (exits 𝓤 H A W ws does clauses shown F g (r .answer) (r .session) (answer-is r is-r) is made-r))
 
   walk : (F : Frame ws) (g : clauses (lfts F) (args F) .ghost) (C : Calls 𝓤 H) (Λ : Loops 𝓤 H)
       → FmC 𝓤 H (W .laws) C → Known C → Is (ShrSlice (named 0) (F .κt) u8) (F .table) (vt F ∷ [])
@@ -174,8 +176,8 @@ module _ {M : Type 1} (𝓤 : URA M) (H : Heap 𝓤) (A : Atoms 𝓤) (ws : List
       move ! (12 ∷ []) $ fsplit ! $ move ! (1 ∷ []) $ fsplit ! $ fsplit3 ! $ drop ! $
       move ! (15 ∷ []) $ split ! $ move ! (1 ∷ []) $ split ! $ move ! (2 ∷ 1 ∷ []) $ join ! $
       -- Tokens, κs, what is observed, the borrow, what the numbers own, OwnTable, the numbers, the rest, the last first
-      keep ! (2 ∷ 3 ∷ 1 ∷ 0 ∷ 5 ∷ 15 ∷ 16 ∷ 13 ∷ 14 ∷ 11 ∷ 12 ∷ 6 ∷ 9 ∷ 10 ∷ 7 ∷ 8 ∷ []) $
-      opened ! tt (F .s) (λ is. move ! (4 ∷ 5 ∷ []) $ walk-body F g is C Λ fm known l0 l1 l2 lr ls bs)))))))
+      keep ! (2 ∷ 3 ∷ 1 ∷ 0 ∷ 5 ∷ 15 ∷ 16 ∷ 11 ∷ 12 ∷ 13 ∷ 14 ∷ 6 ∷ 9 ∷ 10 ∷ 7 ∷ 8 ∷ []) $
+      opened ! tt a-session (F .s) (λ is. move ! (4 ∷ 5 ∷ []) $ walk-body F g is C Λ fm known l0 l1 l2 lr ls bs)))))))
 
   walks : (C : Calls 𝓤 H) (Λ : Loops 𝓤 H) → FmC 𝓤 H (W .laws) C → Known C
       → Walks 𝓤 H A (outer ws) (stayed ws) (WpFn 𝓤 H C Λ (function #core ws)) clauses

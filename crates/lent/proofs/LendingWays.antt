@@ -1,5 +1,5 @@
--- Steps for the walks of functions that a session is lent to: the store of a reply's session through the open borrow, and the
--- return of its answer. The borrow stays open up to the return.
+-- Steps for the walks of functions that a struct is lent to: the store of what a call returned through the open borrow, and
+-- the return of what it tells. The borrow stays open up to the return.
 use mathlib.Core.Path.{_≡_, refl, sym, subst}
 use Prim.Native.Nat.{ℕ, suc, _+_}
 use mathlib.Core.Option.{some as found-at}
@@ -23,40 +23,22 @@ use denote.Laws.{Is, shows}
 use denote.Memory.{mem, cellAt}
 use denote.Steps.{opens, closes, owned, facts}
 use denote.Struct.Steps.{spelt}
-use denote.Struct.Laws as LL
-use Rattle.model.proofs.Answer as N
-use Rattle.model.proofs.Answer.Laws as N′
-use Rattle.session.specs.declared.Session.{Session}
-use Rattle.session.proofs.Session as S
-use Rattle.session.proofs.Session.Laws as S′
-use Rattle.calls.specs.declared.Reply.{Reply}
-use Rattle.calls.proofs.Reply as R
-use Rattle.calls.proofs.Reply.Laws as R′
-use Rattle.lent.proofs.Lending.{session-is, answer-is, LocalsOf, Shut, Open, stored, found}
+use Rattle.lent.proofs.Lending.{Data, rowOf, mirOf, Of, low, Has, typed, makes, Shut, Open, stored, found}
 
--- ---- what a call by value returned: a session, and an answer
+-- ---- what a call by value returned: a struct to be stored, and what is told of it
 
-pub record Returned (τ₀ : Ty) : Type 0 where
-  pub session : Session
-  pub session-is : Is S.the-row session (S′.lowered session ∷ [])
+pub record Returned (D : Data) (τ₀ : Ty) : Type 0 where
+  pub kept : Of D
+  pub kept-is : Has D kept
   pub told : Val
-  pub typed : T (hasTy τ₀ told) × WT told
+  pub told-typed : T (hasTy τ₀ told) × WT told
 
 -- its machine value, a struct of those of its two fields
-abbrev pub bothTy : Sym → Ty → Ty
-bothTy ν τ₀ = tyStruct ν (tcons S′.mir (tcons τ₀ tnil))
+abbrev pub bothTy : Sym → Data → Ty → Ty
+bothTy ν D τ₀ = tyStruct ν (tcons (mirOf D) (tcons τ₀ tnil))
 
-abbrev pub both : {τ₀ : Ty} → Returned τ₀ → Val
-both x = vstruct (ofList (S′.lowered (x .session) ∷ x .told ∷ []))
-
-module _ {M : Type 1} {𝓤 : URA M} {H : Heap 𝓤} {A : Atoms 𝓤} (W : Given 𝓤 H A) where
-  abbrev pub of-reply : (r : Reply) → Is R.the-row r (R′.lowered r ∷ []) → Returned N′.mir
-  of-reply r is = record {
-    session = r .session;
-    session-is = session-is r _ is;
-    told = N′.lowered (r .answer);
-    typed = LL.lawful N.the-type N′.the-laws 𝓤 H A W .typed (r .answer) _ (answer-is r _ is) .0;
-  }
+abbrev pub both : (D : Data) {τ₀ : Ty} → Returned D τ₀ → Val
+both D x = vstruct (ofList (low D (x .kept) ∷ x .told ∷ []))
 
 -- ---- a field of a struct that lies in a cell
 
@@ -88,59 +70,59 @@ module _ {M : Type 1} {𝓤 : URA M} {H : Heap 𝓤} {A : Atoms 𝓤} {K : Type 
   freed t [] = free0 t
   freed t (e ∷ E) = step (λ k. move t (5 ∷ 6 ∷ []) $ free1 t $ freed t E $ k)
 
--- ---- the session behind the borrow
+-- ---- the struct behind the borrow
 
 module _ {M : Type 1} {𝓤 : URA M} {H : Heap 𝓤} {A : Atoms 𝓤} {K : Type 0} {W : Given 𝓤 H A} {Γ : List (Item 𝓤)}
     {κ : Lft} {q : Share} {γ : GName} {p o : ℕ} where
   -- the borrow is opened
-  pub opened : K → {G : Goal 𝓤 H} → Soaks G → (s : Session) → (Is S.the-row s (S′.lowered s ∷ []) → Seq K W (Open κ q γ p o s Γ) G)
-      → Seq K W (Shut κ q γ p o s Γ) G
-  opened t z s k =
-      opens t z S.the-row {h = s} p o (λ vs.
-      spelt t S.the-row (Is S.the-row) (shows 𝓤 H A S.the-row) (λ (d : Session). S′.lowered d ∷ []) (S′.lowers .val-is)
-      fullShare s vs p o $
-      move t (1 ∷ []) $ facts t S.the-row (Is S.the-row) (shows 𝓤 H A S.the-row) s (S′.lowered s ∷ []) k)
+  pub opened : K → {G : Goal 𝓤 H} → Soaks G → (D : Data) (x : Of D) → (Has D x → Seq K W (Open D κ q γ p o x Γ) G)
+      → Seq K W (Shut D κ q γ p o x Γ) G
+  opened t z D x k =
+      opens t z (rowOf D) {h = x} p o (λ vs.
+      spelt t (rowOf D) (Is (rowOf D)) (shows 𝓤 H A (rowOf D)) (λ (d : Of D). low D d ∷ []) (D .lowers .val-is) fullShare x vs p o $
+      move t (1 ∷ []) $ facts t (rowOf D) (Is (rowOf D)) (shows 𝓤 H A (rowOf D)) x (low D x ∷ []) k)
 
--- the entry n behind the first eleven
+-- the entry n behind the first nine
 abbrev past : ℕ → ℕ
-past n = suc (suc (suc (suc (suc (suc (suc (suc (suc (suc (suc n))))))))))
+past n = suc (suc (suc (suc (suc (suc (suc (suc (suc n))))))))
 
--- The borrow is open. Of the locals, 0 is the answer and 2 the borrow; i₀ and i₁ are the tokens and what the table owns.
+-- The borrow is open. Of the locals, 0 is what is told and j the borrow; i₀ and i₁ are the tokens and what the slices own.
 
 module _ {M : Type 1} {𝓤 : URA M} {H : Heap 𝓤} {A : Atoms 𝓤} {K : Type 0} {W : Given 𝓤 H A} {Γ : List (Item 𝓤)}
     {C : Calls 𝓤 H} {Λ : Loops 𝓤 H} {Q : Post 𝓤 H} {κ : Lft} {q : Share} {γ : GName} {p o : ℕ}
-    {E : List (Ty × ℕ)} {e : Ty × ℕ} {τ : Ty} {answer borrow : ℕ} {i₀ i₁ d₀ l₁ d₁ : Item 𝓤} where
-  -- a return, with the session s′ there: the borrow is closed
-  pub leaves : K → {τ₀ : Ty} (s s′ : Session) → Is S.the-row s′ (S′.lowered s′ ∷ []) → (Kf : Val → SProp 𝓤) {v : Val}
-      → post 𝓤 H Q returnsᴼ ≡ atReturn 𝓤 H (LocalsOf τ₀ answer e τ borrow E) Kf returnsᴼ
+    {E : List (Ty × ℕ)} {τ₀ τ : Ty} {told borrow : ℕ} {i₀ i₁ d₀ : Item 𝓤} where
+  -- a return, with x′ there: the borrow is closed
+  pub leaves : K → (D : Data) (x x′ : Of D) → Has D x′ → (Kf : Val → SProp 𝓤) {v : Val}
+      → post 𝓤 H Q returnsᴼ ≡ atReturn 𝓤 H ((τ₀, told) ∷ E) Kf returnsᴼ
       → Step K W
-      (Shut κ q γ p o s′ (i₀ ∷ i₁ ∷ ‵ (froom τ₀ answer 0) ∷ d₀ ∷ l₁ ∷ d₁ ∷ ‵ (froom τ borrow 0) ∷ Γ))
-      (frees (LocalsOf τ₀ answer e τ borrow E) (prop (Kf v)))
-      (i₀ ∷ i₁ ∷ ‵ (cellAt fullShare (S.the-row .mir) (S′.lowered s′ ∷ []) p o) ∷ ‵ (fobor κ q (Body (mem S.the-row) p o γ))
-      ∷ ‵ (fobs γ (S.the-row .coded .code s)) ∷ ‵ (fauth γ (S.the-row .coded .code s))
-      ∷ ‵ (fat fullShare τ₀ answer 0 v) ∷ d₀ ∷ l₁ ∷ d₁ ∷ ‵ (fat fullShare τ borrow 0 (vptr p o)) ∷ Γ)
-      (runs C Λ (LocalsOf τ₀ answer e τ borrow E) return Q)
-  leaves t s s′ is Kf at-end =
+      (Shut D κ q γ p o x′ (i₀ ∷ i₁ ∷ ‵ (froom τ₀ told 0) ∷ d₀ ∷ ‵ (froom τ borrow 0) ∷ Γ))
+      (frees ((τ₀, told) ∷ E) (prop (Kf v)))
+      (i₀ ∷ i₁ ∷ ‵ (cellAt fullShare (rowOf D .mir) (low D x′ ∷ []) p o) ∷ ‵ (fobor κ q (Body (mem (rowOf D)) p o γ))
+      ∷ ‵ (fobs γ (rowOf D .coded .code x)) ∷ ‵ (fauth γ (rowOf D .coded .code x))
+      ∷ ‵ (fat fullShare τ₀ told 0 v) ∷ d₀ ∷ ‵ (fat fullShare τ borrow 0 (vptr p o)) ∷ Γ)
+      (runs C Λ ((τ₀, told) ∷ E) return Q)
+  leaves t D x x′ is Kf at-end =
       step (λ k.
-      owned t S.the-row (Is S.the-row) (LL.makes S.the-type S′.the-plain 𝓤 H A) s′ _ is $
-      move t (3 ∷ 0 ∷ 4 ∷ 5 ∷ 6 ∷ []) $ closes t tt S.the-row s′ (S′.lowered s′ ∷ []) p o $
-      returns-within t Kf at-end (look t 5 refl) $ forget t 5 refl $ forget t 9 refl $ k)
+      owned t (rowOf D) (Is (rowOf D)) (makes D W) x′ _ is $
+      move t (3 ∷ 0 ∷ 4 ∷ 5 ∷ 6 ∷ []) $ closes t tt (rowOf D) x′ (low D x′ ∷ []) p o $
+      returns-within t Kf at-end (look t 5 refl) $ forget t 5 refl $ forget t 7 refl $ k)
 
-  -- what was returned lies in local i, which is entry n of Γ: its session is stored and its answer returned
-  pub stores-within : K → (s : Session) {τ₀ : Ty} (x : Returned τ₀) (Kf : Val → SProp 𝓤) (n : ℕ) {i at-i : ℕ} {ν : Sym}
-      → nth 𝓤 H A n Γ ≡ ‵ (fat fullShare (bothTy ν τ₀) at-i 0 (both x))
-      → spotOf 𝓤 H (LocalsOf τ₀ answer e τ borrow E) i ≡ (bothTy ν τ₀, at-i, 0)
-      → post 𝓤 H Q returnsᴼ ≡ atReturn 𝓤 H (LocalsOf τ₀ answer e τ borrow E) Kf returnsᴼ
+  -- what was returned lies in local i, which is entry n of Γ: its first field is stored and its second returned
+  pub stores-within : K → (D : Data) (x : Of D) (r : Returned D τ₀) (Kf : Val → SProp 𝓤) (n : ℕ) {i at-i j : ℕ} {ν : Sym}
+      → nth 𝓤 H A n Γ ≡ ‵ (fat fullShare (bothTy ν D τ₀) at-i 0 (both D r))
+      → spotOf 𝓤 H ((τ₀, told) ∷ E) i ≡ (bothTy ν D τ₀, at-i, 0)
+      → spotOf 𝓤 H ((τ₀, told) ∷ E) j ≡ (τ, borrow, 0)
+      → post 𝓤 H Q returnsᴼ ≡ atReturn 𝓤 H ((τ₀, told) ∷ E) Kf returnsᴼ
       → Step K W
-      (Shut κ q γ p o (x .session) (i₀ ∷ i₁ ∷ ‵ (froom τ₀ answer 0) ∷ d₀ ∷ l₁ ∷ d₁ ∷ ‵ (froom τ borrow 0) ∷ Γ))
-      (frees (LocalsOf τ₀ answer e τ borrow E) (prop (Kf (x .told))))
-      (i₀ ∷ i₁ ∷ Open κ q γ p o s (‵ (froom τ₀ answer 0) ∷ d₀ ∷ l₁ ∷ d₁ ∷ ‵ (fat fullShare τ borrow 0 (vptr p o)) ∷ Γ))
-      (runs C Λ (LocalsOf τ₀ answer e τ borrow E) (stored i) Q)
-  stores-within t s x Kf n lies here at-end =
+      (Shut D κ q γ p o (r .kept) (i₀ ∷ i₁ ∷ ‵ (froom τ₀ told 0) ∷ d₀ ∷ ‵ (froom τ borrow 0) ∷ Γ))
+      (frees ((τ₀, told) ∷ E) (prop (Kf (r .told))))
+      (i₀ ∷ i₁ ∷ Open D κ q γ p o x (‵ (froom τ₀ told 0) ∷ d₀ ∷ ‵ (fat fullShare τ borrow 0 (vptr p o)) ∷ Γ))
+      (runs C Λ ((τ₀, told) ∷ E) (stored D j i) Q)
+  stores-within t D x r Kf n lies here at-borrow at-end =
       step (λ k.
       assigns t (of-opd t (load t (found t here (fld t refl (stop t))) (look-field t (past n) 0 lies refl)))
-      (from t (hop t (look t 10 refl) (stop t)))
-      (store-raw t 2 refl (LL.lawful S.the-type S′.the-laws 𝓤 H A W .typed (x .session) _ (x .session-is) .0)) $
+      (found t at-borrow (hop t (look t 8 refl) (stop t)))
+      (store-raw t 2 refl (typed D W (r .kept) (r .kept-is))) $
       assigns t (of-opd t (load t (found t here (fld t refl (stop t))) (look-field t (past n) 1 lies refl))) (from t (stop t))
-      (init t 6 refl (x .typed)) $
-      leaves t s (x .session) (x .session-is) Kf at-end $ k)
+      (init t 6 refl (r .told-typed)) $
+      leaves t D x (r .kept) (r .kept-is) Kf at-end $ k)

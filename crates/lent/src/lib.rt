@@ -1,6 +1,6 @@
-// The calls for programs in C and Rust. A slice is a pointer and a length there; a session that a call may change is lent,
-// and the call writes the new one there. Nothing is decided here: each call is the one of `navigator`, by value, and its
-// session is stored.
+// The calls for programs in C and Rust. A slice is a pointer and a length there; a session or a tally that a call may change
+// is lent, and the call writes the new one there. Nothing is decided here: each call is the one of `navigator` or of `tally`,
+// by value, and its session or its tally is stored.
 
 ghost use mathlib.Core.Path.{_≡_};
 ghost use lib.ListN.{take};
@@ -14,11 +14,15 @@ ghost use Rattle.model.specs.Editions.{EditionSeeks};
 ghost use Rattle.session.specs.Stored.{view};
 ghost use Rattle.reasons.specs.StoredReasons.{whyStored, CarriesOut};
 ghost use Rattle.navigator.specs.Promise3.{KeepsPromise3};
+ghost use Rattle.tally.specs.Tallies.{added, reported, KnowsTallies, TalliesJoin, ReportsLists};
+ghost use Rattle.tally.specs.Tallied.{RoundsToNearest};
 ghost use Rattle.lent.specs.Abi.{abiNumber};
 use image_calls::SaveReply;
 use model::Answer;
 use model::Reason;
 use session::Session;
+use tally::Report;
+use tally::Tally;
 
 // The number of this interface; bindings/abi has its structs and signatures.
 const ABI: u32 = 3;
@@ -136,4 +140,28 @@ pub extern "C" fn milchkompass_save(table: &[u8], s: Session, out: &mut [u8]) ->
     ensures promise { λ _. ⌜ KeepsPromise3 (now (table .entry)) ⌝ }
 {
     navigator::save(table, s, out)
+}
+
+// Adds the answer of a call, by its refusal and its front height, to the tally that is lent: 0, or 31, which leaves it.
+#[no_mangle]
+pub extern "C" fn milchkompass_tally_add(t: &mut Tally, refusal: u8, height: u8) -> u8
+    ensures gives { λ r. ⌜ r ≡ added (now (t .entry)) refusal height .refusal ⌝ }
+    ensures stores { λ _. ⌜ now (t .exit) ≡ added (now (t .entry)) refusal height .tally ⌝ }
+    ensures known { λ _. ⌜ KnowsTallies ⌝ }
+    ensures joined { λ _. ⌜ TalliesJoin ⌝ }
+{
+    let added = Tally::add(*t, refusal, height);
+    *t = added.tally;
+    added.refusal
+}
+
+// The report of a tally: its numbers, or 31 and zeros for a tally that no list of answers gives.
+#[no_mangle]
+pub extern "C" fn milchkompass_tally_report(t: Tally) -> Report
+    ensures numbers { λ r. ⌜ r ≡ reported t ⌝ }
+    ensures known { λ _. ⌜ KnowsTallies ⌝ }
+    ensures listed { λ _. ⌜ ReportsLists ⌝ }
+    ensures nearest { λ _. ⌜ RoundsToNearest ⌝ }
+{
+    t.report()
 }

@@ -17,6 +17,7 @@ pub fn snake(name: &str) -> String {
 fn type_in_c(kind: &str) -> String {
     match kind {
         "u8" => "uint8_t".to_string(),
+        "u16" => "uint16_t".to_string(),
         "u32" => "uint32_t".to_string(),
         "usize" => "size_t".to_string(),
         name => format!("milchkompass_{}", snake(name)),
@@ -50,6 +51,7 @@ pub fn struct_in_rust(declared: &Struct) -> String {
 fn layout(structs: &[Struct], kind: &str) -> (usize, usize) {
     let (size, alignment) = match inner(kind) {
         "u8" => (1, 1),
+        "u16" => (2, 2),
         "u32" => (4, 4),
         "usize" => (8, 8),
         name => {

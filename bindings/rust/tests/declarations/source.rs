@@ -32,10 +32,11 @@ fn entries(folder: &str) -> impl Iterator<Item = PathBuf> {
     entries.map(|entry| entry.expect("an entry").path())
 }
 
-/// The text of the model's definitions.
+/// The text of the definitions that quote refusals: the model's and the tally's.
 pub fn definitions() -> String {
     let text = |file| fs::read_to_string(file).expect("a definition");
-    entries("crates/model/specs").map(text).collect()
+    let folders = ["crates/model/specs", "crates/tally/specs"];
+    folders.into_iter().flat_map(entries).map(text).collect()
 }
 
 /// The text of all libraries; a program has no `lib.rt`.
@@ -96,7 +97,7 @@ pub fn structs() -> Vec<Struct> {
     let mut found: Vec<Struct> = Vec::new();
     while let Some(kind) = next.pop() {
         let name = inner(&kind);
-        let plain = ["u8", "u32", "usize"].contains(&name);
+        let plain = ["u8", "u16", "u32", "usize"].contains(&name);
         if !plain && !found.iter().any(|known| known.name == name) {
             let declared = declared(&sources, name);
             next.extend(declared.fields.iter().map(|(_, kind)| kind.clone()));

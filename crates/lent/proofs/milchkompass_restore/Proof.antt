@@ -48,9 +48,10 @@ use Rattle.navigator.proofs.restore as core
 use Rattle.navigator.proofs.restore.Met as core-thm
 use Rattle.navigator.proofs.restore.Symbol as core-def
 use Rattle.navigator.proofs.restore.Symbol.{name as #core}
-use Rattle.lent.proofs.Lending.{bytesTy, lentTy, ensuring, Shut, Open, answer-is}
-use Rattle.lent.proofs.LendingCalls.{a-session, an-answer, a-reply, calls-slices}
-use Rattle.lent.proofs.LendingWays.{vacant, holding, freed, opened, of-reply, stores-within}
+use Rattle.lent.proofs.Lending.{bytesTy, lentTy, Has, typed, makes, ensuring, Shut, Open}
+use Rattle.lent.proofs.LendingCalls.{calls-slices}
+use Rattle.lent.proofs.LendingWays.{vacant, holding, freed, opened, stores-within}
+use Rattle.lent.proofs.LendingReply.{a-session, an-answer, a-reply, answer-is, of-reply}
 use Rattle.lent.proofs.LendingFacts.{with-fact, both-facts, promised, of-reply-and}
 use Rattle.lent.proofs.milchkompass_restore as outer
 use Rattle.lent.proofs.milchkompass_restore.Code as code
@@ -138,9 +139,9 @@ module _ {M : Type 1} (𝓤 : URA M) (H : Heap 𝓤) (A : Atoms 𝓤) (W : Given
 
   -- what is left when the locals are gone: the borrow of the session, closed at the new one, and what the slices own
   abbrev Left : Session → List (Item 𝓤)
-  Left s′ = Shut κs qs γ b o s′ (Tokens ∷ Slices ∷ [])
+  Left s′ = Shut a-session κs qs γ b o s′ (Tokens ∷ Slices ∷ [])
 
-  exits : (a : Answer) (s′ : Session) → Is N.the-row a (N′.lowered a ∷ []) → Made (reply s′ a)
+  exits : (a : Answer) (s′ : Session) → Has an-answer a → Made (reply s′ a)
       → ent 𝓤 (⋆ 𝓤 H A (Left s′)) (Post (N′.lowered a))
   exits a s′ is e =
       qed W (Left s′) ∵
@@ -156,10 +157,10 @@ module _ {M : Type 1} (𝓤 : URA M) (H : Heap 𝓤) (A : Atoms 𝓤) (W : Given
       feqI ! (List Val) (vptr b o ∷ []) (vptr b o ∷ []) refl $ fjoin3 ! $ nothing ! $
       move ! (2 ∷ 0 ∷ []) $ fjoin ! $ move ! (1 ∷ 0 ∷ []) $ fjoin ! $ move ! (1 ∷ 0 ∷ []) $ fjoin ! $
       -- the answer
-      owned ! N.the-row (Is N.the-row) (an-answer 𝓤 H A W .makes) a _ is $ move ! (1 ∷ 0 ∷ []) $ done !
+      owned ! N.the-row (Is N.the-row) (makes an-answer W) a _ is $ move ! (1 ∷ 0 ∷ []) $ done !
 
   -- the session has its machine value
-  module _ (is : Is S.the-row s (S′.lowered s ∷ [])) where
+  module _ (is : Has a-session s) where
     -- what the call is given; what each slice owns is had twice
     asks : ent 𝓤 (sep 𝓤 (mean 𝓤 H A Tokens) (mean 𝓤 H A Slices)) (sep 𝓤 (Core 𝓤 H A at-mem run .pre to) (mean 𝓤 H A Slices))
     asks =
@@ -168,7 +169,7 @@ module _ {M : Type 1} (𝓤 : URA M) (H : Heap 𝓤) (A : Atoms 𝓤) (W : Given
         use1 W (‵ OwnTable ⊛ ‵ OwnTable) (shr-slice-copy 𝓤 H A W (named 0) κt u8 .twice table (vt ∷ [])) $ split ! $
         move ! (2 ∷ []) $ use1 W (‵ OwnImage ⊛ ‵ OwnImage) (shr-slice-copy 𝓤 H A W (named 2) κi u8 .twice image (vi ∷ [])) $ split ! $
         nothing ! $ move ! (1 ∷ 0 ∷ []) $ fjoin ! $
-        owned ! S.the-row (Is S.the-row) (a-session 𝓤 H A W .makes) s _ is $ fjoin ! $ move ! (2 ∷ 0 ∷ []) $ fjoin ! $
+        owned ! S.the-row (Is S.the-row) (makes a-session W) s _ is $ fjoin ! $ move ! (2 ∷ 0 ∷ []) $ fjoin ! $
         use0 W (raw (emp 𝓤)) (id⊢ 𝓤 _) $ move ! (4 ∷ 1 ∷ []) $ join ! $ join ! $
         move ! (2 ∷ 1 ∷ []) $ join ! $ move ! (1 ∷ 0 ∷ []) $ done !
 
@@ -176,25 +177,26 @@ module _ {M : Type 1} (𝓤 : URA M) (H : Heap 𝓤) (A : Atoms 𝓤) (W : Given
         (l0 l1 l2 l3 l4 l5 : ℕ) where
       -- 0 is the answer, 1 to 3 are the parameters, 4 the reply, 5 the copy of the session
       abbrev Env-of : List (Ty × ℕ)
-      Env-of = (N′.mir, l0) ∷ (bytesTy 0, l1) ∷ (lentTy, l2) ∷ (bytesTy 2, l3) ∷ (R′.mir, l4) ∷ (S′.mir, l5) ∷ []
+      Env-of = (N′.mir, l0) ∷ (bytesTy 0, l1) ∷ (lentTy 1 a-session, l2) ∷ (bytesTy 2, l3) ∷ (R′.mir, l4) ∷ (S′.mir, l5) ∷ []
 
-      -- the context: Tokens, Slices, the open borrow, and each local with its end
+      -- the context: Tokens, Slices, the open borrow, and each local with its end, the borrow before the table
       walk-body : Sq W
-          (Tokens ∷ Slices ∷ Open κs qs γ b o s
-          (vacant N′.mir l0 (holding (bytesTy 0) vt l1 (holding lentTy (vptr b o) l2 (holding (bytesTy 2) vi l3
+          (Tokens ∷ Slices ∷ Open a-session κs qs γ b o s
+          (vacant N′.mir l0 (holding (lentTy 1 a-session) (vptr b o) l2 (holding (bytesTy 0) vt l1 (holding (bytesTy 2) vi l3
           (vacant R′.mir l4 (vacant S′.mir l5 [])))))))
           (runs C Λ Env-of (code.function .body) (atRet Env-of Post))
       walk-body =
-          assigns ! (of-opd ! (load ! (from ! (hop ! (look ! 10 refl) (stop !))) (look-raw ! 2 refl))) (from ! (stop !))
-          (init ! 16 refl (a-session 𝓤 H A W .typed s is)) $
-          calls-slices ! (a-reply 𝓤 H A W) fm (Core 𝓤 H A at-mem run) known to asks core.ended (κt, (κi, tt)) passed Made made-of (λ u. id⊢ 𝓤 _)
-          (and-then ! (load ! (from ! (stop !)) (look ! 8 refl))
+          assigns ! (of-opd ! (load ! (from ! (hop ! (look ! 8 refl) (stop !))) (look-raw ! 2 refl))) (from ! (stop !))
+          (init ! 16 refl (typed a-session W s is)) $
+          calls-slices ! a-reply fm (Core 𝓤 H A at-mem run) known to asks core.ended (κt, (κi, tt)) passed Made made-of (λ u. id⊢ 𝓤 _)
+          (and-then ! (load ! (from ! (stop !)) (look ! 10 refl))
           (and-then ! (load ! (from ! (stop !)) (look ! 16 refl))
           (and-then ! (load ! (from ! (stop !)) (look ! 12 refl)) (no-more !))))
           12 refl refl (λ r is-r made.
-          stores-within ! s (of-reply W r is-r) Post 3 refl refl refl $
-          forget ! 7 refl $ forget ! 11 refl $ forget ! 13 refl $ forget ! 15 refl $ freed ! Env-of $
-          by ! (exits (r .answer) (r .session) (answer-is r _ is-r) made))
+          stores-within ! a-session s (of-reply r is-r W) Post 5 refl refl refl refl $
+          forget ! 9 refl $ forget ! 11 refl $ forget ! 13 refl $ forget ! 15 refl $
+          move ! (0 ∷ 1 ∷ 2 ∷ 3 ∷ 4 ∷ 5 ∷ 6 ∷ 9 ∷ 10 ∷ []) $ freed ! Env-of $
+          by ! (exits (r .answer) (r .session) (answer-is r is-r) made))
 
   module _ (C : Calls 𝓤 H) (Λ : Loops 𝓤 H) (fm : FmC 𝓤 H (W .laws) C) (known : Triple 𝓤 (C #core) (Core 𝓤 H A at-mem run))
       (pt : Is (ShrSlice (named 0) κt u8) table (vt ∷ [])) (pi : Is (ShrSlice (named 2) κi u8) image (vi ∷ [])) where
@@ -213,8 +215,8 @@ module _ {M : Type 1} (𝓤 : URA M) (H : Heap 𝓤) (A : Atoms 𝓤) (W : Given
         move ! (17 ∷ []) $ split ! $ move ! (1 ∷ []) $ split ! $ move ! (1 ∷ []) $ split ! $
         join ! $ move ! (2 ∷ 0 ∷ []) $ join ! $ move ! (6 ∷ 4 ∷ []) $ join ! $
         -- Slices, Tokens, κs, what is observed, the borrow, true, the locals, the last first
-        keep ! (3 ∷ 4 ∷ 2 ∷ 1 ∷ 0 ∷ 16 ∷ 17 ∷ 14 ∷ 15 ∷ 12 ∷ 13 ∷ 10 ∷ 11 ∷ 8 ∷ 9 ∷ 6 ∷ 7 ∷ []) $
-        opened ! tt s (λ is. move ! (4 ∷ 5 ∷ []) $ walk-body is C Λ fm known l0 l1 l2 l3 l4 l5)))))))
+        keep ! (3 ∷ 4 ∷ 2 ∷ 1 ∷ 0 ∷ 16 ∷ 17 ∷ 12 ∷ 13 ∷ 14 ∷ 15 ∷ 10 ∷ 11 ∷ 8 ∷ 9 ∷ 6 ∷ 7 ∷ []) $
+        opened ! tt a-session s (λ is. move ! (4 ∷ 5 ∷ []) $ walk-body is C Λ fm known l0 l1 l2 l3 l4 l5)))))))
 
 module _ {M : Type 1} (𝓤 : URA M) (H : Heap 𝓤) (A : Atoms 𝓤) (W : Given 𝓤 H A) (mem : Memory → SProp 𝓤) (run : Routine → Fun 𝓤) where
   walks : (C : Calls 𝓤 H) (Λ : Loops 𝓤 H) → FmC 𝓤 H (W .laws) C → Triple 𝓤 (C #core) (Core 𝓤 H A mem run)
