@@ -15,17 +15,22 @@
 //! - `calls`: every call with all its checks, from bytes to an answer
 //! - `play`: the player, from standard input's format to lines, with or without
 //!   the reasons under starts
+//! - `tally`: what is kept of a list of answers, and the report of it
+//! - `depth`: the depth report of a recording in the player's format
 //! - `random`, `hex`, `closings`: random numbers and tables, bytes as text, counts
 //!   of what was closed, for comparisons
 //! - `no_affinity`, `by_edition`: how often screens of affinity 0 were started, and
 //!   how often each rule came up in each edition, likewise
+//! - `cases`: how often named cases came up, likewise
 //!
 //! Two layers: the methods of `Session` want a good table and a sound session
 //! and keep the session sound; the functions of `calls` check both first.
 
 pub mod by_edition;
 pub mod calls;
+pub mod cases;
 pub mod closings;
+pub mod depth;
 pub mod edition;
 pub mod hex;
 pub mod image;
@@ -36,6 +41,7 @@ pub mod reason;
 pub mod rules;
 pub mod session;
 pub mod table;
+pub mod tally;
 
 pub use reason::Reason;
 pub use rules::{Done, Rule};
@@ -76,4 +82,6 @@ pub enum Refusal {
     TaskFull = 24,
     /// Launch with an edition that is not kept.
     NoSuchEdition = 30,
+    /// Tally: it is full, it is of no list of answers, or the height is above 32.
+    NotTallied = 31,
 }

@@ -83,6 +83,25 @@ impl Player {
         }
     }
 
+    /// Plays the records that are left in the input, and does something with what
+    /// each comes to.
+    // Inline for the same reason.
+    #[inline]
+    pub fn records(
+        &mut self,
+        input: &mut impl Read,
+        mut each: impl FnMut(Played) -> io::Result<()>,
+    ) -> io::Result<()> {
+        let mut record = [0; RECORD];
+        loop {
+            let length = read_full(input, &mut record)?;
+            if length == 0 {
+                return Ok(());
+            }
+            each(self.record(&record[..length]))?;
+        }
+    }
+
     /// Makes the record's call.
     fn call(&mut self, record: &[u8]) -> Result<Done, Refusal> {
         let &[kind @ 1..=5, screen, f0, f1, f2, f3] = record else {
@@ -119,20 +138,14 @@ fn write_records(
     let mut out = Vec::with_capacity(BLOCK + 64);
     match Player::open(&mut input)? {
         None => push(&mut out, &Played::stopped()),
-        Some(mut player) => {
-            let mut record = [0; RECORD];
-            loop {
-                let length = read_full(&mut input, &mut record)?;
-                if length == 0 {
-                    break;
-                }
-                push(&mut out, &player.record(&record[..length]));
-                if out.len() >= BLOCK {
-                    output.write_all(&out)?;
-                    out.clear();
-                }
+        Some(mut player) => player.records(&mut input, |played| {
+            push(&mut out, &played);
+            if out.len() >= BLOCK {
+                output.write_all(&out)?;
+                out.clear();
             }
-        }
+            Ok(())
+        })?,
     }
     output.write_all(&out)?;
     output.flush()

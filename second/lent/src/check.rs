@@ -43,6 +43,11 @@ struct Guarded {
 }
 
 impl Checker {
+    /// The counts, and how many calls were made.
+    pub fn told(&self) -> (&Counts, u64) {
+        (&self.counts, self.counts.all_calls())
+    }
+
     /// Makes a call on the present session; gives what there is after it.
     pub fn check(
         &mut self,

@@ -11,8 +11,8 @@
 //! - `run`: options and endings of the comparing programs
 //!
 //! The programs: `images` compares save and restore, `calls` all calls, `reasons`
-//! why and start, `fuzz` makes calls on any bytes at the edges of memory,
-//! `calls_bench` measures.
+//! why and start, `tallies` the tally's step and its report, `fuzz` makes calls on
+//! any bytes at the edges of memory, `calls_bench` measures.
 
 pub mod call;
 pub mod check;

@@ -1,9 +1,10 @@
 //! What the comparing programs share: their options, and how they end.
 
+use std::fmt::Display;
 use std::process::ExitCode;
 use std::time::Instant;
 
-use crate::check::{Checked, Checker};
+use crate::check::Checker;
 use crate::library;
 
 /// The numbers given after these options, or what stands here. `None` if the
@@ -23,14 +24,14 @@ pub fn checker() -> Checker {
     Checker::default()
 }
 
-/// Tells what a comparison found; it fails by a difference, and by what did not
-/// come up and was to.
+/// Tells what a comparison found, what it counted and how many calls it made; it
+/// fails by a difference, and by what did not come up and was to.
 pub fn end(
     program: &str,
     seed: u64,
     begun: Instant,
-    checker: &Checker,
-    found: Checked,
+    (counts, calls): (&impl Display, u64),
+    found: Result<(), impl Display>,
     missing: Vec<String>,
 ) -> ExitCode {
     if let Err(difference) = found {
@@ -38,14 +39,13 @@ pub fn end(
         println!("{program}: seed {seed}, a difference");
         return ExitCode::FAILURE;
     }
-    print!("{}", checker.counts);
+    print!("{counts}");
     if !missing.is_empty() {
         println!("{program}: did not come up: {}", missing.join("; "));
         return ExitCode::FAILURE;
     }
     println!(
-        "{program}: seed {seed}, {} calls, no difference, {:.1} s",
-        checker.counts.all_calls(),
+        "{program}: seed {seed}, {calls} calls, no difference, {:.1} s",
         begun.elapsed().as_secs_f64()
     );
     ExitCode::SUCCESS

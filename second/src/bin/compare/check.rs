@@ -1,12 +1,11 @@
-//! Plays one input through both programs and compares the lines.
+//! Gives one input to both programs and compares what they write.
 
+use std::fmt;
 use std::path::PathBuf;
 use std::time::Instant;
 
-use second::play::{Played, Player, Writing, RECORD};
-
-use crate::counts::Counts;
-use crate::outside;
+use crate::lines::Lines;
+use crate::outside::{self, Output};
 
 /// An input: the bytes of a table, good or bad, and the bytes after it.
 #[derive(Clone)]
@@ -28,10 +27,24 @@ pub struct Difference {
     pub written: Written,
 }
 
-/// The outside program, and how the library here writes what that is to write.
-pub struct Pair {
-    pub program: PathBuf,
-    pub writing: Writing,
+/// What the library here writes and the outside program is to write. It counts
+/// what came up, and shows the counts.
+pub trait Manner: fmt::Display {
+    /// Whether the outside program's warnings are heard.
+    const HEARS: bool;
+
+    /// What the library here writes for an input, and how many records that was.
+    fn expected(&mut self, bytes: &[u8]) -> (Vec<u8>, u64);
+
+    /// What is compared with that of all that the outside program wrote.
+    fn compared(output: Output) -> Result<Vec<u8>, String>;
+
+    /// How many records there are up to the one of this line, counted from 0.
+    /// `None` if lines are not of single records.
+    fn records_to(here: &[u8], line: usize) -> Option<usize>;
+
+    /// The names of what never came up.
+    fn missing(&self) -> Vec<String>;
 }
 
 /// What the two write for one input.
@@ -42,48 +55,47 @@ pub struct Written {
     pub records: u64,
 }
 
-impl Pair {
-    /// Plays an input through both.
-    pub fn play(&self, bytes: &[u8], counts: &mut Counts) -> Written {
-        let (outside, (here, records)) = outside::run(&self.program, bytes, || {
-            expected(bytes, self.writing, counts)
-        });
-        Written {
-            outside,
-            here,
-            records,
-        }
-    }
-}
-
 impl Written {
     pub fn differ(&self) -> bool {
         self.outside.as_ref() != Ok(&self.here)
     }
 }
 
-pub struct Checker {
-    pub pair: Pair,
-    pub counts: Counts,
+pub struct Checker<M = Lines> {
+    program: PathBuf,
+    pub manner: M,
     pub records: u64,
     told: u64,
     runs: u64,
 }
 
-impl Checker {
-    pub fn new(pair: Pair) -> Checker {
+impl<M: Manner> Checker<M> {
+    pub fn new(program: PathBuf, manner: M) -> Checker<M> {
         Checker {
-            pair,
-            counts: Counts::default(),
+            program,
+            manner,
             records: 0,
             told: 0,
             runs: 0,
         }
     }
 
-    /// Plays the input through both.
+    /// Gives the input to both.
+    pub fn play(&mut self, input: &Input) -> Written {
+        let bytes = input.bytes();
+        let (output, (here, records)) = outside::run(&self.program, &bytes, M::HEARS, || {
+            self.manner.expected(&bytes)
+        });
+        Written {
+            outside: output.and_then(M::compared),
+            here,
+            records,
+        }
+    }
+
+    /// Gives the input to both and compares.
     pub fn check(&mut self, input: &Input) -> Result<(), Box<Difference>> {
-        let written = self.pair.play(&input.bytes(), &mut self.counts);
+        let written = self.play(input);
         if written.differ() {
             let input = input.clone();
             return Err(Box::new(Difference { input, written }));
@@ -104,24 +116,4 @@ impl Checker {
         self.told = self.records;
         self.runs = 0;
     }
-}
-
-/// What the library here writes for an input, and how many records that was.
-fn expected(mut bytes: &[u8], writing: Writing, counts: &mut Counts) -> (Vec<u8>, u64) {
-    let mut out = Vec::with_capacity(bytes.len() * 4);
-    let opened = Player::open(&mut bytes).expect("bytes in memory can be read");
-    let Some(mut player) = opened else {
-        writing(&mut out, &Played::stopped());
-        counts.add_bad_table();
-        return (out, 0);
-    };
-    let mut records = 0;
-    for record in bytes.chunks(RECORD) {
-        let edition = player.session.edition;
-        let played = player.record(record);
-        counts.add(edition, &player, record, &played);
-        writing(&mut out, &played);
-        records += 1;
-    }
-    (out, records)
 }

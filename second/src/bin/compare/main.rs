@@ -1,6 +1,7 @@
-//! Compares an outside player program with this package's navigator.
+//! Compares an outside player or report program with this package's navigator.
 //!
 //!     compare [--player PATH | --explain PATH] [--seed N] [--records N] [--sweep]
+//!     compare --depth PATH [--seed N] [--records N]
 //!
 //! Inputs are made from a seed, played through the outside program and through
 //! the library here, and compared line by line. With `--explain` the program is
@@ -11,28 +12,43 @@
 //! how many screens were closed, and exits with 1 if an edition, a rule in an
 //! edition where it can occur, a refusal or a number that a rule can close never
 //! came up.
+//!
+//! With `--depth` the program is one that writes the depth report of a recording,
+//! and warns on standard error where not all calls are tallied, and only there. It
+//! exits with 1 too if a way of rounding, an extreme of the report or a recording
+//! with too many calls never came up (see `depths`).
 
 mod check;
 mod counts;
+mod depths;
 mod heights;
 mod limits;
+mod lines;
 mod make;
 mod outside;
+mod recordings;
 mod shrink;
 mod sweep;
 
 use std::path::PathBuf;
 use std::process::ExitCode;
-use std::time::Instant;
 
 use second::play::{push_explained, push_line, Writing};
-use second::random::Random;
 
-use check::{Checker, Difference, Pair};
+use check::{Checker, Difference, Manner};
+use depths::Depths;
+use lines::Lines;
+
+/// What the outside program writes.
+#[derive(Clone, Copy)]
+enum Kind {
+    Lines(Writing),
+    Depth,
+}
 
 struct Options {
     /// Which program is compared, the player if none is named.
-    pair: Option<Pair>,
+    program: Option<(PathBuf, Kind)>,
     seed: u64,
     records: u64,
     sweep: bool,
@@ -40,16 +56,21 @@ struct Options {
 
 impl Options {
     /// Names the program. `None` if one is named already.
-    fn name(&mut self, path: String, writing: Writing) -> Option<()> {
-        let program = PathBuf::from(path);
-        let before = self.pair.replace(Pair { program, writing });
+    fn name(&mut self, path: String, kind: Kind) -> Option<()> {
+        let before = self.program.replace((PathBuf::from(path), kind));
         before.is_none().then_some(())
+    }
+
+    /// The program that is named, or else the player.
+    fn program(&self) -> (PathBuf, Kind) {
+        let player = || (PathBuf::from("target/bin/player"), Kind::Lines(push_line));
+        self.program.clone().unwrap_or_else(player)
     }
 }
 
 fn options() -> Option<Options> {
     let mut options = Options {
-        pair: None,
+        program: None,
         seed: 1,
         records: 3_000_000,
         sweep: false,
@@ -57,77 +78,63 @@ fn options() -> Option<Options> {
     let mut arguments = std::env::args().skip(1);
     while let Some(argument) = arguments.next() {
         match argument.as_str() {
-            "--player" => options.name(arguments.next()?, push_line)?,
-            "--explain" => options.name(arguments.next()?, push_explained)?,
+            "--player" => options.name(arguments.next()?, Kind::Lines(push_line))?,
+            "--explain" => options.name(arguments.next()?, Kind::Lines(push_explained))?,
+            "--depth" => options.name(arguments.next()?, Kind::Depth)?,
             "--seed" => options.seed = arguments.next()?.parse().ok()?,
             "--records" => options.records = arguments.next()?.parse().ok()?,
             "--sweep" => options.sweep = true,
             _ => return None,
         }
     }
-    Some(options)
+    // The sweep's records are too many for a report.
+    let swept_depth = options.sweep && matches!(options.program, Some((_, Kind::Depth)));
+    (!swept_depth).then_some(options)
 }
 
-fn run(options: &Options, checker: &mut Checker) -> Result<(), Box<Difference>> {
-    let begun = Instant::now();
-    let mut random = Random::new(options.seed);
-    for input in make::fixed() {
-        checker.check(&input)?;
-    }
-    checker.tell("fixed inputs", begun);
-
-    let begun = Instant::now();
-    let calls = limits::limits(checker)?;
-    checker.tell(&format!("limits ({calls} calls)"), begun);
-
-    let begun = Instant::now();
-    let calls = heights::heights(checker)?;
-    checker.tell(&format!("heights ({calls} calls)"), begun);
-
-    let begun = Instant::now();
-    let target = checker.records + options.records;
-    while checker.records < target {
-        let input = make::random(&mut random, target - checker.records);
-        checker.check(&input)?;
-    }
-    checker.tell("random inputs", begun);
-
-    if options.sweep {
-        let begun = Instant::now();
-        let swept = sweep::sweep(checker)?;
-        checker.tell(&format!("sweep ({swept})"), begun);
-    }
-    Ok(())
-}
-
-fn main() -> ExitCode {
-    let Some(mut options) = options() else {
-        eprintln!(
-            "usage: compare [--player PATH | --explain PATH] [--seed N] [--records N] [--sweep]"
-        );
-        return ExitCode::from(2);
-    };
-    let pair = options.pair.take().unwrap_or(Pair {
-        program: PathBuf::from("target/bin/player"),
-        writing: push_line,
-    });
-    if !pair.program.is_file() {
-        eprintln!("compare: there is no {}", pair.program.display());
-        return ExitCode::from(2);
-    }
-    let mut checker = Checker::new(pair);
-    if let Err(difference) = run(&options, &mut checker) {
-        let smallest = shrink::shrink(&checker.pair, *difference);
+/// Compares, and tells what was found.
+fn compare<M: Manner>(
+    options: &Options,
+    mut checker: Checker<M>,
+    run: fn(&Options, &mut Checker<M>) -> Result<(), Box<Difference>>,
+) -> ExitCode {
+    if let Err(difference) = run(options, &mut checker) {
+        let smallest = shrink::shrink(&mut checker, *difference);
         print!("{smallest}");
         println!("compare: seed {}, a difference", options.seed);
         return ExitCode::FAILURE;
     }
-    print!("{}", checker.counts);
-    let missing = checker.counts.missing();
+    print!("{}", checker.manner);
+    let missing = checker.manner.missing();
     if !missing.is_empty() {
         println!("compare: never came up: {}", missing.join(", "));
         return ExitCode::FAILURE;
     }
     println!("compare: {} records, no difference", checker.records);
     ExitCode::SUCCESS
+}
+
+fn main() -> ExitCode {
+    let Some(options) = options() else {
+        eprintln!(
+            "usage: compare [--player PATH | --explain PATH] [--seed N] [--records N] [--sweep]"
+        );
+        eprintln!("       compare --depth PATH [--seed N] [--records N]");
+        return ExitCode::from(2);
+    };
+    let (program, kind) = options.program();
+    if !program.is_file() {
+        eprintln!("compare: there is no {}", program.display());
+        return ExitCode::from(2);
+    }
+    match kind {
+        Kind::Lines(writing) => {
+            let checker = Checker::new(program, Lines::new(writing));
+            compare(&options, checker, lines::run)
+        }
+        Kind::Depth => {
+            let checker = Checker::new(program, Depths::default());
+            compare(&options, checker, depths::run)
+        }
+    }
 }

@@ -288,8 +288,8 @@ const STYLES: [&str; 5] = [
     "bad records",
 ];
 
-/// A random input of at most these many records.
-pub fn random(random: &mut Random, limit: u64) -> Input {
+/// A random input of a number of records between these, and at most the limit.
+pub fn random(random: &mut Random, (least, most): (u64, u64), limit: u64) -> Input {
     let style = random.below(STYLES.len() as u64) as usize;
     let n = match style {
         0 => random.between(1, 64) as u8,
@@ -305,7 +305,7 @@ pub fn random(random: &mut Random, limit: u64) -> Input {
     let mut player = Player::open(&mut &table[..])
         .expect("bytes in memory can be read")
         .expect("the table is whole");
-    let length = random.between(500, 20_000).min(limit);
+    let length = random.between(least, most).min(limit);
     let mut records = Vec::with_capacity(length as usize * RECORD);
     while (records.len() / RECORD) < length as usize {
         let mood = mood(random, style, n);

@@ -1,14 +1,22 @@
-//! Runs the outside player program on an input.
+//! Runs the outside program on an input.
 
-use std::io::{Read, Write};
+use std::io::{self, Read, Write};
 use std::path::Path;
-use std::process::{Command, Stdio};
-use std::sync::mpsc;
-use std::thread;
+use std::process::{Child, Command, Stdio};
+use std::sync::mpsc::{self, Receiver};
+use std::thread::{self, Scope};
 use std::time::Duration;
 
 /// How long one run may take.
 const LIMIT: Duration = Duration::from_secs(60);
+
+/// All that the program wrote.
+pub struct Output {
+    /// On standard output.
+    pub lines: Vec<u8>,
+    /// On standard error, if that was heard.
+    pub warnings: Vec<u8>,
+}
 
 /// Feeds the input to the program and gives all that it wrote, or what went
 /// wrong: it could not be started, did not end in time, or did not exit with 0.
@@ -16,15 +24,10 @@ const LIMIT: Duration = Duration::from_secs(60);
 pub fn run<T>(
     program: &Path,
     input: &[u8],
+    hear: bool,
     meanwhile: impl FnOnce() -> T,
-) -> (Result<Vec<u8>, String>, T) {
-    let spawned = Command::new(program)
-        .stdin(Stdio::piped())
-        .stdout(Stdio::piped())
-        // It warns of kind 6, which random input has; warnings are not compared.
-        .stderr(Stdio::null())
-        .spawn();
-    let mut child = match spawned {
+) -> (Result<Output, String>, T) {
+    let mut child = match start(program, hear) {
         Ok(child) => child,
         Err(error) => {
             let message = format!("{} cannot be started: {error}", program.display());
@@ -32,32 +35,59 @@ pub fn run<T>(
         }
     };
     let mut stdin = child.stdin.take().expect("standard input is a pipe");
-    let mut stdout = child.stdout.take().expect("standard output is a pipe");
-    let (sender, receiver) = mpsc::channel();
     thread::scope(|scope| {
         // The program may rightly stop before it has read all, so that the rest
         // cannot be written; what it wrote itself decides.
         scope.spawn(move || {
             let _ = stdin.write_all(input);
         });
-        scope.spawn(move || {
-            let mut output = Vec::new();
-            let result = stdout.read_to_end(&mut output).map(|_| output);
-            let _ = sender.send(result);
-        });
+        let lines = gather(scope, child.stdout.take());
+        let warnings = gather(scope, child.stderr.take());
         let other = meanwhile();
-        let received = receiver.recv_timeout(LIMIT);
-        if received.is_err() {
-            let _ = child.kill();
-        }
-        let status = child.wait();
-        let output = match (received, status) {
-            (Err(_), _) => Err(format!("no end within {} s", LIMIT.as_secs())),
-            (Ok(Err(error)), _) => Err(format!("its output cannot be read: {error}")),
-            (_, Err(error)) => Err(format!("it cannot be waited for: {error}")),
-            (Ok(Ok(_)), Ok(status)) if !status.success() => Err(format!("it ended with {status}")),
-            (Ok(Ok(output)), Ok(_)) => Ok(output),
-        };
-        (output, other)
+        (ended(child, lines, warnings), other)
     })
+}
+
+fn start(program: &Path, hear: bool) -> io::Result<Child> {
+    let stderr = if hear { Stdio::piped() } else { Stdio::null() };
+    Command::new(program)
+        .stdin(Stdio::piped())
+        .stdout(Stdio::piped())
+        .stderr(stderr)
+        .spawn()
+}
+
+type Gathered = Receiver<io::Result<Vec<u8>>>;
+
+/// Reads to the end what comes from a pipe, if there is one.
+fn gather<'a>(scope: &'a Scope<'a, '_>, pipe: Option<impl Read + Send + 'a>) -> Gathered {
+    let (sender, receiver) = mpsc::channel();
+    scope.spawn(move || {
+        let mut all = Vec::new();
+        let result = pipe.map_or(Ok(0), |mut pipe| pipe.read_to_end(&mut all));
+        let _ = sender.send(result.map(|_| all));
+    });
+    receiver
+}
+
+/// Waits for the program's end.
+fn ended(mut child: Child, lines: Gathered, warnings: Gathered) -> Result<Output, String> {
+    let lines = lines.recv_timeout(LIMIT);
+    if lines.is_err() {
+        let _ = child.kill();
+    }
+    let warnings = warnings.recv_timeout(LIMIT);
+    if warnings.is_err() {
+        let _ = child.kill();
+    }
+    let status = child.wait();
+    match (lines, warnings, status) {
+        (Err(_), ..) | (_, Err(_), _) => Err(format!("no end within {} s", LIMIT.as_secs())),
+        (Ok(Err(error)), ..) | (_, Ok(Err(error)), _) => {
+            Err(format!("its output cannot be read: {error}"))
+        }
+        (.., Err(error)) => Err(format!("it cannot be waited for: {error}")),
+        (.., Ok(status)) if !status.success() => Err(format!("it ended with {status}")),
+        (Ok(Ok(lines)), Ok(Ok(warnings)), Ok(_)) => Ok(Output { lines, warnings }),
+    }
 }

@@ -40,7 +40,7 @@ fn main() -> ExitCode {
     let mut checker = run::checker();
     let found = compare(&mut checker, seed, calls);
     let missing = checker.counts.missing(&Kind::ALL, 1);
-    run::end("calls", seed, begun, &checker, found, missing)
+    run::end("calls", seed, begun, checker.told(), found, missing)
 }
 
 fn compare(checker: &mut Checker, seed: u64, calls: u64) -> Checked {

@@ -43,7 +43,7 @@ fn main() -> ExitCode {
     let end = begun + Duration::from_secs(seconds);
     let mut checker = run::checker();
     let found = fuzz(&mut checker, seed, end, calls);
-    run::end("fuzz", seed, begun, &checker, found, Vec::new())
+    run::end("fuzz", seed, begun, checker.told(), found, Vec::new())
 }
 
 fn fuzz(checker: &mut Checker, seed: u64, end: Instant, calls: u64) -> Checked {

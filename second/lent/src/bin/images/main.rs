@@ -29,7 +29,7 @@ fn main() -> ExitCode {
     let mut checker = run::checker();
     let found = compare(&mut checker, seed, images);
     let missing = checker.counts.missing(&[Kind::Save, Kind::Restore], 1);
-    run::end("images", seed, begun, &checker, found, missing)
+    run::end("images", seed, begun, checker.told(), found, missing)
 }
 
 fn compare(checker: &mut Checker, seed: u64, images: u64) -> Checked {

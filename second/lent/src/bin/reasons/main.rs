@@ -35,7 +35,7 @@ fn main() -> ExitCode {
     let mut checker = run::checker();
     let found = compare(&mut checker, seed, reasons);
     let missing = checker.counts.missing(&[Kind::Why], EACH_RULE);
-    run::end("reasons", seed, begun, &checker, found, missing)
+    run::end("reasons", seed, begun, checker.told(), found, missing)
 }
 
 fn compare(checker: &mut Checker, seed: u64, reasons: u64) -> Checked {

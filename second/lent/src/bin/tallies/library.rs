@@ -1,0 +1,87 @@
+//! The static library's tally, as it declares it to C: to add a call the tally is
+//! lent, to the report it is passed by value.
+
+use second::tally::{Report, Tally};
+
+/// How many bytes before and after a lent tally are watched.
+const GUARD: usize = 32;
+const GUARDS: [u8; GUARD] = [0xa5; GUARD];
+
+#[repr(C)]
+#[derive(Clone, Copy)]
+struct Stored {
+    sum: u32,
+    accepted: u16,
+    refused: u16,
+    greatest: u8,
+}
+
+#[repr(C)]
+struct StoredReport {
+    accepted: u16,
+    refused: u16,
+    tenths: u16,
+    refusal: u8,
+    greatest: u8,
+}
+
+extern "C" {
+    fn milchkompass_tally_add(tally: *mut Stored, refusal: u8, height: u8) -> u8;
+
+    fn milchkompass_tally_report(tally: Stored) -> StoredReport;
+}
+
+/// A tally with bytes around it that nobody may write.
+#[repr(C)]
+struct Guarded {
+    before: [u8; GUARD],
+    tally: Stored,
+    after: [u8; GUARD],
+}
+
+impl Stored {
+    fn hold(tally: Tally) -> Stored {
+        Stored {
+            sum: tally.sum,
+            accepted: tally.accepted,
+            refused: tally.refused,
+            greatest: tally.greatest,
+        }
+    }
+
+    fn view(self) -> Tally {
+        Tally {
+            sum: self.sum,
+            accepted: self.accepted,
+            refused: self.refused,
+            greatest: self.greatest,
+        }
+    }
+}
+
+/// Adds a call; gives the refusal's number, or 0, and whether the library wrote
+/// around the tally.
+pub fn add(tally: &mut Tally, refusal: u8, height: u8) -> (u8, bool) {
+    let mut lent = Guarded {
+        before: GUARDS,
+        tally: Stored::hold(*tally),
+        after: GUARDS,
+    };
+    // The library may write all that is passed here, and keeps no pointer to it.
+    let whole = &raw mut lent;
+    let given = unsafe { milchkompass_tally_add(&raw mut (*whole).tally, refusal, height) };
+    *tally = lent.tally.view();
+    (given, lent.before != GUARDS || lent.after != GUARDS)
+}
+
+/// The refusal's number, or 0, and the report.
+pub fn report(tally: Tally) -> (u8, Report) {
+    let given = unsafe { milchkompass_tally_report(Stored::hold(tally)) };
+    let report = Report {
+        accepted: given.accepted,
+        refused: given.refused,
+        greatest: given.greatest,
+        tenths: given.tenths,
+    };
+    (given.refusal, report)
+}

@@ -1,0 +1,129 @@
+//! Depth reports are compared: one line for a whole recording, and whether the
+//! program warned that not all of it is tallied.
+
+use std::cmp::Ordering;
+use std::fmt;
+use std::time::Instant;
+
+use second::cases::{Case, Cases};
+use second::depth::Depth;
+use second::random::Random;
+use second::tally::MOST_CALLS;
+
+use crate::check::{Checker, Difference, Manner};
+use crate::outside::Output;
+use crate::{make, recordings, Options};
+
+/// What is compared after the line where there is a warning.
+const WARNED: &[u8] = b"(a warning)\n";
+
+/// What is to come up, and which recordings have it.
+const CASES: [Case<Depth>; 11] = [
+    ("no call", |depth| depth.calls() == 0),
+    ("nothing accepted", |depth| {
+        depth.calls() > 0 && depth.tally.accepted == 0
+    }),
+    ("a mean of 0 of accepted calls", |depth| {
+        depth.tally.accepted > 0 && depth.tally.sum == 0
+    }),
+    ("a mean rounded to 0", |depth| {
+        depth.tally.sum > 0 && depth.report().tenths == 0
+    }),
+    ("a mean rounded down", |depth| {
+        part(depth) == Some(Ordering::Less)
+    }),
+    ("a mean with an exact half", |depth| {
+        part(depth) == Some(Ordering::Equal)
+    }),
+    ("a mean rounded up past the half", |depth| {
+        part(depth) == Some(Ordering::Greater)
+    }),
+    ("a greatest of 32", |depth| depth.tally.greatest == 32),
+    ("65,535 calls", |depth| {
+        depth.calls() == u64::from(MOST_CALLS)
+    }),
+    ("65,536 calls", |depth| {
+        depth.calls() == u64::from(MOST_CALLS) + 1
+    }),
+    ("more calls than that", |depth| depth.untallied > 1),
+];
+
+/// How the part of a tenth that the mean has beside whole ones compares with the
+/// half. `None` if there is no such part.
+fn part(depth: &Depth) -> Option<Ordering> {
+    let accepted = u32::from(depth.tally.accepted);
+    let rest = (10 * depth.tally.sum).checked_rem(accepted)?;
+    (rest > 0).then(|| (2 * rest).cmp(&accepted))
+}
+
+/// How many recordings had each case.
+pub struct Depths(Cases<Depth>);
+
+impl Default for Depths {
+    fn default() -> Depths {
+        Depths(Cases::new(&CASES))
+    }
+}
+
+impl Manner for Depths {
+    const HEARS: bool = true;
+
+    fn expected(&mut self, bytes: &[u8]) -> (Vec<u8>, u64) {
+        let depth = Depth::read(bytes).expect("bytes in memory can be read");
+        self.0.add(&depth);
+        let warned = if depth.untallied > 0 { WARNED } else { &[] };
+        let line = format!("{depth}\n");
+        ([line.as_bytes(), warned].concat(), depth.calls())
+    }
+
+    fn compared(output: Output) -> Result<Vec<u8>, String> {
+        let Output { lines, warnings } = output;
+        if warnings.is_empty() {
+            return Ok(lines);
+        }
+        if warnings.starts_with(b"warning: ") {
+            return Ok([&lines[..], WARNED].concat());
+        }
+        let text = String::from_utf8_lossy(&warnings);
+        Err(format!("no warning, on standard error: {text}"))
+    }
+
+    fn records_to(_: &[u8], _: usize) -> Option<usize> {
+        None
+    }
+
+    fn missing(&self) -> Vec<String> {
+        self.0.missing()
+    }
+}
+
+impl fmt::Display for Depths {
+    fn fmt(&self, f: &mut fmt::Formatter) -> fmt::Result {
+        writeln!(f, "recordings with")?;
+        self.0.fmt(f)
+    }
+}
+
+pub fn run(options: &Options, checker: &mut Checker<Depths>) -> Result<(), Box<Difference>> {
+    let begun = Instant::now();
+    for input in make::fixed().into_iter().chain(recordings::means()) {
+        checker.check(&input)?;
+    }
+    checker.tell("fixed recordings", begun);
+
+    let begun = Instant::now();
+    for input in recordings::long() {
+        checker.check(&input)?;
+    }
+    checker.tell("long recordings", begun);
+
+    let begun = Instant::now();
+    let mut random = Random::new(options.seed);
+    let target = checker.records + options.records;
+    while checker.records < target {
+        let input = recordings::random(&mut random, target - checker.records);
+        checker.check(&input)?;
+    }
+    checker.tell("random recordings", begun);
+    Ok(())
+}
