@@ -1,6 +1,6 @@
 # What the commands share. A command sources this file, sets `usage`, and then calls, in this order:
 #
-#   arguments N "$@"    there are N names; else the usage
+#   arguments N "$@"    there are N names, or with N.. at least N; else the usage
 #   readable NAME       for each file that the program opens: a message where it cannot be read
 #   take_input NAME     for one that it gets as its standard input: the same, and opens it
 #   build PROGRAM       proves and builds the program, unless it was built from these sources by this kit
@@ -14,9 +14,11 @@
 #   any other line                a failure, such as a write that failed
 #   SIGPIPE                       nobody reads on, which is no error and ends it
 #   any other signal              a failure, of which the program could say nothing
+# A command that runs a program on several files sets `about` to the name of each with ': ' behind it, for these messages.
 set -uo pipefail
 unset CDPATH
 command=${0##*/}
+about=''
 
 say() { printf '%s: %s\n' "$command" "$1" >&2; }
 
@@ -52,7 +54,10 @@ arguments() { # N ARGUMENT..
         print "$usage"
         exit 0
     fi
-    [ $# -eq "$wanted" ] || refuse
+    case $wanted in
+        *..) [ $# -ge "${wanted%..}" ] || refuse ;;
+        *) [ $# -eq "$wanted" ] || refuse ;;
+    esac
     for name; do
         case $name in '' | -?*) refuse ;; esac
     done
@@ -172,14 +177,19 @@ run() { # ARGUMENT..
         line=${said%%$'\n'*}
         said=${said#"$line"}
         said=${said#$'\n'}
-        say "$line"
-        case $line in 'warning: '*) ;; *) failed=yes ;; esac
+        case $line in
+            'warning: '*) say "warning: $about${line#warning: }" ;;
+            *)
+                failed=yes
+                say "$about$line"
+                ;;
+        esac
     done
     case $status in
         0 | 141) ;;
-        139) fail 'stopped by signal SEGV; it needs 4 MiB of stack (ulimit -s)' ;;
+        139) fail "${about}stopped by signal SEGV; it needs 4 MiB of stack (ulimit -s)" ;;
         126 | 127) fail "$built cannot be run" ;;
-        *) fail "stopped by signal $(kill -l "$status")" ;;
+        *) fail "${about}stopped by signal $(kill -l "$status")" ;;
     esac
     [ -z "$failed" ] || exit 2
 }
