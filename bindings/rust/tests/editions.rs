@@ -3,7 +3,7 @@
 
 mod common;
 
-use common::{image, session, table_t};
+use common::{image_in, session, table_t};
 use milchkompass::Edition::{self, Android6, Android7, Android8};
 use milchkompass::{Answer, Flags, Found, Refusal, Session, Table};
 
@@ -15,18 +15,10 @@ const RTF: Flags = Flags::REORDER_TO_FRONT;
 
 type Tasks<'a> = &'a [(u8, &'a [u8])];
 
-/// The image of these tasks with this byte for its edition.
-fn image_with(byte: u8, tasks: Tasks, main: u8) -> Vec<u8> {
-    let mut bytes = image(tasks, main);
-    let place = bytes.len() - 2;
-    bytes[place] = byte;
-    bytes
-}
-
 /// The session of these tasks in an edition, under a table.
 fn under(table: Table, edition: Edition, tasks: Tasks, main: u8) -> Session {
     let mut s = Session::new(table);
-    let restored = s.restore(&image_with(edition.number(), tasks, main));
+    let restored = s.restore(&image_in(edition.number(), tasks, main));
     assert_eq!(restored.expect("a sound session").edition, edition);
     s
 }
@@ -104,7 +96,7 @@ fn images() {
     let p10: Tasks = &[(3, &[3]), (0, &[1, 0])];
     let before = session(p10, 2);
     for byte in 0..=255 {
-        let (whole, empty) = (image_with(byte, p10, 2), image_with(byte, &[], 0));
+        let (whole, empty) = (image_in(byte, p10, 2), image_in(byte, &[], 0));
         let mut s = before.clone();
         match Edition::try_from(byte) {
             Ok(edition) => {
@@ -121,7 +113,7 @@ fn images() {
         }
     }
     for edition in [Android6, Android7] {
-        let (mut s, empty) = (before.clone(), image_with(edition.number(), &[], 0));
+        let (mut s, empty) = (before.clone(), image_in(edition.number(), &[], 0));
         assert_eq!(s.restore(&empty), Err(Refusal::ImageUnsound));
         assert_eq!(s, before);
     }

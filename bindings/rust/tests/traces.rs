@@ -1,6 +1,10 @@
 //! Document 001's example of Android's versions, in each edition. In edition 6
 //! its preparation leads elsewhere, so its configuration is restored.
 
+#[allow(dead_code)]
+mod common;
+
+use common::image_in;
 use milchkompass::{Flags, Found, FoundBy, Reason, Rule, Session, Table};
 
 const NONE: Flags = Flags::NONE;
@@ -23,21 +27,9 @@ fn table() -> Table {
     Table::from_bytes(&[4, 0, 0, 1, 0, 1, 0, 2, 0, 2]).expect("a good table")
 }
 
-fn image(tasks: Tasks, main: u8, edition: u8) -> Vec<u8> {
-    let mut bytes = Vec::new();
-    for (root, screens) in tasks {
-        bytes.extend([*root, screens.len() as u8]);
-        bytes.extend_from_slice(screens);
-    }
-    let length = bytes.len() as u16;
-    bytes.extend(length.to_be_bytes());
-    bytes.extend([tasks.len() as u8, main, edition, 0x42]);
-    bytes
-}
-
 fn session(tasks: Tasks, main: u8, edition: u8) -> Session {
     let mut session = Session::new(table());
-    let restored = session.restore(&image(tasks, main, edition));
+    let restored = session.restore(&image_in(edition, tasks, main));
     restored.expect("a sound session");
     session
 }
@@ -51,7 +43,11 @@ fn plays(edition: u8, call: (u8, Flags), why: (Rule, Option<Found>), after: (Tas
     let mut s = session(CONFIGURATION, 1, edition);
     assert_eq!(s.why(screen, flags), Ok(Reason { rule, found }));
     let answer = s.start(screen, flags).expect("accepted");
-    assert_eq!(s.save(), image(tasks, main, edition), "edition {edition}");
+    assert_eq!(
+        s.save(),
+        image_in(edition, tasks, main),
+        "edition {edition}"
+    );
     let (root, screens) = tasks[0];
     assert_eq!((answer.screen, answer.root), (screens[0], root));
     assert_eq!(usize::from(answer.height), screens.len());
@@ -85,7 +81,11 @@ fn the_preparation() {
             s.start(screen, flags).expect("accepted");
         }
         s.back().expect("accepted");
-        assert_eq!(s.save(), image(tasks, main, edition), "edition {edition}");
+        assert_eq!(
+            s.save(),
+            image_in(edition, tasks, main),
+            "edition {edition}"
+        );
     }
 }
 

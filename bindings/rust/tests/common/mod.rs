@@ -17,6 +17,11 @@ pub fn table_t() -> Table {
 
 /// The image of these tasks, each its root and its screens, top first.
 pub fn image(tasks: &[(u8, &[u8])], main: u8) -> Vec<u8> {
+    image_in(8, tasks, main)
+}
+
+/// The same in an edition.
+pub fn image_in(edition: u8, tasks: &[(u8, &[u8])], main: u8) -> Vec<u8> {
     let mut bytes = Vec::new();
     for (root, screens) in tasks {
         bytes.extend([*root, screens.len() as u8]);
@@ -24,7 +29,7 @@ pub fn image(tasks: &[(u8, &[u8])], main: u8) -> Vec<u8> {
     }
     let length = bytes.len() as u16;
     bytes.extend(length.to_be_bytes());
-    bytes.extend([tasks.len() as u8, main, 0x08, 0x42]);
+    bytes.extend([tasks.len() as u8, main, edition, 0x42]);
     bytes
 }
 
