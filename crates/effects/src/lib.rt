@@ -66,13 +66,13 @@ fn lowered(t: Task, h: u8) -> Task
     requires { ⌜ (blankAbove t ≡ true) × (h ≤ t .height) ⌝ }
     ensures { λ r. ⌜ r ≡ lowest h t ⌝ }
 {
-    let low = h as usize;
-    let mut i = t.height as usize;
+    let mut i = t.height;
     let mut out = t;
     out.height = h;
-    while i > low {
+    while i > h {
         i -= 1;
-        out.screens[i] = 0;
+        let top = i as usize;
+        out.screens[top] = 0;
     }
     out
 }

@@ -16,24 +16,24 @@ abbrev withHeight : Task → ℕ → Task
 withHeight t h = record { root = t .root; height = h; screens = t .screens }
 
 abbrev Inv-loop : tie.InvT-loop
-Inv-loop h low i₀ out₀ i out =
-    (low ≤ i) × ((i ≤ 32) × (out ≡ withScreens out₀ (take i (out₀ .screens) ++ replicate (32 - i) 0)))
+Inv-loop h i₀ out₀ i out =
+    (h ≤ i) × ((i ≤ 32) × (out ≡ withScreens out₀ (take i (out₀ .screens) ++ replicate (32 - i) 0)))
 
 abbrev μ-loop : tie.MeasureT-loop
-μ-loop h low i₀ out₀ i out = i
+μ-loop h i₀ out₀ i out = i
 
 loop-holds : tie.Need-loop-holds Inv-loop μ-loop
 loop-holds c =
-    let t = c .before .args .t in
+    let t = c .args .t in
     let l : length (t .screens) ≡ 32 = search needs in
-    let b = c .before .pre .0 in
+    let b = c .pre .0 in
     let e = sym (ap (λ (ys : List ℕ). take (t .height) (t .screens) ++ ys) (sym (blank-drop t l b)) ∙ take-append-drop (t .height) (t .screens)) in
-    (c .before .pre .1, (blank-low t b, ap (withScreens (withHeight t (c .before .args .h))) e))
+    (c .pre .1, (blank-low t b, ap (withScreens (withHeight t (c .args .h))) e))
 
 loop-again : tie.Need-loop-again Inv-loop μ-loop
 loop-again c =
     let here = c .before .loop in
-    let a = c .before .before .before .args in
+    let a = c .before .before .args in
     let l : length (a .t .screens) ≡ 32 = search needs in
     let i = here .i in (
       omega arith,
@@ -47,9 +47,9 @@ loop-again c =
 returns : tie.Need-returns Inv-loop μ-loop
 returns c =
     let here = c .before .loop in
-    let a = c .before .before .before .args in
+    let a = c .before .before .args in
     let k : here .i ≡ a .h = omega arith in
     here .inv .1 .1 ∙ ap (λ (i : ℕ). withScreens (withHeight (a .t) (a .h)) (take i (a .t .screens) ++ replicate (32 - i) 0)) k
 
 pub lowered-spec : {M : Type 1} → statement M
-lowered-spec = tie.close (tie.spec Inv-loop μ-loop (λ c. search needs) loop-holds (λ c. search needs) (λ c. search needs) (λ c. search needs) loop-again returns)
+lowered-spec = tie.close (tie.spec Inv-loop μ-loop loop-holds (λ c. search needs) (λ c. search needs) (λ c. search needs) (λ c. search needs) loop-again returns)
