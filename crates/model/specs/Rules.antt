@@ -37,7 +37,7 @@ module _ (tb : List ℕ) (s : State ℕ) (b : ℕ) (f : Flags) where
       if isApart then Group.Apart else Group.NotApart
 
   -- how each group seeks a task: "found by root"; "sought by root, then by affinity"; not at all; "R11 MTK: new. Then
-  -- sought by root, then by affinity."
+  -- sought by root, then by affinity." In edition 6 by affinity alone, as `seek` says (02, request 4).
   unfoldable pub soughtBy : Group → Found
   soughtBy Group.Instance = seekRoot b (s .tasks)
   soughtBy Group.Task = seek tb (s .edition) b (s .tasks)
