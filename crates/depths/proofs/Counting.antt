@@ -16,7 +16,8 @@ use Rattle.model.specs.Player.{Record, Request, unplayable, asks, outcomeOf, re
 use Rattle.model.proofs.RefusalLaws.{checks-bad-table}
 use Rattle.model.proofs.Sound.{Sound, TaskSound}
 use Rattle.model.proofs.Keeps.{fresh-sound, call-sound}
-use Rattle.tally.specs.Tallied.{those, canBeTallied, mostCalls}
+use Rattle.tally.specs.Tallied.{canBeTallied, mostCalls}
+use Rattle.tally.proofs.ListLaws.{those-all}
 use Rattle.tally.proofs.TallyLaws.{tallied-length}
 use Rattle.depths.specs.Depths.{answersTo}
 use Rattle.depths.specs.Reports.{answersIn, TalliesFirst}
@@ -82,11 +83,6 @@ module _ (tb : List ℕ) where
   answers-length [] s = refl
   answers-length (r ∷ rs) s = ap suc (answers-length rs (outcomeOf tb s (r .request) .session))
 
--- where all can be tallied, none is passed over
-those-all : (answers : List Answer) → All (λ a. canBeTallied a ≡ true) answers → those canBeTallied answers ≡ answers
-those-all [] h = refl
-those-all (a ∷ answers) h = rw (h .0) (ap (λ (l : List Answer). a ∷ l) (those-all answers (h .1)))
-
 pub tallies-first : TalliesFirst
 unfolding answersIn
 tallies-first input t =
@@ -94,5 +90,5 @@ tallies-first input t =
     let rs = recordsIn (recordBytes input) in
     let answers = answersTo tb fresh rs in
     rw t (tallied-length answers
-    ∙ ap (λ (l : List Answer). min mostCalls (length l)) (those-all answers (answers-taken tb rs fresh (fresh-sound tb)))
+    ∙ ap (λ (l : List Answer). min mostCalls (length l)) (those-all canBeTallied answers (answers-taken tb rs fresh (fresh-sound tb)))
     ∙ ap (min mostCalls) (answers-length tb rs fresh))

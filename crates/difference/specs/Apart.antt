@@ -27,6 +27,7 @@ pub record FirstApart (tb : List ℕ) (s t : State ℕ) (d : Difference) : Type 
   pub second : answers (byRules tb) t (lookThenBacks (d .backs)) ≡ before ++ d .second ∷ []
   -- these differ
   pub differ : d .found ≡ true → d .first ≡ d .second → ⊥
-  -- or every screen is gone from both: "An empty session gives six zeros", but for the screen that the last Back closed
+  -- or every screen is gone from both: "An empty session gives six zeros" and its
+  -- edition, but for the screen that the last Back closed
   pub emptied : d .found ≡ false
       → (d .backs ≡ screensIn (s .tasks)) × ((withClosed 0 (d .first) ≡ lookAt fresh) × (withClosed 0 (d .second) ≡ lookAt fresh))

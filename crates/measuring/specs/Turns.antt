@@ -11,11 +11,8 @@ use Rattle.play.specs.Steps.{Playable}
 use Rattle.tally.specs.declared.Tally.{Tally}
 use Rattle.tally.specs.Tallies.{addedAll}
 use Rattle.depths.specs.Depths.{answersTo}
+use Rattle.reading.specs.Blocks.{mostRecords}
 use Rattle.measuring.specs.declared.Turned.{Turned}
-
--- a block has so many records at most
-abbrev pub mostRecords : ℕ
-mostRecords = 10000
 
 -- where the input goes on behind it, the block holds whole records (`WholeBlocks` in `play/specs/Blocks.antt`)
 pub record Turns (tb : List ℕ) (c : Session) (t : Tally) (r : Turned) : Type 0 where

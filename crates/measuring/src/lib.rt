@@ -6,14 +6,10 @@
 ghost use Rattle.play.specs.Steps.{Playable};
 ghost use Rattle.measuring.specs.Turns.{Turns};
 use libc::STDERR_FILENO;
+use reading::BLOCK;
 use session::Session;
 use table::Beginning;
 use tally::Tally;
-
-// A block is so many records, of 6 bytes each; none stands in two blocks.
-const RECORDS: usize = 10000;
-
-const BLOCK: usize = 6 * RECORDS;
 
 // What is left after a block: the session, the tally, how many records it has, whether reading failed, and whether the input
 // may go on.

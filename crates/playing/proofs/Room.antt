@@ -7,7 +7,7 @@ use lib.Dec.{leb}
 use borrow.Author.Tests.{leb-true}
 use Rattle.model.specs.Player.{longestLine}
 use Rattle.model.specs.Explained.{longestExplained}
-use Rattle.playing.specs.Turns.{mostRecords}
+use Rattle.reading.specs.Blocks.{mostRecords}
 
 -- n records; `long` is the buffer's length, which the code says is `room`
 module _ {n room long : ℕ} (few : n ≤ mostRecords) (e : room ≡ long) where

@@ -9,13 +9,10 @@ use Rattle.session.specs.declared.Session.{Session}
 use Rattle.session.specs.Stored.{view, hold}
 use Rattle.notes.specs.Places.{Tells}
 use Rattle.play.specs.Steps.{Playable}
+use Rattle.reading.specs.Blocks.{mostRecords}
 use Rattle.playing.specs.Restores.{restoresFrom}
 use Rattle.playing.specs.declared.Said.{Said}
 use Rattle.playing.specs.declared.Turned.{Turned}
-
--- a block has so many records at most
-abbrev pub mostRecords : ℕ
-mostRecords = 10000
 
 -- what saying a block leaves, in whatever manner
 pub record Says (tb : List ℕ) (c : Session) (block : List ℕ) (r : Said) : Type 0 where

@@ -11,16 +11,13 @@ ghost use Rattle.model.specs.Player.{recordsIn};
 ghost use Rattle.notes.specs.Places.{Tells};
 ghost use Rattle.play.specs.Steps.{Playable};
 ghost use Rattle.playing.specs.Restores.{restoresFrom, behind};
-ghost use Rattle.playing.specs.Turns.{mostRecords, Says, Turns};
+ghost use Rattle.reading.specs.Blocks.{mostRecords};
+ghost use Rattle.playing.specs.Turns.{Says, Turns};
 use libc::STDERR_FILENO;
 use notes::Notes;
+use reading::{BLOCK, RECORDS};
 use session::Session;
 use table::Beginning;
-
-// A block is so many records, of 6 bytes each; none stands in two blocks.
-const RECORDS: usize = 10000;
-
-const BLOCK: usize = 6 * RECORDS;
 
 // ---- kind 6, which is the restore of `same` and no record of the player
 

@@ -8,6 +8,11 @@ ghost use Rattle.model.specs.Table.{longestTable};
 use libc::STDOUT_FILENO;
 use table::Beginning;
 
+// A block is so many records, of 6 bytes each (`mostRecords` in `specs/Blocks`); none stands in two blocks.
+pub const RECORDS: usize = 10000;
+
+pub const BLOCK: usize = 6 * RECORDS;
+
 // What was read: how many bytes, and whether reading failed behind them.
 pub struct Read {
     pub count: usize,

@@ -8,6 +8,7 @@ ghost use Rattle.model.specs.Session.{mostHeight};
 ghost use Rattle.tally.specs.Tallied.{meanTenths, RoundsToNearest};
 ghost use Rattle.tally.specs.Tallies.{tallyOf, isTally, acceptedBy, withAnswer, takes, added, reported};
 ghost use Rattle.tally.specs.Tallies.{KnowsTallies, TalliesJoin, ReportsLists};
+use session::Session;
 
 // The numbers of a list of answers: the sum of the front heights after accepted calls, the accepted calls, the refused calls,
 // the greatest of those heights.
@@ -95,7 +96,7 @@ impl Tally {
     // The most calls that a tally holds, and the greatest height.
     const CALLS: u32 = 65535;
 
-    const HEIGHT: u8 = 32;
+    const HEIGHT: u8 = Session::SCREENS as u8;
 
     // The tally of no answers.
     pub fn none() -> Tally
@@ -109,7 +110,7 @@ impl Tally {
         }
     }
 
-    // Some list of answers gives this tally. Where nothing was accepted, the last two tests leave 0 alone.
+    // Some list of answers gives this tally. Where nothing was accepted, only 0 passes the last two tests.
     fn is_tally(self) -> bool
         ensures { λ r. ⌜ r ≡ isTally self ⌝ }
     {

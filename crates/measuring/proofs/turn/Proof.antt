@@ -9,7 +9,7 @@ use borrow.Author.Needs.{needs}
 use borrow.Author.Tests.{leb-true, eqb-true}
 use Rattle.model.specs.Player.{recordsIn}
 use Rattle.play.proofs.BlockLaws.{records-few}
-use Rattle.measuring.specs.Turns.{mostRecords}
+use Rattle.reading.specs.Blocks.{mostRecords}
 use Rattle.measuring.proofs.turn.Statement.{statement}
 use Rattle.measuring.proofs.turn.Tie as tie
 

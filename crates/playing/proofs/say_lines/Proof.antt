@@ -8,7 +8,7 @@ use borrow.Author.Needs.{needs}
 use Rattle.model.specs.Player.{Record, sessionAfter, longestLine}
 use Rattle.session.specs.Stored.{view, hold}
 use Rattle.play.proofs.BlockLaws.{fitting-all}
-use Rattle.playing.specs.Turns.{mostRecords}
+use Rattle.reading.specs.Blocks.{mostRecords}
 use Rattle.playing.proofs.Room.{lines-fit}
 use Rattle.playing.proofs.say_lines.Statement.{statement}
 use Rattle.playing.proofs.say_lines.Tie as tie

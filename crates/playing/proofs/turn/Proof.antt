@@ -10,7 +10,7 @@ use borrow.Author.Tests.{leb-true, eqb-true}
 use Rattle.model.specs.Player.{recordsIn}
 use Rattle.model.proofs.Logic.{and-right}
 use Rattle.play.proofs.BlockLaws.{records-few}
-use Rattle.playing.specs.Turns.{mostRecords}
+use Rattle.reading.specs.Blocks.{mostRecords}
 use Rattle.playing.proofs.Restoring.{met-few}
 use Rattle.playing.proofs.turn.Statement.{statement}
 use Rattle.playing.proofs.turn.Tie as tie
