@@ -10,7 +10,6 @@
 //! how often tallies of each sort came up, and exits with 1 if one never did.
 
 mod check;
-
 mod library;
 mod made;
 mod sorts;
