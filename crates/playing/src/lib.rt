@@ -15,7 +15,8 @@ ghost use Rattle.reading.specs.Blocks.{mostRecords};
 ghost use Rattle.playing.specs.Turns.{Says, Turns};
 use libc::STDERR_FILENO;
 use notes::Notes;
-use reading::{BLOCK, RECORDS};
+use reading::BLOCK;
+use reading::RECORDS;
 use session::Session;
 use table::Beginning;
 
