@@ -3,6 +3,7 @@
 #include <stdio.h>
 #include <string.h>
 
+#include "expect.h"
 #include "milchkompass.h"
 
 #if defined LAUNCH_MULTIPLE || defined LAUNCH_SINGLE_TOP || defined LAUNCH_SINGLE_TASK || \
@@ -44,16 +45,6 @@ static const uint8_t table_t[] = {6, 0, LAUNCH_MULTIPLE, 1, LAUNCH_MULTIPLE, 1, 
 /* P10: 3:[3] 0:[1,0], m 2, and its image. */
 static const session p10 = {{{3, 1, {3}}, {0, 2, {0, 1}}}, 2, 2, E8};
 static const uint8_t p10_image[] = {3, 1, 3, 0, 2, 1, 0, 0, 7, 2, 2, 8, 0x42};
-
-static int checks, failures;
-
-static void expect(bool holds, const char *what) {
-    checks++;
-    if (!holds) {
-        failures++;
-        printf("wrong: %s\n", what);
-    }
-}
 
 static bool same(session s, session t) {
     return memcmp(&s, &t, sizeof s) == 0;

@@ -2,6 +2,7 @@
 #include <stdbool.h>
 #include <stdio.h>
 
+#include "expect.h"
 #include "milchkompass.h"
 
 typedef milchkompass_tally tally;
@@ -9,16 +10,6 @@ typedef milchkompass_report report;
 
 /* The limits as numbers of their own: 65,535 answers, and heights up to 32. */
 enum { MOST = 65535, HIGHEST = 32 };
-
-static int checks, failures;
-
-static void expect(bool holds, const char *what) {
-    checks++;
-    if (!holds) {
-        failures++;
-        printf("wrong: %s\n", what);
-    }
-}
 
 /* Field by field: a tally has bytes that are no number. */
 static bool same(tally a, tally b) {
