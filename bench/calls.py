@@ -21,7 +21,7 @@ CALLS = ["start", "finishing start", "Back", "look", "save", "restore"]
 SIZES = ["small", "typical", "full"]
 RUNS = 9
 LINE = re.compile(r"(.{15}) (\S+) +(\d+) +\(\d+\) +(\d+) +\(\d+\) +\S+(?: +(\d+))?")
-COPY = re.compile(r"copying a session of 547 bytes: (\S+)")
+COPY = re.compile(r"copying a session of 548 bytes: (\S+)")
 
 
 def build():
@@ -70,7 +70,7 @@ def main():
         told = [f"{statistics.median(t):.0f} ({min(t)} to {max(t)})" if t else "" for t in times]
         ratio = statistics.median(times[0]) / statistics.median(times[1])
         print(f"{call:<15} {size:<8} {told[0]:>16} {told[1]:>16} {ratio:>6.2f} {told[2]:>16}".rstrip(), flush=True)
-    print(f"copying a session of 547 bytes: {statistics.median(copies):.1f}")
+    print(f"copying a session of 548 bytes: {statistics.median(copies):.1f}")
     print(f"instructions a call, of {count} calls")
     print("call            size         lent   second  ratio  memcpy, lent")
     for call in CALLS:

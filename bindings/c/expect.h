@@ -1,4 +1,4 @@
-/* What both tests count: checks, and those that fail. */
+/* What each test counts: checks, and those that fail. */
 #include <stdbool.h>
 #include <stdio.h>
 

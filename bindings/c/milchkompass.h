@@ -29,7 +29,7 @@ extern "C" {
 #endif
 
 /* The number of this interface, which is raised with each change of a struct or of a signature. */
-#define MILCHKOMPASS_ABI 3
+#define MILCHKOMPASS_ABI 4
 
 /* The library's own number. Where it is not MILCHKOMPASS_ABI, header and library do not fit: make no other call. */
 uint32_t milchkompass_abi(void);
@@ -54,13 +54,17 @@ enum milchkompass_edition {
 #define MILCHKOMPASS_LAUNCH_SINGLE_TASK 2
 #define MILCHKOMPASS_LAUNCH_SINGLE_INSTANCE 3
 
-/* The six flags of a start, under the names and numbers of Android's Intent. Any of them may be set together. */
+/* The seven flags of a start, under the names and numbers of Android's Intent. Any of them may be set together. */
 #define MILCHKOMPASS_FLAG_ACTIVITY_NEW_TASK UINT32_C(0x10000000)
 #define MILCHKOMPASS_FLAG_ACTIVITY_SINGLE_TOP UINT32_C(0x20000000)
 #define MILCHKOMPASS_FLAG_ACTIVITY_MULTIPLE_TASK UINT32_C(0x08000000)
 #define MILCHKOMPASS_FLAG_ACTIVITY_CLEAR_TOP UINT32_C(0x04000000)
 #define MILCHKOMPASS_FLAG_ACTIVITY_REORDER_TO_FRONT UINT32_C(0x00020000)
 #define MILCHKOMPASS_FLAG_ACTIVITY_CLEAR_TASK UINT32_C(0x00008000)
+#define MILCHKOMPASS_FLAG_ACTIVITY_NO_HISTORY UINT32_C(0x40000000)
+
+/* All seven together. A flag word with any other bit is refused with 4. */
+#define MILCHKOMPASS_FLAGS UINT32_C(0x7c028000)
 
 /* The refusals; milchkompass_refusal_text says what each means. 9 is the player's alone, and 31 a tally's. */
 enum milchkompass_refusal {
@@ -89,7 +93,7 @@ static inline const char *milchkompass_refusal_text(uint8_t refusal) {
     case MILCHKOMPASS_TABLE_LENGTH: return "table length wrong, or N not 1 to 64";
     case MILCHKOMPASS_TABLE_CONTENT: return "main screen not below N, or a mode above 3";
     case MILCHKOMPASS_NO_SUCH_SCREEN: return "start: B not below N";
-    case MILCHKOMPASS_OTHER_FLAG: return "start: a bit outside the six";
+    case MILCHKOMPASS_OTHER_FLAG: return "start: a bit outside the seven";
     case MILCHKOMPASS_IMAGE_TRAILER: return "restore: under 6 bytes, last two bytes not hex 06 42, 07 42 or 08 42, or length not L + 6";
     case MILCHKOMPASS_IMAGE_TASKS: return "restore: n above 16, or the L bytes are not exactly n tasks of height 1 to 32";
     case MILCHKOMPASS_IMAGE_UNSOUND: return "restore: the session read from the image is not sound under the table";
@@ -112,23 +116,26 @@ typedef struct milchkompass_task {
     uint8_t screens[MILCHKOMPASS_SCREENS];
 } milchkompass_task;
 
-/* A session: n tasks, front first, then zeros; the place (from 1) of the task made by launch, 0 if it is gone; and the
- * edition whose rules it follows, 8 where it is empty. */
+/* A session: n tasks, front first, then zeros; the place (from 1) of the task made by launch, 0 if it is gone; the
+ * edition whose rules it follows, 8 where it is empty; and the No-History mark: 1 where the front screen was pushed or
+ * made new by a start with that flag, else 0. With another number there, or with the mark and no task, it is not
+ * sound. */
 typedef struct milchkompass_session {
     milchkompass_task tasks[MILCHKOMPASS_TASKS];
     uint8_t n;
     uint8_t main;
     uint8_t edition;
+    uint8_t no_history;
 } milchkompass_session;
 
 /* A fresh session: no task, edition 8, and every other byte is 0. Zeros alone are no session, since 0 is no edition
  * there: under a good table every call on them is refused with 20. */
-#define MILCHKOMPASS_SESSION_FRESH {{{0, 0, {0}}}, 0, 0, MILCHKOMPASS_EDITION_8}
+#define MILCHKOMPASS_SESSION_FRESH {{{0, 0, {0}}}, 0, 0, MILCHKOMPASS_EDITION_8, 0}
 
 /* An answer: the refusal (0 if none), after the call the front screen, the root and the height of the front task, the
  * number of tasks and the main place, all 0 where the session is empty; how many screens the call closed, which is 0
- * for launch, look and restore; and the session's edition after the call, which is 8 where it is empty. A refused call
- * has seven zeros behind its refusal. */
+ * for launch, look and restore; and after the call the session's edition, which is 8 where it is empty, and its
+ * No-History mark. A refused call has eight zeros behind its refusal. */
 typedef struct milchkompass_answer {
     uint8_t refusal;
     uint8_t screen;
@@ -138,6 +145,7 @@ typedef struct milchkompass_answer {
     uint8_t main;
     uint8_t closed;
     uint8_t edition;
+    uint8_t no_history;
 } milchkompass_answer;
 
 /* What a save gives: the refusal (0 if none), and the length of the image (0 if refused). */
@@ -195,12 +203,13 @@ milchkompass_answer milchkompass_launch(const uint8_t *table, size_t table_lengt
                                         uint8_t edition);
 
 /* Start of screen b with a flag word. After it the session is what the first of the rules R1 to R18 that fits, in its
- * edition, makes of it. Its own checks: 3, 4, 21, then 23 or 24. */
+ * edition, makes of it. With the No-History mark it is done as a finishing start, save where R7 fits: there nothing
+ * changes, the mark included. Its own checks: 3, 4, 21, then 23 or 24. */
 milchkompass_answer milchkompass_start(const uint8_t *table, size_t table_length, milchkompass_session *s, uint8_t b,
                                        uint32_t word);
 
-/* Finishing start. After it the session is what a start makes of it, without the screen that was in front before the
- * call, if that still stands. Its own checks: those of a start, made before the removal. */
+/* Finishing start. After it the session is what the first rule that fits makes of it, without the screen that was in
+ * front before the call, if that still stands. Its own checks: those of a start, made before the removal. */
 milchkompass_answer milchkompass_finish_start(const uint8_t *table, size_t table_length, milchkompass_session *s,
                                               uint8_t b, uint32_t word);
 
@@ -209,8 +218,8 @@ milchkompass_answer milchkompass_finish_start(const uint8_t *table, size_t table
 milchkompass_reason milchkompass_why(const uint8_t *table, size_t table_length, milchkompass_session s, uint8_t b,
                                      uint32_t word);
 
-/* Back. After it the front screen is gone, and its task too if that was its last. A session left empty has edition 8.
- * Its own check: 21. */
+/* Back. After it the front screen is gone, and its task too if that was its last; the No-History mark is 0. A session
+ * left empty has edition 8. Its own check: 21. */
 milchkompass_answer milchkompass_back(const uint8_t *table, size_t table_length, milchkompass_session *s);
 
 /* Look. The session stays, though it is written; the answer is what it shows. No check of its own. */
@@ -221,8 +230,8 @@ milchkompass_answer milchkompass_look(const uint8_t *table, size_t table_length,
 milchkompass_save_reply milchkompass_save(const uint8_t *table, size_t table_length, milchkompass_session s,
                                           uint8_t *out, size_t out_length);
 
-/* Restore of a whole image. After it the session, with its edition, is the one whose image it is, and the answer is
- * that of a look at it. Its own checks: 5, 6, 7. */
+/* Restore of a whole image. After it the session, with its edition and its No-History mark, is the one whose image it
+ * is, and the answer is that of a look at it. Its own checks: 5, 6, 7. */
 milchkompass_answer milchkompass_restore(const uint8_t *table, size_t table_length, milchkompass_session *s,
                                          const uint8_t *image, size_t image_length);
 
@@ -252,4 +261,5 @@ milchkompass_report milchkompass_tally_report(milchkompass_tally t);
 #define FLAG_ACTIVITY_CLEAR_TOP MILCHKOMPASS_FLAG_ACTIVITY_CLEAR_TOP
 #define FLAG_ACTIVITY_REORDER_TO_FRONT MILCHKOMPASS_FLAG_ACTIVITY_REORDER_TO_FRONT
 #define FLAG_ACTIVITY_CLEAR_TASK MILCHKOMPASS_FLAG_ACTIVITY_CLEAR_TASK
+#define FLAG_ACTIVITY_NO_HISTORY MILCHKOMPASS_FLAG_ACTIVITY_NO_HISTORY
 #endif

@@ -3,77 +3,21 @@
 #include <stdio.h>
 #include <string.h>
 
-#include "expect.h"
 #include "milchkompass.h"
 
 #if defined LAUNCH_MULTIPLE || defined LAUNCH_SINGLE_TOP || defined LAUNCH_SINGLE_TASK || \
     defined LAUNCH_SINGLE_INSTANCE || defined FLAG_ACTIVITY_NEW_TASK || defined FLAG_ACTIVITY_SINGLE_TOP || \
     defined FLAG_ACTIVITY_MULTIPLE_TASK || defined FLAG_ACTIVITY_CLEAR_TOP || \
-    defined FLAG_ACTIVITY_REORDER_TO_FRONT || defined FLAG_ACTIVITY_CLEAR_TASK
+    defined FLAG_ACTIVITY_REORDER_TO_FRONT || defined FLAG_ACTIVITY_CLEAR_TASK || defined FLAG_ACTIVITY_NO_HISTORY
 #error "Android's names without the prefix, which nobody asked for"
 #endif
-#define MILCHKOMPASS_ANDROID_NAMES
-#include "milchkompass.h"
+#include "calls.h"
 
 /* The current number's row of bindings/abi: sizes, places, and each function declared once more, alike. */
 #define SIZE(type, size) _Static_assert(sizeof(type) == (size), #type)
 #define FIELD(type, field, offset, size)                                                                               \
     _Static_assert(offsetof(type, field) == (offset) && sizeof(((type *)0)->field) == (size), #type "." #field)
 #include "abi_row.h"
-
-/* The six flags by document 01's short names. */
-#define NTK FLAG_ACTIVITY_NEW_TASK
-#define STP FLAG_ACTIVITY_SINGLE_TOP
-#define MTK FLAG_ACTIVITY_MULTIPLE_TASK
-#define CTP FLAG_ACTIVITY_CLEAR_TOP
-#define RTF FLAG_ACTIVITY_REORDER_TO_FRONT
-#define CTK FLAG_ACTIVITY_CLEAR_TASK
-
-/* The editions. */
-#define E6 MILCHKOMPASS_EDITION_6
-#define E7 MILCHKOMPASS_EDITION_7
-#define E8 MILCHKOMPASS_EDITION_8
-
-typedef milchkompass_session session;
-typedef milchkompass_answer answer;
-
-/* Table T of document 01, and the same with its length. */
-static const uint8_t table_t[] = {6, 0, LAUNCH_MULTIPLE, 1, LAUNCH_MULTIPLE, 1, LAUNCH_SINGLE_TOP, 1,
-                                  LAUNCH_SINGLE_TASK, 2, LAUNCH_SINGLE_INSTANCE, 1, LAUNCH_MULTIPLE, 2};
-#define T table_t, sizeof table_t
-
-/* P10: 3:[3] 0:[1,0], m 2, and its image. */
-static const session p10 = {{{3, 1, {3}}, {0, 2, {0, 1}}}, 2, 2, E8};
-static const uint8_t p10_image[] = {3, 1, 3, 0, 2, 1, 0, 0, 7, 2, 2, 8, 0x42};
-
-static bool same(session s, session t) {
-    return memcmp(&s, &t, sizeof s) == 0;
-}
-
-/* The call answers these eight numbers. */
-#define ANSWERS(call, ...)                                                                                             \
-    do {                                                                                                               \
-        answer got = call, wanted = {__VA_ARGS__};                                                                     \
-        expect(memcmp(&got, &wanted, sizeof got) == 0, #call);                                                         \
-    } while (0)
-
-/* The call on a copy `s` of the session answers this refusal, and the copy keeps its bytes. */
-#define REFUSED(number, before, call)                                                                                  \
-    do {                                                                                                               \
-        session s = before;                                                                                            \
-        ANSWERS(call, number, 0, 0, 0, 0, 0, 0, 0);                                                                    \
-        expect(same(s, before), #call ": the session");                                                                \
-    } while (0)
-
-/* The save answers this refusal, and the buffer keeps its bytes. */
-static void save_refused(uint8_t number, const uint8_t *table, size_t length, session s, size_t room) {
-    uint8_t out[MILCHKOMPASS_IMAGE_MAX], before[sizeof out];
-    memset(out, 0xee, sizeof out);
-    memcpy(before, out, sizeof out);
-    milchkompass_save_reply reply = milchkompass_save(table, length, s, out, room);
-    expect(reply.refusal == number && reply.length == 0, "a refused save");
-    expect(memcmp(out, before, sizeof out) == 0, "a refused save: the buffer");
-}
 
 /* Header and library have the same number. */
 static void number(void) {
@@ -100,46 +44,37 @@ static void example(uint8_t named, uint8_t edition) {
     session s = MILCHKOMPASS_SESSION_FRESH, second = p10;
     const session fresh = s;
     second.edition = edition;
-    ANSWERS(milchkompass_look(T, &s), 0, 0, 0, 0, 0, 0, 0, 8);
-    ANSWERS(milchkompass_launch(T, &s, named), 0, 0, 0, 1, 1, 1, 0, edition);
-    ANSWERS(milchkompass_start(T, &s, 1, 0), 0, 1, 0, 2, 1, 1, 0, edition);
-    ANSWERS(milchkompass_start(T, &s, 3, 0), 0, 3, 3, 1, 2, 2, 0, edition);
+    ANSWERS(milchkompass_look(T, &s), 0, 0, 0, 0, 0, 0, 0, 8, 0);
+    ANSWERS(milchkompass_launch(T, &s, named), 0, 0, 0, 1, 1, 1, 0, edition, 0);
+    ANSWERS(milchkompass_start(T, &s, 1, 0), 0, 1, 0, 2, 1, 1, 0, edition, 0);
+    ANSWERS(milchkompass_start(T, &s, 3, 0), 0, 3, 3, 1, 2, 2, 0, edition, 0);
     expect(same(s, second), "the session of P10");
-    ANSWERS(milchkompass_look(T, &s), 0, 3, 3, 1, 2, 2, 0, edition);
+    ANSWERS(milchkompass_look(T, &s), 0, 3, 3, 1, 2, 2, 0, edition, 0);
     expect(same(s, second), "a look changes nothing");
-    ANSWERS(milchkompass_finish_start(T, &s, 0, NTK), 0, 0, 0, 3, 1, 1, 1, edition);
-    ANSWERS(milchkompass_back(T, &s), 0, 1, 0, 2, 1, 1, 1, edition);
-    ANSWERS(milchkompass_back(T, &s), 0, 0, 0, 1, 1, 1, 1, edition);
-    ANSWERS(milchkompass_back(T, &s), 0, 0, 0, 0, 0, 0, 1, 8);
-    ANSWERS(milchkompass_back(T, &s), 21, 0, 0, 0, 0, 0, 0, 0);
+    ANSWERS(milchkompass_finish_start(T, &s, 0, NTK), 0, 0, 0, 3, 1, 1, 1, edition, 0);
+    ANSWERS(milchkompass_back(T, &s), 0, 1, 0, 2, 1, 1, 1, edition, 0);
+    ANSWERS(milchkompass_back(T, &s), 0, 0, 0, 1, 1, 1, 1, edition, 0);
+    ANSWERS(milchkompass_back(T, &s), 0, 0, 0, 0, 0, 0, 1, 8, 0);
+    ANSWERS(milchkompass_back(T, &s), 21, 0, 0, 0, 0, 0, 0, 0, 0);
     expect(same(s, fresh), "the end of the example is a fresh session");
 }
 
-/* One of the stacks P1 to P9: a start, or a finishing one. */
-typedef struct stack {
-    const char *name;
-    session before;
-    bool finishing;
-    uint8_t b;
-    uint32_t word;
-    session after;
-    uint8_t closed;
-} stack;
-
-/* Screens stand bottom first. */
+/* The stacks P1 to P9. */
 static const stack stacks[] = {
-    {"P1", {{{0, 3, {0, 1, 2}}}, 1, 1, E8}, false, 1, RTF, {{{0, 3, {0, 2, 1}}}, 1, 1, E8}, 0},
-    {"P2", {{{0, 3, {0, 1, 2}}}, 1, 1, E8}, false, 1, CTP, {{{0, 2, {0, 1}}}, 1, 1, E8}, 1},
-    {"P2, both", {{{0, 3, {0, 1, 2}}}, 1, 1, E8}, false, 1, CTP | RTF, {{{0, 2, {0, 1}}}, 1, 1, E8}, 1},
-    {"P3", {{{0, 3, {0, 1, 2}}}, 1, 1, E8}, false, 2, 0, {{{0, 3, {0, 1, 2}}}, 1, 1, E8}, 0},
-    {"P4", {{{4, 1, {4}}, {3, 1, {3}}, {0, 2, {0, 1}}}, 3, 3, E8}, false, 1, 0,
-           {{{0, 3, {0, 1, 1}}, {4, 1, {4}}, {3, 1, {3}}}, 3, 1, E8}, 0},
-    {"P5", {{{4, 1, {4}}, {3, 1, {3}}, {0, 2, {0, 1}}}, 3, 3, E8}, false, 1, STP,
-           {{{0, 2, {0, 1}}, {4, 1, {4}}, {3, 1, {3}}}, 3, 1, E8}, 0},
-    {"P6", {{{5, 2, {5, 1}}, {0, 1, {0}}}, 2, 2, E8}, false, 5, NTK, {{{5, 2, {5, 1}}, {0, 1, {0}}}, 2, 2, E8}, 0},
-    {"P7", {{{3, 1, {3}}, {0, 1, {0}}}, 2, 2, E8}, false, 3, NTK | MTK, {{{3, 1, {3}}, {0, 1, {0}}}, 2, 2, E8}, 0},
-    {"P8", {{{0, 1, {0}}}, 1, 1, E8}, true, 0, NTK | CTK, {{{0, 1, {0}}}, 1, 1, E8}, 1},
-    {"P9", {{{0, 1, {0}}}, 1, 1, E8}, true, 0, NTK | STP, {{{0}}, 0, 0, E8}, 1},
+    {"P1", {{{0, 3, {0, 1, 2}}}, 1, 1, E8, 0}, false, 1, RTF, {{{0, 3, {0, 2, 1}}}, 1, 1, E8, 0}, 0},
+    {"P2", {{{0, 3, {0, 1, 2}}}, 1, 1, E8, 0}, false, 1, CTP, {{{0, 2, {0, 1}}}, 1, 1, E8, 0}, 1},
+    {"P2, both", {{{0, 3, {0, 1, 2}}}, 1, 1, E8, 0}, false, 1, CTP | RTF, {{{0, 2, {0, 1}}}, 1, 1, E8, 0}, 1},
+    {"P3", {{{0, 3, {0, 1, 2}}}, 1, 1, E8, 0}, false, 2, 0, {{{0, 3, {0, 1, 2}}}, 1, 1, E8, 0}, 0},
+    {"P4", {{{4, 1, {4}}, {3, 1, {3}}, {0, 2, {0, 1}}}, 3, 3, E8, 0}, false, 1, 0,
+           {{{0, 3, {0, 1, 1}}, {4, 1, {4}}, {3, 1, {3}}}, 3, 1, E8, 0}, 0},
+    {"P5", {{{4, 1, {4}}, {3, 1, {3}}, {0, 2, {0, 1}}}, 3, 3, E8, 0}, false, 1, STP,
+           {{{0, 2, {0, 1}}, {4, 1, {4}}, {3, 1, {3}}}, 3, 1, E8, 0}, 0},
+    {"P6", {{{5, 2, {5, 1}}, {0, 1, {0}}}, 2, 2, E8, 0}, false, 5, NTK,
+           {{{5, 2, {5, 1}}, {0, 1, {0}}}, 2, 2, E8, 0}, 0},
+    {"P7", {{{3, 1, {3}}, {0, 1, {0}}}, 2, 2, E8, 0}, false, 3, NTK | MTK,
+           {{{3, 1, {3}}, {0, 1, {0}}}, 2, 2, E8, 0}, 0},
+    {"P8", {{{0, 1, {0}}}, 1, 1, E8, 0}, true, 0, NTK | CTK, {{{0, 1, {0}}}, 1, 1, E8, 0}, 1},
+    {"P9", {{{0, 1, {0}}}, 1, 1, E8, 0}, true, 0, NTK | STP, {{{0}}, 0, 0, E8, 0}, 1},
 };
 
 /* Which rule moves each of them, where its task was found, and how. */
@@ -154,19 +89,19 @@ _Static_assert(sizeof told / sizeof *told == sizeof stacks / sizeof *stacks, "a 
 
 /* What editions 6 and 7 do otherwise, and what they do alike. */
 static const stack other_stacks[] = {
-    {"7, R9, main task", {{{0, 3, {0, 1, 2}}}, 1, 1, E7}, false, 1, RTF, {{{0, 1, {1}}}, 1, 1, E7}, 3},
-    {"7, R9, finishing", {{{0, 3, {0, 1, 2}}}, 1, 1, E7}, true, 1, RTF, {{{0, 1, {1}}}, 1, 1, E7}, 3},
-    {"7, R9, no main task", {{{0, 3, {0, 1, 2}}}, 1, 0, E7}, false, 1, RTF, {{{0, 3, {0, 2, 1}}}, 1, 0, E7}, 0},
-    {"7, R9, other task", {{{5, 2, {5, 1}}, {0, 1, {0}}}, 2, 2, E7}, false, 5, RTF,
-                          {{{5, 2, {1, 5}}, {0, 1, {0}}}, 2, 2, E7}, 0},
-    {"7, R7", {{{0, 3, {0, 1, 2}}}, 1, 1, E7}, false, 2, RTF, {{{0, 3, {0, 1, 2}}}, 1, 1, E7}, 0},
-    {"6, R9", {{{0, 3, {0, 1, 2}}}, 1, 1, E6}, false, 1, RTF, {{{0, 3, {0, 2, 1}}}, 1, 1, E6}, 0},
-    {"6, P6", {{{5, 2, {5, 1}}, {0, 1, {0}}}, 2, 2, E6}, false, 5, NTK,
-              {{{5, 3, {5, 1, 5}}, {0, 1, {0}}}, 2, 2, E6}, 0},
-    {"6, single-task", {{{5, 1, {5}}, {0, 1, {0}}, {3, 1, {5}}}, 3, 2, E6}, false, 3, 0,
-                       {{{5, 2, {5, 3}}, {0, 1, {0}}, {3, 1, {5}}}, 3, 2, E6}, 0},
-    {"6, R1", {{{0, 1, {0}}, {4, 1, {4}}}, 2, 1, E6}, false, 4, 0, {{{4, 1, {4}}, {0, 1, {0}}}, 2, 2, E6}, 0},
-    {"6, P9", {{{0, 1, {0}}}, 1, 1, E6}, true, 0, NTK | STP, {{{0}}, 0, 0, E8}, 1},
+    {"7, R9, main task", {{{0, 3, {0, 1, 2}}}, 1, 1, E7, 0}, false, 1, RTF, {{{0, 1, {1}}}, 1, 1, E7, 0}, 3},
+    {"7, R9, finishing", {{{0, 3, {0, 1, 2}}}, 1, 1, E7, 0}, true, 1, RTF, {{{0, 1, {1}}}, 1, 1, E7, 0}, 3},
+    {"7, R9, no main task", {{{0, 3, {0, 1, 2}}}, 1, 0, E7, 0}, false, 1, RTF, {{{0, 3, {0, 2, 1}}}, 1, 0, E7, 0}, 0},
+    {"7, R9, other task", {{{5, 2, {5, 1}}, {0, 1, {0}}}, 2, 2, E7, 0}, false, 5, RTF,
+                          {{{5, 2, {1, 5}}, {0, 1, {0}}}, 2, 2, E7, 0}, 0},
+    {"7, R7", {{{0, 3, {0, 1, 2}}}, 1, 1, E7, 0}, false, 2, RTF, {{{0, 3, {0, 1, 2}}}, 1, 1, E7, 0}, 0},
+    {"6, R9", {{{0, 3, {0, 1, 2}}}, 1, 1, E6, 0}, false, 1, RTF, {{{0, 3, {0, 2, 1}}}, 1, 1, E6, 0}, 0},
+    {"6, P6", {{{5, 2, {5, 1}}, {0, 1, {0}}}, 2, 2, E6, 0}, false, 5, NTK,
+              {{{5, 3, {5, 1, 5}}, {0, 1, {0}}}, 2, 2, E6, 0}, 0},
+    {"6, single-task", {{{5, 1, {5}}, {0, 1, {0}}, {3, 1, {5}}}, 3, 2, E6, 0}, false, 3, 0,
+                       {{{5, 2, {5, 3}}, {0, 1, {0}}, {3, 1, {5}}}, 3, 2, E6, 0}, 0},
+    {"6, R1", {{{0, 1, {0}}, {4, 1, {4}}}, 2, 1, E6, 0}, false, 4, 0, {{{4, 1, {4}}, {0, 1, {0}}}, 2, 2, E6, 0}, 0},
+    {"6, P9", {{{0, 1, {0}}}, 1, 1, E6, 0}, true, 0, NTK | STP, {{{0}}, 0, 0, E8, 0}, 1},
 };
 
 static const milchkompass_reason other_told[] = {
@@ -178,19 +113,6 @@ static const milchkompass_reason other_told[] = {
 };
 _Static_assert(sizeof other_told / sizeof *other_told == sizeof other_stacks / sizeof *other_stacks, "the same");
 
-/* Of each stack what is told, and then the start. */
-static void play_stacks(const stack *p, const milchkompass_reason *wanted, size_t count) {
-    for (; count > 0; count--, p++, wanted++) {
-        session s = p->before;
-        milchkompass_reason got = milchkompass_why(T, s, p->b, p->word);
-        expect(memcmp(&got, wanted, sizeof got) == 0, p->name);
-        answer a = p->finishing ? milchkompass_finish_start(T, &s, p->b, p->word)
-                                : milchkompass_start(T, &s, p->b, p->word);
-        expect(a.refusal == MILCHKOMPASS_ACCEPTED && same(s, p->after), p->name);
-        expect(a.closed == p->closed && a.edition == p->after.edition, p->name);
-    }
-}
-
 /* The reason of a start of b is these four numbers. */
 #define REASON(table, before, b, word, ...)                                                                            \
     do {                                                                                                               \
@@ -200,7 +122,7 @@ static void play_stacks(const stack *p, const milchkompass_reason *wanted, size_
 
 /* Why a start is refused. */
 static void refused_reasons(void) {
-    const session fresh = MILCHKOMPASS_SESSION_FRESH, unsound = {{{0}}, 0, 1, E8};
+    const session fresh = MILCHKOMPASS_SESSION_FRESH, unsound = {{{0}}, 0, 1, E8, 0};
     const uint8_t bad_mode[] = {1, 0, 4, 0};
     milchkompass_reason cut = milchkompass_why(table_t, sizeof table_t - 1, unsound, 255, 1);
     expect(cut.refusal == MILCHKOMPASS_TABLE_LENGTH && cut.rule + cut.place + cut.found == 0, "why, table cut");
@@ -214,15 +136,15 @@ static void refused_reasons(void) {
 /* Screens without affinity in edition 6: a single-task one is sought by root, another is not sought at all. */
 static void without_affinity(void) {
     const uint8_t table[] = {3, 0, LAUNCH_MULTIPLE, 1, LAUNCH_SINGLE_TASK, 0, LAUNCH_MULTIPLE, 0};
-    session s = {{{0, 1, {0}}, {1, 1, {1}}}, 2, 1, E6};
+    session s = {{{0, 1, {0}}, {1, 1, {1}}}, 2, 1, E6, 0};
     REASON(table, s, 1, 0, 0, 4, 2, MILCHKOMPASS_FOUND_BY_ROOT);
-    ANSWERS(milchkompass_start(table, sizeof table, &s, 1, 0), 0, 1, 1, 1, 2, 2, 0, 6);
-    s = (session){{{2, 1, {2}}, {0, 1, {0}}}, 2, 2, E6};
+    ANSWERS(milchkompass_start(table, sizeof table, &s, 1, 0), 0, 1, 1, 1, 2, 2, 0, 6, 0);
+    s = (session){{{2, 1, {2}}, {0, 1, {0}}}, 2, 2, E6, 0};
     REASON(table, s, 2, NTK, 0, 18, 0, MILCHKOMPASS_FOUND_NONE);
-    ANSWERS(milchkompass_start(table, sizeof table, &s, 2, NTK), 0, 2, 2, 1, 3, 3, 0, 6);
-    s = (session){{{2, 1, {2}}, {0, 1, {0}}}, 2, 2, E8};
+    ANSWERS(milchkompass_start(table, sizeof table, &s, 2, NTK), 0, 2, 2, 1, 3, 3, 0, 6, 0);
+    s = (session){{{2, 1, {2}}, {0, 1, {0}}}, 2, 2, E8, 0};
     REASON(table, s, 2, NTK, 0, 15, 1, MILCHKOMPASS_FOUND_BY_ROOT);
-    ANSWERS(milchkompass_start(table, sizeof table, &s, 2, NTK), 0, 2, 2, 1, 2, 2, 0, 8);
+    ANSWERS(milchkompass_start(table, sizeof table, &s, 2, NTK), 0, 2, 2, 1, 2, 2, 0, 8, 0);
 }
 
 /* P10's image, there and back, byte for byte. */
@@ -234,7 +156,7 @@ static void save_and_restore(void) {
     expect(memcmp(out, p10_image, sizeof p10_image) == 0, "the image of P10");
     expect(out[sizeof p10_image] == 0xee, "the rest of the buffer");
     session s = MILCHKOMPASS_SESSION_FRESH;
-    ANSWERS(milchkompass_restore(T, &s, out, reply.length), 0, 3, 3, 1, 2, 2, 0, 8);
+    ANSWERS(milchkompass_restore(T, &s, out, reply.length), 0, 3, 3, 1, 2, 2, 0, 8, 0);
     expect(same(s, p10), "restore of P10");
 }
 
@@ -251,12 +173,12 @@ static void editions_of_images(void) {
             REFUSED(MILCHKOMPASS_IMAGE_TRAILER, p10, milchkompass_restore(T, &s, empty, sizeof empty));
             continue;
         }
-        ANSWERS(milchkompass_restore(T, &s, image, sizeof image), 0, 3, 3, 1, 2, 2, 0, edition);
+        ANSWERS(milchkompass_restore(T, &s, image, sizeof image), 0, 3, 3, 1, 2, 2, 0, edition, 0);
         expect(same(s, second), "restore of P10 in an edition");
         milchkompass_save_reply reply = milchkompass_save(T, s, out, sizeof out);
         expect(reply.length == sizeof out && memcmp(out, image, sizeof out) == 0, "the image of P10 in an edition");
         if (edition == E8) {
-            ANSWERS(milchkompass_restore(T, &s, empty, sizeof empty), 0, 0, 0, 0, 0, 0, 0, 8);
+            ANSWERS(milchkompass_restore(T, &s, empty, sizeof empty), 0, 0, 0, 0, 0, 0, 0, 8, 0);
             expect(same(s, fresh), "restore of a fresh session");
         } else {
             REFUSED(MILCHKOMPASS_IMAGE_UNSOUND, p10, milchkompass_restore(T, &s, empty, sizeof empty));
@@ -264,21 +186,10 @@ static void editions_of_images(void) {
     }
 }
 
-/* Every call is refused by this number, whatever else it is given. */
-static void all_refused(uint8_t number, const uint8_t *table, size_t length, session before) {
-    REFUSED(number, before, milchkompass_launch(table, length, &s, 5));
-    REFUSED(number, before, milchkompass_start(table, length, &s, 255, 1));
-    REFUSED(number, before, milchkompass_finish_start(table, length, &s, 255, 1));
-    REFUSED(number, before, milchkompass_back(table, length, &s));
-    REFUSED(number, before, milchkompass_look(table, length, &s));
-    REFUSED(number, before, milchkompass_restore(table, length, &s, p10_image, 5));
-    save_refused(number, table, length, before, 0);
-}
-
 /* Refusals 1, 2 and 20. */
 static void shared_refusals(void) {
     const uint8_t no_main[] = {1, 1, LAUNCH_MULTIPLE, 0}, bad_mode[] = {1, 0, 4, 0};
-    const session unsound = {{{0}}, 0, 1, E8};
+    const session unsound = {{{0}}, 0, 1, E8, 0};
     all_refused(MILCHKOMPASS_TABLE_LENGTH, table_t, sizeof table_t - 1, unsound);
     all_refused(MILCHKOMPASS_TABLE_CONTENT, no_main, sizeof no_main, unsound);
     all_refused(MILCHKOMPASS_TABLE_CONTENT, bad_mode, sizeof bad_mode, unsound);
@@ -332,21 +243,21 @@ static void full(void) {
     session s = MILCHKOMPASS_SESSION_FRESH;
     milchkompass_launch(T, &s, E8);
     for (int i = 2; i <= MILCHKOMPASS_TASKS; i++)
-        ANSWERS(milchkompass_start(T, &s, 0, NTK | MTK), 0, 0, 0, 1, i, i, 0, 8);
+        ANSWERS(milchkompass_start(T, &s, 0, NTK | MTK), 0, 0, 0, 1, i, i, 0, 8, 0);
     const session tasks = s;
     REFUSED(MILCHKOMPASS_TASKS_FULL, tasks, milchkompass_start(T, &s, 0, NTK | MTK));
     REFUSED(MILCHKOMPASS_TASKS_FULL, tasks, milchkompass_finish_start(T, &s, 0, NTK | MTK));
     s = (session)MILCHKOMPASS_SESSION_FRESH;
     milchkompass_launch(T, &s, 0);
     for (int i = 2; i <= MILCHKOMPASS_SCREENS; i++)
-        ANSWERS(milchkompass_start(T, &s, 1, 0), 0, 1, 0, i, 1, 1, 0, 8);
+        ANSWERS(milchkompass_start(T, &s, 1, 0), 0, 1, 0, i, 1, 1, 0, 8, 0);
     const session screens = s;
     REFUSED(MILCHKOMPASS_TASK_FULL, screens, milchkompass_start(T, &s, 1, 0));
     REFUSED(MILCHKOMPASS_TASK_FULL, screens, milchkompass_finish_start(T, &s, 1, 0));
-    ANSWERS(milchkompass_start(T, &s, 0, RTF), 0, 0, 0, 32, 1, 1, 0, 8);
+    ANSWERS(milchkompass_start(T, &s, 0, RTF), 0, 0, 0, 32, 1, 1, 0, 8, 0);
     s = screens;
     s.edition = E7;
-    ANSWERS(milchkompass_start(T, &s, 0, RTF), 0, 0, 0, 1, 1, 1, 32, 7);
+    ANSWERS(milchkompass_start(T, &s, 0, RTF), 0, 0, 0, 1, 1, 1, 32, 7, 0);
 }
 
 int main(void) {

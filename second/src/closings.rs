@@ -25,9 +25,9 @@ impl Default for Closings {
 /// Whether a call can close so many by a rule, which stands before the number.
 pub type Possible = fn(usize, usize) -> bool;
 
-/// Whether a start can close so many. It clears to B from a height of 32 at most;
-/// in R8 and R9 the caller is above B, so that a task that R9 empties has two
-/// screens or more.
+/// Whether a start from a front that is no No-History one can close so many. It
+/// clears to B from a height of 32 at most; in R8 and R9 the caller is above B, so
+/// that a task that R9 empties has two screens or more.
 pub fn by_start(rule: usize, closed: usize) -> bool {
     match rule {
         3 | 12 => matches!(closed, 1..=32),
@@ -46,6 +46,15 @@ pub fn by_finishing_start(rule: usize, closed: usize) -> bool {
         4 | 9 | 13 => matches!(closed, 1..=32),
         8 => matches!(closed, 1..=31),
         _ => closed == 1,
+    }
+}
+
+/// Whether a start from a No-History front can close so many: as a finishing start,
+/// save by R7.
+pub fn by_no_history_start(rule: usize, closed: usize) -> bool {
+    match rule {
+        7 => closed == 0,
+        _ => by_finishing_start(rule, closed),
     }
 }
 

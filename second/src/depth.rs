@@ -4,7 +4,7 @@
 use std::fmt;
 use std::io::{self, Read};
 
-use crate::play::Player;
+use crate::play::{Played, Player};
 use crate::tally::{Report, Tally};
 use crate::Answer;
 
@@ -18,10 +18,16 @@ pub struct Depth {
 
 impl Depth {
     /// Plays a whole recording and tallies its calls.
-    pub fn read(mut input: impl Read) -> io::Result<Depth> {
+    pub fn read(input: impl Read) -> io::Result<Depth> {
+        Depth::read_each(input, |_| ())
+    }
+
+    /// The same, and does something with what each record comes to.
+    pub fn read_each(mut input: impl Read, mut each: impl FnMut(&Played)) -> io::Result<Depth> {
         let mut depth = Depth::default();
         if let Some(mut player) = Player::open(&mut input)? {
             player.records(&mut input, |played| {
+                each(&played);
                 depth.add(&played.answer);
                 Ok(())
             })?;

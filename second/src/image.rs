@@ -9,6 +9,8 @@ use crate::{Refusal, Session, Table, Task};
 const LAST: u8 = 0x42;
 /// The length of the trailer: L in two bytes, n, m, the edition and the last byte.
 const TRAILER: usize = 6;
+/// The bit of the m byte that is set where the front screen is a No-History one.
+const NO_HISTORY_BIT: u8 = 0x80;
 
 impl Session {
     /// The image of a sound session.
@@ -22,7 +24,8 @@ impl Session {
         let length = bytes.len() as u16;
         bytes.extend(length.to_be_bytes());
         bytes.push(self.tasks.len() as u8);
-        bytes.push(self.main as u8);
+        let mark = if self.no_history { NO_HISTORY_BIT } else { 0 };
+        bytes.push(self.main as u8 | mark);
         bytes.extend([self.edition, LAST]);
         bytes
     }
@@ -44,8 +47,9 @@ impl Session {
         let tasks = read_tasks(body, usize::from(count)).ok_or(Refusal::ImageTasks)?;
         let session = Session {
             tasks,
-            main: usize::from(main),
+            main: usize::from(main & !NO_HISTORY_BIT),
             edition,
+            no_history: main & NO_HISTORY_BIT != 0,
         };
         if !session.is_sound(table) {
             return Err(Refusal::ImageUnsound);

@@ -19,8 +19,9 @@
 //! - `depth`: the depth report of a recording in the player's format
 //! - `random`, `hex`, `closings`: random numbers and tables, bytes as text, counts
 //!   of what was closed, for comparisons
-//! - `no_affinity`, `by_edition`: how often screens of affinity 0 were started, and
-//!   how often each rule came up in each edition, likewise
+//! - `no_affinity`, `by_edition`, `no_history`: how often screens of affinity 0 were
+//!   started, how often each rule came up in each edition, and with the No-History
+//!   flag or from such a front, likewise
 //! - `cases`: how often named cases came up, likewise
 //!
 //! Two layers: the methods of `Session` want a good table and a sound session
@@ -35,6 +36,7 @@ pub mod edition;
 pub mod hex;
 pub mod image;
 pub mod no_affinity;
+pub mod no_history;
 pub mod play;
 pub mod random;
 pub mod reason;
@@ -58,7 +60,7 @@ pub enum Refusal {
     TableContent = 2,
     /// Start of a screen that is not below N.
     NoSuchScreen = 3,
-    /// A flag bit outside the six.
+    /// A flag bit outside the seven.
     FlagBits = 4,
     /// Restore: not the length or the trailer of an image.
     ImageTrailer = 5,

@@ -165,7 +165,7 @@ fn read_full(input: &mut impl Read, buffer: &mut [u8]) -> io::Result<usize> {
     Ok(length)
 }
 
-/// Adds the player's line: the kind, then the answer's eight numbers.
+/// Adds the player's line: the kind, then the answer's nine numbers.
 pub fn push_line(out: &mut Vec<u8>, played: &Played) {
     push_number(out, played.kind);
     push_numbers(out, &played.answer.numbers());

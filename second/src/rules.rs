@@ -5,8 +5,8 @@
 use crate::edition::{self, SEVEN, SIX};
 use crate::session::{Count, MAX_TASKS};
 use crate::table::{
-    ALL_FLAGS, CLEAR_TASK, CLEAR_TOP, MULTIPLE_TASK, NEW_TASK, NO_AFFINITY, REORDER_TO_FRONT,
-    SINGLE_TOP,
+    ALL_FLAGS, CLEAR_TASK, CLEAR_TOP, MULTIPLE_TASK, NEW_TASK, NO_AFFINITY, NO_HISTORY,
+    REORDER_TO_FRONT, SINGLE_TOP,
 };
 use crate::{Mode, Refusal, Session, Table};
 
@@ -85,7 +85,7 @@ pub struct Done {
 
 impl Session {
     /// Launch: one task of the main screen alone, in the edition that the byte
-    /// names.
+    /// names. An empty session has no No-History front to clear.
     pub fn launch(&mut self, table: &Table, edition: u8) -> Result<Done, Refusal> {
         if !self.is_empty() {
             return Err(Refusal::NotEmpty);
@@ -101,27 +101,43 @@ impl Session {
     pub fn back(&mut self) -> Result<Done, Refusal> {
         let front = self.tasks.first().ok_or(Refusal::Empty)?;
         let count = self.remove_screen(0, front.height() - 1);
+        self.no_history = false;
         let choice = None;
         Ok(Done { choice, count })
     }
 
-    /// Start of `b`.
+    /// Start of `b`. From a No-History front it is done as a finishing start, save
+    /// where R7 fits: there nothing changes.
     pub fn start(&mut self, table: &Table, b: u8, flags: u32) -> Result<Done, Refusal> {
         let choice = self.plan(table, b, flags)?;
-        let count = self.apply(choice, b);
-        let choice = Some(choice);
-        Ok(Done { choice, count })
+        if choice.rule == R7 {
+            let (choice, count) = (Some(choice), Count::NONE);
+            return Ok(Done { choice, count });
+        }
+        Ok(self.carry_out(choice, b, flags, self.no_history))
     }
 
     /// Start of `b` by a screen that closes itself.
     pub fn finishing_start(&mut self, table: &Table, b: u8, flags: u32) -> Result<Done, Refusal> {
         let choice = self.plan(table, b, flags)?;
-        if let Some(front) = self.tasks[0].screens.last_mut() {
-            front.marked = true;
+        Ok(self.carry_out(choice, b, flags, true))
+    }
+
+    /// Carries out a start for which there is room, and closes the caller if that
+    /// is to be. A `b` that was pushed or made new is not the caller.
+    fn carry_out(&mut self, choice: Choice, b: u8, flags: u32, closes: bool) -> Done {
+        if closes {
+            if let Some(front) = self.tasks[0].screens.last_mut() {
+                front.marked = true;
+            }
         }
-        let count = self.apply(choice, b) + self.remove_marked();
+        let mut count = self.apply(choice, b);
+        self.no_history = flags & NO_HISTORY != 0 && count.created > 0;
+        if closes {
+            count = count + self.remove_marked();
+        }
         let choice = Some(choice);
-        Ok(Done { choice, count })
+        Done { choice, count }
     }
 
     /// What a start of `b` chooses, or why it is refused. Changes nothing.

@@ -12,8 +12,8 @@ pub const MAX_TASKS: usize = 16;
 /// The most screens a task holds.
 pub const MAX_HEIGHT: usize = 32;
 
-/// A screen as it stands in a task. The mark is set only while a finishing
-/// start is under way, on the screen that is to be closed.
+/// A screen as it stands in a task. The mark is set only while a start is under
+/// way that closes its caller, on that caller.
 #[derive(Clone, Copy, Debug, PartialEq, Eq, Hash)]
 pub struct Screen {
     pub number: u8,
@@ -157,12 +157,15 @@ impl Task {
 }
 
 /// A session: tasks, front first; the main place, counted from 1, or 0 when the
-/// task made by launch is gone; the edition that launch named, 8 when it is empty.
+/// task made by launch is gone; the edition that launch named, 8 when it is empty;
+/// whether the front screen was pushed or made new by a start with the No-History
+/// flag.
 #[derive(Clone, Debug, PartialEq, Eq, Hash)]
 pub struct Session {
     pub tasks: Vec<Task>,
     pub main: usize,
     pub edition: u8,
+    pub no_history: bool,
 }
 
 impl Session {
@@ -172,6 +175,7 @@ impl Session {
             tasks: Vec::new(),
             main: 0,
             edition: EIGHT,
+            no_history: false,
         }
     }
 
@@ -187,6 +191,7 @@ impl Session {
             && self.main <= self.tasks.len()
             && (self.main == 0 || self.tasks[self.main - 1].root == table.main())
             && self.edition_is_sound()
+            && !(self.is_empty() && self.no_history)
     }
 
     /// The edition is one that is kept, and an empty session has 8.
@@ -265,12 +270,13 @@ impl Session {
                 main: self.main as u8,
                 closed,
                 edition: self.edition,
+                no_history: u8::from(self.no_history),
             },
         }
     }
 }
 
-/// What a call answers: eight numbers.
+/// What a call answers: nine numbers.
 #[derive(Clone, Copy, Debug, Default, PartialEq, Eq, Hash)]
 pub struct Answer {
     pub refusal: u8,
@@ -283,6 +289,8 @@ pub struct Answer {
     pub closed: u8,
     /// The edition after the call; 0 where it was refused.
     pub edition: u8,
+    /// 1 if the front screen after the call is a No-History one.
+    pub no_history: u8,
 }
 
 impl Answer {
@@ -294,8 +302,8 @@ impl Answer {
         }
     }
 
-    /// The eight numbers in their order.
-    pub fn numbers(self) -> [u8; 8] {
+    /// The nine numbers in their order.
+    pub fn numbers(self) -> [u8; 9] {
         [
             self.refusal,
             self.screen,
@@ -305,6 +313,7 @@ impl Answer {
             self.main,
             self.closed,
             self.edition,
+            self.no_history,
         ]
     }
 }

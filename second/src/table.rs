@@ -14,26 +14,33 @@ pub const CLEAR_TOP: u32 = 0x0400_0000;
 pub const REORDER_TO_FRONT: u32 = 0x0002_0000;
 /// CTK, clear task.
 pub const CLEAR_TASK: u32 = 0x0000_8000;
+/// The started screen must not be returned to.
+pub const NO_HISTORY: u32 = 0x4000_0000;
 
-/// The six flags, one by one.
-pub const FLAGS: [u32; 6] = [
+/// The seven flags, one by one; No-History, which chooses no rule, is the last.
+pub const FLAGS: [u32; 7] = [
     NEW_TASK,
     SINGLE_TOP,
     MULTIPLE_TASK,
     CLEAR_TOP,
     REORDER_TO_FRONT,
     CLEAR_TASK,
+    NO_HISTORY,
 ];
 
-/// All six flags.
+/// All seven flags.
 pub const ALL_FLAGS: u32 =
-    NEW_TASK | SINGLE_TOP | MULTIPLE_TASK | CLEAR_TOP | REORDER_TO_FRONT | CLEAR_TASK;
+    NEW_TASK | SINGLE_TOP | MULTIPLE_TASK | CLEAR_TOP | REORDER_TO_FRONT | CLEAR_TASK | NO_HISTORY;
 
-/// The set of flags whose number, below 64, has these bits.
+/// How many sets of the seven flags there are.
+pub const FLAG_WORDS: u32 = 1 << FLAGS.len();
+
+/// The set of flags whose number, below 128, has these bits; below 64 it is without
+/// No-History.
 pub fn flag_word(number: u32) -> u32 {
-    (0..6)
+    (0..FLAGS.len())
         .filter(|bit| number >> bit & 1 == 1)
-        .map(|bit| FLAGS[bit as usize])
+        .map(|bit| FLAGS[bit])
         .sum()
 }
 

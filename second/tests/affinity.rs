@@ -54,7 +54,7 @@ fn finish(from: &Session, screen: u8, flags: u32, after: &Session) {
     assert_eq!(&now, after, "start of {screen}, flags {flags:08x}");
 }
 
-/// All 64 sets of flags.
+/// All 64 sets of the six flags that choose rules.
 fn all_flags() -> impl Iterator<Item = u32> {
     (0..64).map(flag_word)
 }

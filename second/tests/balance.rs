@@ -115,8 +115,8 @@ fn any_call(random: &mut Random, screens: u8, empty: bool, plain: u64) -> Call {
     let flags = match random.below(4) {
         0 => random.one_of(&FLAGS),
         1 => random.next() as u32,
-        2 => flag_word(random.below(64) as u32) & !MULTIPLE_TASK,
-        _ => flag_word(random.below(64) as u32),
+        2 => flag_word(random.byte(128).into()) & !MULTIPLE_TASK,
+        _ => flag_word(random.byte(128).into()),
     };
     (kind, random.byte(u16::from(screens) + 1), flags)
 }
@@ -162,7 +162,7 @@ fn an_accepted_restore_breaks_the_balance() {
     list.call((RESTORE, 0, 0));
     assert_eq!((list.created, list.closed), (1, 0));
     let answer = calls::restore(&T, &mut list.session, &image);
-    assert_eq!(answer.numbers(), [0, 1, 0, 2, 1, 1, 0, 8]);
+    assert_eq!(answer.numbers(), [0, 1, 0, 2, 1, 1, 0, 8, 0]);
     // Two stand, and one was created.
     assert_eq!(standing(&list.session), 2);
 }

@@ -148,15 +148,15 @@ fn launch_back_and_look() {
     let mut now = Session::fresh();
     assert_eq!(calls::look(&T, &now).numbers(), EMPTY);
     let answer = calls::launch(&T, &mut now, 0);
-    assert_eq!(answer.numbers(), [0, 0, 0, 1, 1, 1, 0, 8]);
+    assert_eq!(answer.numbers(), [0, 0, 0, 1, 1, 1, 0, 8, 0]);
 
     // One screen of two, a whole task, the whole session.
     let mut now = session(2, &[(3, &[1, 3]), (0, &[0])]);
     for (back, look) in [
-        ([0, 3, 3, 1, 2, 2, 1, 8], [0, 3, 3, 1, 2, 2, 0, 8]),
-        ([0, 0, 0, 1, 1, 1, 1, 8], [0, 0, 0, 1, 1, 1, 0, 8]),
-        ([0, 0, 0, 0, 0, 0, 1, 8], EMPTY),
-        ([21, 0, 0, 0, 0, 0, 0, 0], EMPTY),
+        ([0, 3, 3, 1, 2, 2, 1, 8, 0], [0, 3, 3, 1, 2, 2, 0, 8, 0]),
+        ([0, 0, 0, 1, 1, 1, 1, 8, 0], [0, 0, 0, 1, 1, 1, 0, 8, 0]),
+        ([0, 0, 0, 0, 0, 0, 1, 8, 0], EMPTY),
+        ([21, 0, 0, 0, 0, 0, 0, 0, 0], EMPTY),
     ] {
         assert_eq!(calls::back(&T, &mut now).numbers(), back);
         assert_eq!(calls::look(&T, &now).numbers(), look);
@@ -179,13 +179,13 @@ fn a_finishing_start_that_empties_the_session() {
     // P9, and the same by R7 and by R1.
     let mut now = session(1, &[(0, &[0])]);
     let answer = calls::finishing_start(&T, &mut now, 0, NEW_TASK | SINGLE_TOP);
-    assert_eq!(answer.numbers(), [0, 0, 0, 0, 0, 0, 1, 8]);
+    assert_eq!(answer.numbers(), [0, 0, 0, 0, 0, 0, 1, 8, 0]);
     let mut now = session(1, &[(0, &[0])]);
     let answer = calls::finishing_start(&T, &mut now, 0, SINGLE_TOP);
-    assert_eq!(answer.numbers(), [0, 0, 0, 0, 0, 0, 1, 8]);
+    assert_eq!(answer.numbers(), [0, 0, 0, 0, 0, 0, 1, 8, 0]);
     let mut now = session(0, &[(4, &[4])]);
     let answer = calls::finishing_start(&T, &mut now, 4, 0);
-    assert_eq!(answer.numbers(), [0, 0, 0, 0, 0, 0, 1, 8]);
+    assert_eq!(answer.numbers(), [0, 0, 0, 0, 0, 0, 1, 8, 0]);
 }
 
 #[test]
@@ -193,9 +193,9 @@ fn a_restore_closes_nothing() {
     let large = session(2, &[(3, &[1, 3]), (0, &[2, 1, 0])]);
     let small = session(1, &[(0, &[0])]);
     for (present, next, numbers) in [
-        (&large, &small, [0, 0, 0, 1, 1, 1, 0, 8]),
-        (&small, &large, [0, 1, 3, 2, 2, 2, 0, 8]),
-        (&large, &large, [0, 1, 3, 2, 2, 2, 0, 8]),
+        (&large, &small, [0, 0, 0, 1, 1, 1, 0, 8, 0]),
+        (&small, &large, [0, 1, 3, 2, 2, 2, 0, 8, 0]),
+        (&large, &large, [0, 1, 3, 2, 2, 2, 0, 8, 0]),
         (&large, &Session::fresh(), EMPTY),
     ] {
         let mut now = present.clone();
@@ -207,7 +207,7 @@ fn a_restore_closes_nothing() {
     let mut now = large.clone();
     assert_eq!(
         calls::restore(&T, &mut now, &[]).numbers(),
-        [5, 0, 0, 0, 0, 0, 0, 0]
+        [5, 0, 0, 0, 0, 0, 0, 0, 0]
     );
 }
 
@@ -227,13 +227,13 @@ fn a_refused_call_closes_nothing() {
     ] {
         let mut now = from.clone();
         let answer = calls::finishing_start(&T, &mut now, screen, flags);
-        assert_eq!(answer.numbers(), [refusal, 0, 0, 0, 0, 0, 0, 0]);
+        assert_eq!(answer.numbers(), [refusal, 0, 0, 0, 0, 0, 0, 0, 0]);
         assert_eq!(&now, from);
     }
     let mut now = unsound.clone();
     assert_eq!(
         calls::back(&T, &mut now).numbers(),
-        [20, 0, 0, 0, 0, 0, 0, 0]
+        [20, 0, 0, 0, 0, 0, 0, 0, 0]
     );
 }
 
@@ -253,11 +253,11 @@ fn the_players_lines() {
     let output = String::from_utf8(output).unwrap();
     let last: Vec<&str> = output.lines().skip(32).collect();
     let expected = [
-        "2 0 1 3 32 2 2 0 8",
-        "2 0 0 0 1 2 1 0 8",
-        "3 0 3 3 1 1 0 33 8",
-        "4 0 0 0 0 0 0 1 8",
-        "4 21 0 0 0 0 0 0 0",
+        "2 0 1 3 32 2 2 0 8 0",
+        "2 0 0 0 1 2 1 0 8 0",
+        "3 0 3 3 1 1 0 33 8 0",
+        "4 0 0 0 0 0 0 1 8 0",
+        "4 21 0 0 0 0 0 0 0 0",
     ];
     assert_eq!(last, expected);
 }

@@ -20,8 +20,8 @@ fn small(edition: u8) -> Session {
     session_in(edition, 2, &[(3, &[3]), (0, &[1, 0])])
 }
 
-fn refused(refusal: u8) -> [u8; 8] {
-    [refusal, 0, 0, 0, 0, 0, 0, 0]
+fn refused(refusal: u8) -> [u8; 9] {
+    [refusal, 0, 0, 0, 0, 0, 0, 0, 0]
 }
 
 #[test]
@@ -29,7 +29,7 @@ fn launch_names_it() {
     for (byte, edition) in [(0, 8), (6, 6), (7, 7), (8, 8)] {
         let mut now = Session::fresh();
         let answer = calls::launch(&T, &mut now, byte);
-        assert_eq!(answer.numbers(), [0, 0, 0, 1, 1, 1, 0, edition]);
+        assert_eq!(answer.numbers(), [0, 0, 0, 1, 1, 1, 0, edition, 0]);
         assert_eq!(now, session_in(edition, 1, &[(0, &[0])]));
     }
     for byte in other_bytes().filter(|&byte| byte != 0) {
@@ -71,7 +71,7 @@ fn it_is_kept_until_the_session_is_empty() {
             assert_eq!(told(calls::back(&T, &mut now)), (0, edition));
         }
         let last = calls::back(&T, &mut now);
-        assert_eq!(last.numbers(), [0, 0, 0, 0, 0, 0, 1, 8]);
+        assert_eq!(last.numbers(), [0, 0, 0, 0, 0, 0, 1, 8, 0]);
         assert_eq!(now, Session::fresh());
         assert_eq!(calls::look(&T, &now).numbers(), EMPTY);
         // What was kept before does not count.
@@ -89,7 +89,7 @@ fn a_finishing_start_that_empties_the_session() {
         for (main, root, flags) in [(1, 0, NEW_TASK | SINGLE_TOP), (1, 0, SINGLE_TOP), (0, 4, 0)] {
             let mut now = session_in(edition, main, &[(root, &[root])]);
             let answer = calls::finishing_start(&T, &mut now, root, flags);
-            assert_eq!(answer.numbers(), [0, 0, 0, 0, 0, 0, 1, 8]);
+            assert_eq!(answer.numbers(), [0, 0, 0, 0, 0, 0, 1, 8, 0]);
             assert_eq!(now, Session::fresh());
         }
     }
@@ -162,7 +162,7 @@ fn the_image_carries_it() {
         for present in [small(6), small(7), small(8), Session::fresh()] {
             let mut now = present;
             let answer = calls::restore(&T, &mut now, &image);
-            assert_eq!(answer.numbers(), [0, 3, 3, 1, 2, 2, 0, edition]);
+            assert_eq!(answer.numbers(), [0, 3, 3, 1, 2, 2, 0, edition, 0]);
             assert_eq!(now, small(edition));
         }
     }
@@ -219,11 +219,11 @@ fn the_players_lines() {
     input.extend([launch(0), launch(5), back, launch(7), back].concat());
     let mut output = Vec::new();
     play::play(&input[..], &mut output).unwrap();
-    let expected = "5 0 0 0 0 0 0 0 8\n1 30 0 0 0 0 0 0 0\n1 30 0 0 0 0 0 0 0\n\
-                    1 0 0 0 1 1 1 0 6\n1 22 0 0 0 0 0 0 0\n\
-                    5 0 0 0 1 1 1 0 6\n2 0 1 0 2 1 1 0 6\n4 0 0 0 1 1 1 1 6\n\
-                    4 0 0 0 0 0 0 1 8\n5 0 0 0 0 0 0 0 8\n\
-                    1 0 0 0 1 1 1 0 8\n1 22 0 0 0 0 0 0 0\n4 0 0 0 0 0 0 1 8\n\
-                    1 0 0 0 1 1 1 0 7\n4 0 0 0 0 0 0 1 8\n";
+    let expected = "5 0 0 0 0 0 0 0 8 0\n1 30 0 0 0 0 0 0 0 0\n1 30 0 0 0 0 0 0 0 0\n\
+                    1 0 0 0 1 1 1 0 6 0\n1 22 0 0 0 0 0 0 0 0\n\
+                    5 0 0 0 1 1 1 0 6 0\n2 0 1 0 2 1 1 0 6 0\n4 0 0 0 1 1 1 1 6 0\n\
+                    4 0 0 0 0 0 0 1 8 0\n5 0 0 0 0 0 0 0 8 0\n\
+                    1 0 0 0 1 1 1 0 8 0\n1 22 0 0 0 0 0 0 0 0\n4 0 0 0 0 0 0 1 8 0\n\
+                    1 0 0 0 1 1 1 0 7 0\n4 0 0 0 0 0 0 1 8 0\n";
     assert_eq!(String::from_utf8(output).unwrap(), expected);
 }

@@ -28,11 +28,11 @@ fn the_papers_example() {
     ];
     // R10: pushed. R6: no task of 3 or of its affinity. R17: the main task, found
     // by root at place 2.
-    let expected = "1 0 0 0 1 1 1 0 8\n\
-                    2 0 1 0 2 1 1 0 8\n  0 10 0 0\n\
-                    2 0 3 3 1 2 2 0 8\n  0 6 0 0\n\
-                    3 0 0 0 3 1 1 1 8\n  0 17 2 1\n\
-                    4 0 1 0 2 1 1 1 8\n4 0 0 0 1 1 1 1 8\n4 0 0 0 0 0 0 1 8\n4 21 0 0 0 0 0 0 0\n";
+    let expected = "1 0 0 0 1 1 1 0 8 0\n\
+                    2 0 1 0 2 1 1 0 8 0\n  0 10 0 0\n\
+                    2 0 3 3 1 2 2 0 8 0\n  0 6 0 0\n\
+                    3 0 0 0 3 1 1 1 8 0\n  0 17 2 1\n\
+                    4 0 1 0 2 1 1 1 8 0\n4 0 0 0 1 1 1 1 8 0\n4 0 0 0 0 0 0 1 8 0\n4 21 0 0 0 0 0 0 0 0\n";
     assert_eq!(explain(&T, &records), expected);
 }
 
@@ -49,13 +49,13 @@ fn by_affinity_and_refused() {
     ];
     // The main task closes as 4 gets its own. 4 is apart, so 5 gets one too, and
     // 3 joins that by affinity; 5 closes.
-    let expected = "2 21 0 0 0 0 0 0 0\n  21 0 0 0\n\
-                    1 0 0 0 1 1 1 0 8\n\
-                    3 0 4 4 1 1 0 1 8\n  0 2 0 0\n\
-                    2 0 5 5 1 2 0 0 8\n  0 18 0 0\n\
-                    3 0 3 5 1 2 0 1 8\n  0 5 1 2\n\
-                    2 3 0 0 0 0 0 0 0\n  3 0 0 0\n\
-                    3 4 0 0 0 0 0 0 0\n  4 0 0 0\n";
+    let expected = "2 21 0 0 0 0 0 0 0 0\n  21 0 0 0\n\
+                    1 0 0 0 1 1 1 0 8 0\n\
+                    3 0 4 4 1 1 0 1 8 0\n  0 2 0 0\n\
+                    2 0 5 5 1 2 0 0 8 0\n  0 18 0 0\n\
+                    3 0 3 5 1 2 0 1 8 0\n  0 5 1 2\n\
+                    2 3 0 0 0 0 0 0 0 0\n  3 0 0 0\n\
+                    3 4 0 0 0 0 0 0 0 0\n  4 0 0 0\n";
     assert_eq!(explain(&T, &records), expected);
 }
 
@@ -70,9 +70,9 @@ fn other_and_unknown_kinds_have_no_reason() {
         &[1, 3, 0, 0, 0, 0],
         &[1, 6, 0, 0, 0, 0],
     ];
-    let expected = "5 0 0 0 0 0 0 0 8\n0 9 0 0 0 0 0 0 0\n6 9 0 0 0 0 0 0 0\n\
-                    255 9 0 0 0 0 0 0 0\n4 21 0 0 0 0 0 0 0\n1 30 0 0 0 0 0 0 0\n\
-                    1 0 0 0 1 1 1 0 6\n";
+    let expected = "5 0 0 0 0 0 0 0 8 0\n0 9 0 0 0 0 0 0 0 0\n6 9 0 0 0 0 0 0 0 0\n\
+                    255 9 0 0 0 0 0 0 0 0\n4 21 0 0 0 0 0 0 0 0\n1 30 0 0 0 0 0 0 0 0\n\
+                    1 0 0 0 1 1 1 0 6 0\n";
     assert_eq!(explain(&T, &records), expected);
 }
 
@@ -88,7 +88,7 @@ fn cut_records() {
                     2 | 3 => "  9 0 0 0\n",
                     _ => "",
                 };
-                let expected = format!("{kind} 9 0 0 0 0 0 0 0\n{reason}");
+                let expected = format!("{kind} 9 0 0 0 0 0 0 0 0\n{reason}");
                 assert_eq!(explain(&table, &[cut]), expected);
             }
         }
@@ -106,11 +106,11 @@ fn a_table_of_bad_content() {
         &[7, 0, 0, 0, 0, 0],
         &[3, 0, 0],
     ];
-    let expected = "1 2 0 0 0 0 0 0 0\n\
-                    2 2 0 0 0 0 0 0 0\n  2 0 0 0\n\
-                    3 2 0 0 0 0 0 0 0\n  2 0 0 0\n\
-                    7 9 0 0 0 0 0 0 0\n\
-                    3 9 0 0 0 0 0 0 0\n  9 0 0 0\n";
+    let expected = "1 2 0 0 0 0 0 0 0 0\n\
+                    2 2 0 0 0 0 0 0 0 0\n  2 0 0 0\n\
+                    3 2 0 0 0 0 0 0 0 0\n  2 0 0 0\n\
+                    7 9 0 0 0 0 0 0 0 0\n\
+                    3 9 0 0 0 0 0 0 0 0\n  9 0 0 0\n";
     assert_eq!(explain(&bad, &records), expected);
 }
 
@@ -120,10 +120,10 @@ fn a_table_on_which_the_player_stops() {
     let mut large = vec![0; 2 + 2 * 65];
     large[0] = 65;
     for table in [&[] as &[u8], &[0], &[64], &T[..13], &[2, 0, 0]] {
-        assert_eq!(explain(table, &[]), "0 1 0 0 0 0 0 0 0\n");
+        assert_eq!(explain(table, &[]), "0 1 0 0 0 0 0 0 0 0\n");
     }
     for table in [&[0u8; 2] as &[u8], &large] {
-        assert_eq!(explain(table, &[start, start]), "0 1 0 0 0 0 0 0 0\n");
+        assert_eq!(explain(table, &[start, start]), "0 1 0 0 0 0 0 0 0 0\n");
     }
     assert_eq!(explain(&T, &[]), "");
 }

@@ -113,7 +113,7 @@ fn p10_image() {
     let mut other = session(1, &[(0, &[0])]);
     assert_eq!(
         calls::restore(&T, &mut other, &image).numbers(),
-        [0, 3, 3, 1, 2, 2, 0, 8]
+        [0, 3, 3, 1, 2, 2, 0, 8, 0]
     );
     assert_eq!(other, saved);
 }
@@ -138,7 +138,7 @@ fn image_of_the_largest_session() {
     let mut present = Session::fresh();
     assert_eq!(
         calls::restore(&T, &mut present, &image).numbers(),
-        [0, 0, 0, 32, 16, 16, 0, 8]
+        [0, 0, 0, 32, 16, 16, 0, 8, 0]
     );
     assert_eq!(present, largest);
 }
@@ -148,22 +148,22 @@ fn limit_of_a_task() {
     let mut now = session(1, &[(0, &[0; 31])]);
     assert_eq!(
         calls::start(&T, &mut now, 1, 0).numbers(),
-        [0, 1, 0, 32, 1, 1, 0, 8]
+        [0, 1, 0, 32, 1, 1, 0, 8, 0]
     );
     let full = now.clone();
     assert_eq!(
         calls::start(&T, &mut now, 1, 0).numbers(),
-        [24, 0, 0, 0, 0, 0, 0, 0]
+        [24, 0, 0, 0, 0, 0, 0, 0, 0]
     );
     assert_eq!(
         calls::finishing_start(&T, &mut now, 1, 0).numbers(),
-        [24, 0, 0, 0, 0, 0, 0, 0]
+        [24, 0, 0, 0, 0, 0, 0, 0, 0]
     );
     assert_eq!(now, full);
     let reorder = calls::start(&T, &mut now, 0, REORDER_TO_FRONT);
-    assert_eq!(reorder.numbers(), [0, 0, 0, 32, 1, 1, 0, 8]);
+    assert_eq!(reorder.numbers(), [0, 0, 0, 32, 1, 1, 0, 8, 0]);
     let emptied = calls::start(&T, &mut now, 1, NEW_TASK | CLEAR_TASK);
-    assert_eq!(emptied.numbers(), [0, 1, 0, 1, 1, 1, 32, 8]);
+    assert_eq!(emptied.numbers(), [0, 1, 0, 1, 1, 1, 32, 8, 0]);
 }
 
 #[test]
@@ -172,21 +172,21 @@ fn limit_of_the_session() {
     let flags = NEW_TASK | MULTIPLE_TASK;
     assert_eq!(
         calls::start(&T, &mut now, 0, flags).numbers(),
-        [0, 0, 0, 1, 16, 16, 0, 8]
+        [0, 0, 0, 1, 16, 16, 0, 8, 0]
     );
     let full = now.clone();
     for (screen, flags) in [(0, flags), (3, 0), (4, 0), (5, NEW_TASK)] {
         assert_eq!(
             calls::start(&T, &mut now, screen, flags).numbers(),
-            [23, 0, 0, 0, 0, 0, 0, 0]
+            [23, 0, 0, 0, 0, 0, 0, 0, 0]
         );
         let answer = calls::finishing_start(&T, &mut now, screen, flags);
-        assert_eq!(answer.numbers(), [23, 0, 0, 0, 0, 0, 0, 0]);
+        assert_eq!(answer.numbers(), [23, 0, 0, 0, 0, 0, 0, 0, 0]);
     }
     assert_eq!(now, full);
     assert_eq!(
         calls::start(&T, &mut now, 5, 0).numbers(),
-        [0, 5, 0, 2, 16, 16, 0, 8]
+        [0, 5, 0, 2, 16, 16, 0, 8, 0]
     );
 }
 
@@ -278,7 +278,7 @@ fn player_example() {
     let mut output = Vec::new();
     play::play(&input[..], &mut output).unwrap();
     // The finishing start closes 3, alone in its task, and each Back one screen.
-    let expected = "1 0 0 0 1 1 1 0 8\n2 0 1 0 2 1 1 0 8\n2 0 3 3 1 2 2 0 8\n3 0 0 0 3 1 1 1 8\n\
-                    4 0 1 0 2 1 1 1 8\n4 0 0 0 1 1 1 1 8\n4 0 0 0 0 0 0 1 8\n4 21 0 0 0 0 0 0 0\n";
+    let expected = "1 0 0 0 1 1 1 0 8 0\n2 0 1 0 2 1 1 0 8 0\n2 0 3 3 1 2 2 0 8 0\n3 0 0 0 3 1 1 1 8 0\n\
+                    4 0 1 0 2 1 1 1 8 0\n4 0 0 0 1 1 1 1 8 0\n4 0 0 0 0 0 0 1 8 0\n4 21 0 0 0 0 0 0 0 0\n";
     assert_eq!(String::from_utf8(output).unwrap(), expected);
 }

@@ -58,7 +58,7 @@ fn refusal_1_and_2() {
     full[1] = 63;
     assert_eq!(
         calls::launch(&full, &mut Session::fresh(), 0).numbers(),
-        [0, 63, 63, 1, 1, 1, 0, 8]
+        [0, 63, 63, 1, 1, 1, 0, 8, 0]
     );
     full[1] = 64;
     for table in [
@@ -108,7 +108,7 @@ fn refusal_20() {
 /// Starts and finishing starts of this screen with these flags are refused.
 fn start_refused(before: &Session, screen: u8, flags: u32, refusal: u8) {
     let mut now = before.clone();
-    let expected = [refusal, 0, 0, 0, 0, 0, 0, 0];
+    let expected = [refusal, 0, 0, 0, 0, 0, 0, 0, 0];
     assert_eq!(
         calls::start(&T, &mut now, screen, flags).numbers(),
         expected
@@ -142,7 +142,7 @@ fn refusals_3_4_21_in_order() {
     start_refused(&fresh, 0, ALL_FLAGS, 21);
     assert_eq!(
         calls::back(&T, &mut fresh.clone()).numbers(),
-        [21, 0, 0, 0, 0, 0, 0, 0]
+        [21, 0, 0, 0, 0, 0, 0, 0, 0]
     );
 }
 
@@ -151,7 +151,7 @@ fn refusal_22() {
     let mut one = session(1, &[(0, &[0])]);
     assert_eq!(
         calls::launch(&T, &mut one, 0).numbers(),
-        [22, 0, 0, 0, 0, 0, 0, 0]
+        [22, 0, 0, 0, 0, 0, 0, 0, 0]
     );
     assert_eq!(one, session(1, &[(0, &[0])]));
 }
@@ -194,7 +194,7 @@ fn refusals_of_restore() {
         let answer = calls::restore(&T, &mut now, image);
         assert_eq!(
             answer.numbers(),
-            [refusal, 0, 0, 0, 0, 0, 0, 0],
+            [refusal, 0, 0, 0, 0, 0, 0, 0, 0],
             "{image:?}"
         );
         assert_eq!(now, session(1, &[(0, &[0])]));
@@ -243,20 +243,23 @@ fn player_with_a_bad_table() {
         &[1, 0, 0],
         &T[..13],
     ] {
-        assert_eq!(play(table), "0 1 0 0 0 0 0 0 0\n");
+        assert_eq!(play(table), "0 1 0 0 0 0 0 0 0 0\n");
     }
     let mut input = vec![0; 100];
-    assert_eq!(play(&input), "0 1 0 0 0 0 0 0 0\n");
+    assert_eq!(play(&input), "0 1 0 0 0 0 0 0 0 0\n");
     input[0] = 65;
-    assert_eq!(play(&input), "0 1 0 0 0 0 0 0 0\n");
+    assert_eq!(play(&input), "0 1 0 0 0 0 0 0 0 0\n");
     assert_eq!(play(&T), "");
     let bad_main = [1, 1, 0, 0, 1, 0, 0, 0, 0, 0, 0, 0, 0, 0, 0, 0, 4, 0];
     assert_eq!(
         play(&bad_main),
-        "1 2 0 0 0 0 0 0 0\n0 9 0 0 0 0 0 0 0\n4 9 0 0 0 0 0 0 0\n"
+        "1 2 0 0 0 0 0 0 0 0\n0 9 0 0 0 0 0 0 0 0\n4 9 0 0 0 0 0 0 0 0\n"
     );
     let bad_mode = [1, 0, 4, 0, 5, 0, 0, 0, 0, 0, 2, 9, 9, 9, 9, 9];
-    assert_eq!(play(&bad_mode), "5 2 0 0 0 0 0 0 0\n2 2 0 0 0 0 0 0 0\n");
+    assert_eq!(
+        play(&bad_mode),
+        "5 2 0 0 0 0 0 0 0 0\n2 2 0 0 0 0 0 0 0 0\n"
+    );
 }
 
 #[test]
@@ -269,13 +272,13 @@ fn player_with_bad_records() {
     input.extend([1, 0, 0, 0, 0, 0]);
     input.extend([2, 6, 255, 0, 0, 0]);
     input.extend([3, 5, 0, 0, 0, 1]);
-    let expected = "1 0 0 0 1 1 1 0 8\n6 9 0 0 0 0 0 0 0\n255 9 0 0 0 0 0 0 0\n\
-                    5 0 0 0 1 1 1 0 8\n1 22 0 0 0 0 0 0 0\n2 3 0 0 0 0 0 0 0\n\
-                    3 4 0 0 0 0 0 0 0\n";
+    let expected = "1 0 0 0 1 1 1 0 8 0\n6 9 0 0 0 0 0 0 0 0\n255 9 0 0 0 0 0 0 0 0\n\
+                    5 0 0 0 1 1 1 0 8 0\n1 22 0 0 0 0 0 0 0 0\n2 3 0 0 0 0 0 0 0 0\n\
+                    3 4 0 0 0 0 0 0 0 0\n";
     assert_eq!(play(&input), expected);
     for length in 1..6 {
         let mut cut = input.clone();
         cut.extend(&[4, 0, 0, 0, 0, 0][..length]);
-        assert_eq!(play(&cut), format!("{expected}4 9 0 0 0 0 0 0 0\n"));
+        assert_eq!(play(&cut), format!("{expected}4 9 0 0 0 0 0 0 0 0\n"));
     }
 }

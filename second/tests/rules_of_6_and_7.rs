@@ -39,7 +39,7 @@ fn start_in(
     assert_eq!(answer, after.answer(closed), "{what}");
 }
 
-/// All 64 sets of flags.
+/// All 64 sets of the six flags that choose rules.
 fn all_flags() -> impl Iterator<Item = u32> {
     (0..64).map(flag_word)
 }
@@ -117,17 +117,17 @@ fn seven_and_the_caller_that_closes() {
     for stack in [[2, 1, 0], [0, 1, 0], [2, 2, 1]] {
         let mut now = session_in(7, 1, &[(0, &stack)]);
         let answer = calls::finishing_start(&T, &mut now, 1, REORDER_TO_FRONT);
-        assert_eq!(answer.numbers(), [0, 1, 0, 1, 1, 1, 3, 7]);
+        assert_eq!(answer.numbers(), [0, 1, 0, 1, 1, 1, 3, 7, 0]);
         assert_eq!(now, session_in(7, 1, &[(0, &[1])]));
     }
     // Lifted in another task, and by R7, the caller closes.
     let mut now = session_in(7, 2, &[(5, &[1, 2, 5]), (0, &[0])]);
     let answer = calls::finishing_start(&T, &mut now, 2, REORDER_TO_FRONT);
-    assert_eq!(answer.numbers(), [0, 2, 5, 2, 2, 2, 1, 7]);
+    assert_eq!(answer.numbers(), [0, 2, 5, 2, 2, 2, 1, 7, 0]);
     assert_eq!(now, session_in(7, 2, &[(5, &[2, 5]), (0, &[0])]));
     let mut now = session_in(7, 1, &[(0, &[2, 1, 0])]);
     let answer = calls::finishing_start(&T, &mut now, 2, REORDER_TO_FRONT);
-    assert_eq!(answer.numbers(), [0, 1, 0, 2, 1, 1, 1, 7]);
+    assert_eq!(answer.numbers(), [0, 1, 0, 2, 1, 1, 1, 7, 0]);
 }
 
 #[test]

@@ -1,10 +1,11 @@
 //! Long random walks: the session stays sound, a refused call leaves it as it
-//! was, images come back, marks are gone after every call, affinity 0 finds no
-//! task, the edition is kept until the session is empty, and the calls with all
-//! their checks agree with the player.
+//! was, images come back, marks of callers are gone after every call, affinity 0
+//! finds no task, the edition is kept until the session is empty, the front is a
+//! No-History one where it is to be, and the calls with all their checks agree with
+//! the player.
 
 use second::play::Player;
-use second::table::ALL_FLAGS;
+use second::table::{ALL_FLAGS, NO_HISTORY};
 use second::{calls, Answer, Mode, Reason, Session, Table};
 
 struct Random(u64);
@@ -22,7 +23,7 @@ impl Random {
         (self.next() % n) as u8
     }
 
-    /// A random set of the six flags, bits spread as in the flag word.
+    /// A random set of the seven flags, bits spread as in the flag word.
     fn flags(&mut self) -> u32 {
         (self.next() ^ self.next() << 16) & ALL_FLAGS
     }
@@ -85,6 +86,20 @@ fn edition(before: &Session, after: &Session, (kind, byte, _): Call, refusal: u8
     }
 }
 
+/// Whether the front is a No-History one after a call.
+fn no_history(before: &Session, (kind, _, flags): Call, refusal: u8, why: Option<Reason>) -> bool {
+    let rule = why.map_or(0, |why| why.rule);
+    let created = match rule {
+        9 => before.edition == 7 && before.main == 1,
+        _ => [2, 3, 5, 6, 10, 11, 12, 14, 17, 18].contains(&rule),
+    };
+    let kept = refusal != 0 || kind == 5 || (kind == 2 && rule == 7);
+    match kept {
+        true => before.no_history,
+        false => created && flags & NO_HISTORY != 0,
+    }
+}
+
 /// What holds after each call.
 fn check(
     bytes: &[u8],
@@ -102,7 +117,7 @@ fn check(
         assert_eq!(answer, after.answer(answer.closed));
         assert_eq!(calls::look(bytes, after), after.answer(0));
     }
-    // An image holds no marks, so equality with it shows there are none.
+    // An image holds no marks of callers, so equality with it shows there are none.
     let mut back = Session::fresh();
     let restored = calls::restore(bytes, &mut back, &after.image());
     assert_eq!(restored, after.answer(0));
@@ -143,6 +158,8 @@ fn walks() {
                 }
                 check_found(&table, &before, screen, why);
             }
+            let front = no_history(&before, call, answer.refusal, why);
+            assert_eq!(session.no_history, front);
         }
     }
 }

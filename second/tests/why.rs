@@ -168,7 +168,7 @@ fn the_place_before_the_move() {
     why(&full, 3, 0, [5, 16, AFFINITY]);
     assert_eq!(
         calls::start(&T, &mut full, 5, NEW_TASK).numbers(),
-        [0, 5, 5, 1, 16, 0, 0, 8]
+        [0, 5, 5, 1, 16, 0, 0, 8, 0]
     );
     why(&full, 5, NEW_TASK, [15, 1, ROOT]);
 }

@@ -65,16 +65,17 @@ fn tell(session: &mut Result<Session, Refusal>, record: &[u8]) -> Told {
 fn line(kind: u8, answer: &Result<Answer, Refused>) -> String {
     match answer {
         Ok(a) => format!(
-            "{kind} 0 {} {} {} {} {} {} {}\n",
+            "{kind} 0 {} {} {} {} {} {} {} {}\n",
             a.screen,
             a.root,
             a.height,
             a.tasks,
             a.main,
             a.closed,
-            a.edition.number()
+            a.edition.number(),
+            u8::from(a.no_history)
         ),
-        Err((number, _)) => format!("{kind} {number} 0 0 0 0 0 0 0\n"),
+        Err((number, _)) => format!("{kind} {number} 0 0 0 0 0 0 0 0\n"),
     }
 }
 
@@ -101,7 +102,7 @@ fn main() -> io::Result<()> {
     io::stdin().read_to_end(&mut recording)?;
     let mut out = io::BufWriter::new(io::stdout().lock());
     let Some((table, records)) = parts(&recording) else {
-        return out.write_all(b"0 1 0 0 0 0 0 0 0\n");
+        return out.write_all(b"0 1 0 0 0 0 0 0 0 0\n");
     };
     let mut session = Table::from_bytes(table).map(Session::new);
     for record in records.chunks(6) {

@@ -4,7 +4,7 @@ use std::fmt;
 use std::ops::{BitAnd, BitAndAssign, BitOr, BitOrAssign};
 
 /// The flags of a start, as Android publishes them, by the conventions of the
-/// crate `bitflags`. Any of the six may be set together.
+/// crate `bitflags`. Any of the seven may be set together.
 #[derive(Clone, Copy, Default, PartialEq, Eq, Hash)]
 pub struct Flags(u32);
 
@@ -23,14 +23,17 @@ impl Flags {
     pub const REORDER_TO_FRONT: Flags = Flags(0x0002_0000);
     /// Android's `FLAG_ACTIVITY_CLEAR_TASK`.
     pub const CLEAR_TASK: Flags = Flags(0x0000_8000);
+    /// Android's `FLAG_ACTIVITY_NO_HISTORY`.
+    pub const NO_HISTORY: Flags = Flags(0x4000_0000);
 
-    const NAMED: [(&'static str, Flags); 6] = [
+    const NAMED: [(&'static str, Flags); 7] = [
         ("NEW_TASK", Flags::NEW_TASK),
         ("SINGLE_TOP", Flags::SINGLE_TOP),
         ("MULTIPLE_TASK", Flags::MULTIPLE_TASK),
         ("CLEAR_TOP", Flags::CLEAR_TOP),
         ("REORDER_TO_FRONT", Flags::REORDER_TO_FRONT),
         ("CLEAR_TASK", Flags::CLEAR_TASK),
+        ("NO_HISTORY", Flags::NO_HISTORY),
     ];
 
     /// No flag.
@@ -38,7 +41,7 @@ impl Flags {
         Flags::NONE
     }
 
-    /// All six flags.
+    /// All seven flags.
     pub const fn all() -> Flags {
         let mut word = 0;
         let mut i = 0;
@@ -49,7 +52,7 @@ impl Flags {
         Flags(word)
     }
 
-    /// The flags of a whole word, or none where it has a bit outside the six.
+    /// The flags of a whole word, or none where it has a bit outside the seven.
     pub const fn from_bits(word: u32) -> Option<Flags> {
         if word & !Flags::all().0 == 0 {
             Some(Flags(word))
@@ -59,7 +62,7 @@ impl Flags {
     }
 
     /// The flags of a whole word, as an intent or a recording holds it. With a
-    /// bit outside the six, a start is refused.
+    /// bit outside the seven, a start is refused.
     pub const fn from_bits_retain(word: u32) -> Flags {
         Flags(word)
     }

@@ -2,7 +2,7 @@
 //! length.
 
 /// The number of the interface that this file declares.
-const ABI: u32 = 3;
+const ABI: u32 = 4;
 
 /// The limits of a session: its tasks, and the screens of a task.
 const TASKS: usize = 16;
@@ -20,7 +20,8 @@ pub struct Task {
     pub screens: [u8; SCREENS],
 }
 
-/// A session: n tasks, front first, the main place, and the edition.
+/// A session: n tasks, front first, the main place, the edition, and the
+/// No-History mark.
 #[repr(C)]
 #[derive(Clone, Copy, PartialEq, Eq, Hash)]
 pub struct Session {
@@ -28,10 +29,11 @@ pub struct Session {
     pub n: u8,
     pub main: u8,
     pub edition: u8,
+    pub no_history: u8,
 }
 
 impl Session {
-    /// No task, and edition 8.
+    /// No task, edition 8, and no mark.
     pub const FRESH: Session = Session {
         tasks: [Task {
             root: 0,
@@ -41,10 +43,11 @@ impl Session {
         n: 0,
         main: 0,
         edition: 8,
+        no_history: 0,
     };
 }
 
-/// An answer: eight numbers.
+/// An answer: nine numbers.
 #[repr(C)]
 pub struct Answer {
     pub refusal: u8,
@@ -55,6 +58,7 @@ pub struct Answer {
     pub main: u8,
     pub closed: u8,
     pub edition: u8,
+    pub no_history: u8,
 }
 
 /// What a save gives.

@@ -34,7 +34,7 @@ refusals! {
     1 TableLength "table length wrong, or N not 1 to 64"
     2 TableContent "main screen not below N, or a mode above 3"
     3 NoSuchScreen "start: B not below N"
-    4 OtherFlag "start: a bit outside the six"
+    4 OtherFlag "start: a bit outside the seven"
     5 ImageTrailer "restore: under 6 bytes, last two bytes not hex 06 42, 07 42 or 08 42, or length not L + 6"
     6 ImageTasks "restore: n above 16, or the L bytes are not exactly n tasks of height 1 to 32"
     7 ImageUnsound "restore: the session read from the image is not sound under the table"

@@ -6,7 +6,7 @@ use crate::raw;
 use crate::{Edition, Flags, Reason, Refusal, Table};
 
 /// What an accepted call leaves in front, all zeros where the session is empty,
-/// how many screens it closed, and the session's edition.
+/// how many screens it closed, and the session's edition and No-History mark.
 #[derive(Clone, Copy, Debug, Default, PartialEq, Eq, Hash)]
 pub struct Answer {
     /// The front screen.
@@ -23,6 +23,9 @@ pub struct Answer {
     pub closed: u8,
     /// The session's edition after the call, Android 8.0 where it is empty.
     pub edition: Edition,
+    /// The session's No-History mark after the call, as
+    /// [`Session::no_history`] gives it.
+    pub no_history: bool,
 }
 
 impl Answer {
@@ -46,7 +49,8 @@ pub struct Task<'a> {
 /// save and why lend the library a copy.
 ///
 /// It shows its tasks, front first, as `root:[top,..,bottom]`, the main place,
-/// and its edition where that is not 8: `3:[3] 0:[1,0], m 2, edition 7`.
+/// its edition where that is not 8, and its No-History mark where it has one:
+/// `3:[3] 0:[1,0], m 2, edition 7, no history`.
 #[derive(Clone, PartialEq, Eq, Hash)]
 pub struct Session {
     table: Table,
@@ -87,6 +91,13 @@ impl Session {
         edition_of(self.stored.edition)
     }
 
+    /// The No-History mark: the front screen was pushed or made new by a start
+    /// with [`Flags::NO_HISTORY`]. The next start closes that screen, unless it
+    /// is a plain one by R7.
+    pub fn no_history(&self) -> bool {
+        self.stored.no_history != 0
+    }
+
     /// Launch: one task of the main screen alone, which is the main task. The
     /// session keeps the edition until it is empty or an image is restored.
     ///
@@ -109,7 +120,9 @@ impl Session {
     }
 
     /// Start of a screen, by the first of the rules R1 to R18 that fits in the
-    /// session's edition.
+    /// session's edition. With the No-History mark it is done as a
+    /// [`finish_start`](Session::finish_start), save where R7 fits: there
+    /// nothing changes, the mark included.
     ///
     /// # Errors
     ///
@@ -121,8 +134,8 @@ impl Session {
         outcome(raw::start(table, &mut self.stored, screen, flags.bits()))
     }
 
-    /// Finishing start: as [`start`](Session::start), and then the screen
-    /// that was in front is removed, if it still stands.
+    /// Finishing start: by the rules of a [`start`](Session::start), and then
+    /// the screen that was in front is removed, if it still stands.
     ///
     /// # Errors
     ///
@@ -145,7 +158,8 @@ impl Session {
         Reason::told(raw::why(table, &self.stored, screen, word))
     }
 
-    /// Back: the front screen goes, and its task too if that was its last.
+    /// Back: the front screen goes, and its task too if that was its last. The
+    /// No-History mark is cleared.
     ///
     /// # Errors
     ///
@@ -179,8 +193,8 @@ impl Session {
         Ok(reply.length)
     }
 
-    /// Restore: the session of a whole image, with its edition, in the place of
-    /// the present one.
+    /// Restore: the session of a whole image, with its edition and its
+    /// No-History mark, in the place of the present one.
     ///
     /// # Errors
     ///
@@ -209,6 +223,7 @@ fn outcome(answer: raw::Answer) -> Result<Answer, Refusal> {
         main: answer.main,
         closed: answer.closed,
         edition: edition_of(answer.edition),
+        no_history: answer.no_history != 0,
     })
 }
 
@@ -222,9 +237,13 @@ impl fmt::Display for Session {
         let comma = if self.tasks().len() == 0 { "" } else { ", " };
         write!(f, "{comma}m {}", self.main_place())?;
         match self.edition() {
-            Edition::Android8 => Ok(()),
-            other => write!(f, ", edition {}", other.number()),
+            Edition::Android8 => (),
+            other => write!(f, ", edition {}", other.number())?,
         }
+        if self.no_history() {
+            f.write_str(", no history")?;
+        }
+        Ok(())
     }
 }
 

@@ -14,8 +14,9 @@ const MTK: Flags = Flags::MULTIPLE_TASK;
 const CTP: Flags = Flags::CLEAR_TOP;
 const RTF: Flags = Flags::REORDER_TO_FRONT;
 const CTK: Flags = Flags::CLEAR_TASK;
+const NOH: Flags = Flags::NO_HISTORY;
 
-/// An answer in edition 8.
+/// An answer in edition 8, without a mark.
 fn answer(screen: u8, root: u8, height: u8, tasks: u8, main: u8, closed: u8) -> Answer {
     Answer {
         screen,
@@ -25,6 +26,7 @@ fn answer(screen: u8, root: u8, height: u8, tasks: u8, main: u8, closed: u8) -> 
         main,
         closed,
         edition: Edition::Android8,
+        no_history: false,
     }
 }
 
@@ -155,7 +157,7 @@ fn flags() {
     flags &= STP;
     assert!(flags.is_empty() && !CTK.is_empty());
     assert_eq!((Flags::empty(), Flags::default()), (flags, Flags::NONE));
-    assert_eq!(Flags::all(), NTK | STP | MTK | CTP | RTF | CTK);
+    assert_eq!(Flags::all(), NTK | STP | MTK | CTP | RTF | CTK | NOH);
     for bit in 0..32 {
         let word = 1 << bit;
         let known = Flags::all().contains(Flags::from_bits_retain(word));
@@ -171,6 +173,7 @@ fn flags_show_their_names() {
         (Flags::NONE, "Flags(0x0)"),
         (RTF, "Flags(REORDER_TO_FRONT)"),
         (CTK | NTK, "Flags(NEW_TASK | CLEAR_TASK)"),
+        (NOH | STP, "Flags(SINGLE_TOP | NO_HISTORY)"),
         (other, "Flags(0x41)"),
         (other | STP, "Flags(SINGLE_TOP | 0x41)"),
     ] {
@@ -185,10 +188,16 @@ fn what_a_session_holds() {
     let task = |root, screens| Task { root, screens };
     assert_eq!(tasks, [task(3, &[3]), task(0, &[0, 1])]);
     assert_eq!((p10.tasks().len(), p10.main_place()), (2, 2));
-    assert_eq!(p10.edition(), Edition::Android8);
+    assert_eq!(
+        (p10.edition(), p10.no_history()),
+        (Edition::Android8, false)
+    );
     let fresh = Session::new(table_t());
     assert_eq!((fresh.tasks().len(), fresh.main_place()), (0, 0));
-    assert_eq!(fresh.edition(), Edition::Android8);
+    assert_eq!(
+        (fresh.edition(), fresh.no_history()),
+        (Edition::Android8, false)
+    );
 }
 
 #[test]

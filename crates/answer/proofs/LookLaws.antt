@@ -30,7 +30,7 @@ answer-accepted a k e = rw e
 
 -- ---- a look
 
-look-empty : (c : Session) → c .n ≡ 0 → lookAt (view c) ≡ answerOf noTask 0 (c .main) 0 (c .edition)
+look-empty : (c : Session) → c .n ≡ 0 → lookAt (view c) ≡ answerOf noTask 0 (c .main) 0 (c .edition) (c .«no_history»)
 unfolding view lookAt
 look-empty c e = rw e
 
@@ -38,7 +38,7 @@ module _ (c : Session) (sizes : Sized c) (seen : Seen c) (n : ℕ) (is : c .n �
   abbrev front : Task
   front = getD (c .tasks) 0 noTask
 
-  look-filled : lookAt (view c) ≡ answerOf front (suc n) (c .main) 0 (c .edition)
+  look-filled : lookAt (view c) ≡ answerOf front (suc n) (c .main) 0 (c .edition) (c .«no_history»)
   unfolding lookAt view viewTask
   look-filled =
       let some : 1 ≤ c .n = omega arith in
@@ -49,17 +49,28 @@ module _ (c : Session) (sizes : Sized c) (seen : Seen c) (n : ℕ) (is : c .n �
       let r = ap (λ (u : Stack ℕ). u .root) e in
       let h = ap (λ (u : Stack ℕ). height u) e ∙ view-height front (omega arith) in
       let k = view-count c sizes (seen .few) ∙ is in
-      λ i. record { refusal = 0; screen = x i; root = r i; height = h i; tasks = k i; main = c .main; closed = 0; edition = c .edition }
+      λ i.
+      record {
+        refusal = 0;
+        screen = x i;
+        root = r i;
+        height = h i;
+        tasks = k i;
+        main = c .main;
+        closed = 0;
+        edition = c .edition;
+        «no_history» = c .«no_history»;
+      }
 
 module _ (c : Session) (sizes : Sized c) (seen : Seen c) where
   abbrev t : Task
   t = getD (c .tasks) 0 noTask
 
   -- by the front task and the numbers
-  pub look-fronted : lookAt (view c) ≡ answerOf t (c .n) (c .main) 0 (c .edition)
+  pub look-fronted : lookAt (view c) ≡ answerOf t (c .n) (c .main) 0 (c .edition) (c .«no_history»)
   look-fronted = go (c .n) refl
     where
-      go : (n : ℕ) → c .n ≡ n → lookAt (view c) ≡ answerOf t n (c .main) 0 (c .edition)
+      go : (n : ℕ) → c .n ≡ n → lookAt (view c) ≡ answerOf t n (c .main) 0 (c .edition) (c .«no_history»)
       go zero e = look-empty c e
       go (suc n) e = look-filled c sizes seen n e
 

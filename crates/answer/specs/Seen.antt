@@ -7,10 +7,12 @@ use Rattle.session.specs.declared.Task.{Task}
 use Rattle.session.specs.declared.Session.{Session}
 use Rattle.session.specs.Stored.{viewTask, noTask}
 
--- the answer of a call that closed x screens, where n tasks stand after it, t is the front one, m the main place and e the edition
-abbrev pub answerOf : Task → ℕ → ℕ → ℕ → ℕ → Answer
-answerOf t zero m x e = record { refusal = 0; screen = 0; root = 0; height = 0; tasks = 0; main = m; closed = x; edition = e }
-answerOf t (suc n) m x e =
+-- the answer of a call that closed x screens, where n tasks stand after it, t is the front one, m the main place, e the
+-- edition and h the No-History mark
+abbrev pub answerOf : Task → ℕ → ℕ → ℕ → ℕ → ℕ → Answer
+answerOf t zero m x e h =
+    record { refusal = 0; screen = 0; root = 0; height = 0; tasks = 0; main = m; closed = x; edition = e; «no_history» = h }
+answerOf t (suc n) m x e h =
     record {
       refusal = 0;
       screen = top (viewTask t);
@@ -20,6 +22,7 @@ answerOf t (suc n) m x e =
       main = m;
       closed = x;
       edition = e;
+      «no_history» = h;
     }
 
 -- there are at most 16 tasks, and the front task, where there is one, has 1 to 32 screens

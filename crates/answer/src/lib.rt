@@ -10,11 +10,11 @@ use model::Answer;
 use session::Session;
 use session::Task;
 
-// The answer of a call that closed so many screens, where n tasks stand after it, t is the front one, and the main place and the
-// edition are so: zeros for the front task where none stands.
-pub fn of_front(t: Task, n: u8, main: u8, closed: u8, edition: u8) -> Answer
+// The answer of a call that closed so many screens, where n tasks stand after it, t is the front one, and the main place, the
+// edition and the No-History mark are so: zeros for the front task where none stands.
+pub fn of_front(t: Task, n: u8, main: u8, closed: u8, edition: u8, no_history: u8) -> Answer
     requires { ⌜ (1 ≤ n → (1 ≤ t .height) × (t .height ≤ mostHeight)) ⌝ }
-    ensures { λ r. ⌜ r ≡ answerOf t n main closed edition ⌝ }
+    ensures { λ r. ⌜ r ≡ answerOf t n main closed edition «no_history» ⌝ }
 {
     if n == 0 {
         return Answer {
@@ -26,6 +26,7 @@ pub fn of_front(t: Task, n: u8, main: u8, closed: u8, edition: u8) -> Answer
             main: main,
             closed: closed,
             edition: edition,
+            no_history: no_history,
         };
     }
     Answer {
@@ -37,6 +38,7 @@ pub fn of_front(t: Task, n: u8, main: u8, closed: u8, edition: u8) -> Answer
         main: main,
         closed: closed,
         edition: edition,
+        no_history: no_history,
     }
 }
 
@@ -46,7 +48,7 @@ pub fn look_at(s: Session) -> Answer
     ensures { λ r. ⌜ r ≡ lookAt (view s) ⌝ }
 {
     let t = s.tasks[0];
-    of_front(t, s.n, s.main, 0, s.edition)
+    of_front(t, s.n, s.main, 0, s.edition, s.no_history)
 }
 
 // The answer of a refused call: its number and zeros.
@@ -62,5 +64,6 @@ pub fn refused(number: u8) -> Answer
         main: 0,
         closed: 0,
         edition: 0,
+        no_history: 0,
     }
 }

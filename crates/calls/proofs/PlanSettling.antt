@@ -11,7 +11,7 @@ use Rattle.model.specs.Refusals.{refusal}
 use Rattle.model.specs.Session.{mostTasks}
 use Rattle.model.specs.Flags.{flagsOf}
 use Rattle.model.specs.Answers.{refused}
-use Rattle.model.specs.Calls.{Call, chosen, launch, back, look, editionNamed, launched, started, finished, startChecks, roomChecks, ownChecks, closedOf, done}
+use Rattle.model.specs.Calls.{Call, chosen, launch, back, look, editionNamed, launched, started, startChecks, roomChecks, ownChecks, closedOf, done}
 use Rattle.model.proofs.RefusalLaws.{refusal-append-refused, refusal-append-passed}
 use Rattle.session.specs.declared.Session.{Session}
 use Rattle.session.specs.Stored.{view, hold, holdTask, pad, blankTask, Ready, taskBehind}
@@ -235,7 +235,7 @@ module _ (tb : List ℕ) (c : Session) (z : Sized c) (b w : ℕ) (fin : Bool) wh
 
   -- the session that it makes
   made-done : (f : Bool) → hold (made f tb c b (flagsOf w)) ≡ hold (done tb (view c) (startCall f b w))
-  unfolding done started finished
+  unfolding done started
   made-done true = refl
   made-done false = refl
 

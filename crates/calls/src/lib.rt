@@ -134,6 +134,7 @@ pub fn launch(table: &[u8], s: Session, edition: u8, shared: u8) -> Reply
     out.n = plan.n;
     out.main = plan.main;
     out.edition = plan.edition;
+    out.no_history = plan.no_history;
     Reply {
         session: plans::put(out, plan),
         answer: answer,
@@ -152,6 +153,7 @@ pub fn back(table: &[u8], s: Session, shared: u8) -> Reply
     out.n = plan.n;
     out.main = plan.main;
     out.edition = plan.edition;
+    out.no_history = plan.no_history;
     Reply {
         session: plans::put(out, plan),
         answer: answer,
@@ -175,6 +177,7 @@ pub fn start(table: &[u8], s: Session, b: u8, word: u32, shared: u8) -> Reply
     out.n = plan.n;
     out.main = plan.main;
     out.edition = plan.edition;
+    out.no_history = plan.no_history;
     Reply {
         session: plans::put(out, plan),
         answer: answer,
@@ -196,6 +199,7 @@ pub fn finish_start(table: &[u8], s: Session, b: u8, word: u32, shared: u8) -> R
     out.n = plan.n;
     out.main = plan.main;
     out.edition = plan.edition;
+    out.no_history = plan.no_history;
     Reply {
         session: plans::put(out, plan),
         answer: answer,

@@ -8,7 +8,7 @@ use native.Mathlib.Omega.{arith}
 use lib.ListN.{length, getD, set}
 use borrow.Author.Tests.{eq-eqb, ne-eqb, lt-ltb, le-ltb}
 use Rattle.model.specs.Lists.{isEmpty, omit}
-use Rattle.model.specs.Session.{Stack, stack, noStack, onScreens, height, count, mostHeight}
+use Rattle.model.specs.Session.{Stack, stack, noStack, onScreens, setNoHistory, height, count, mostHeight}
 use Rattle.model.specs.Effects.{mainWithout, withoutTask, taskLeft, close}
 use Rattle.model.proofs.Logic.{All-at}
 use Rattle.model.proofs.ListLaws.{omit-length}
@@ -16,7 +16,7 @@ use Rattle.model.proofs.Sound.{TaskSound}
 use Rattle.model.proofs.Close.{close-emptied, close-kept}
 use Rattle.session.specs.declared.Session.{Session}
 use Rattle.session.specs.declared.Task.{Task}
-use Rattle.session.specs.Stored.{view, viewTask, hold, holdTask, noTask, withTasks, popped, blankAbove, storageBlank, Ready}
+use Rattle.session.specs.Stored.{view, viewTask, hold, holdTask, noTask, withTasks, withNoHistory, popped, blankAbove, storageBlank, Ready}
 use Rattle.session.proofs.Known.{Sized}
 use Rattle.session.proofs.StoredLaws.{held, hold-viewTask, view-at, blank-few, sized-at, sound-blank, sound-view}
 use Rattle.session.proofs.SessionLaws.{hold-set}
@@ -67,25 +67,25 @@ module _ (s : Session) (z : Sized s) (k i : ℕ) (c : Closable s k i) where
       let h = inside in
       ap height (view-at s k h) ∙ blank-height t (sized-at s z k (omega arith)) (stored-blank s z (c .blank) k h)
 
-  closed-last : t .height ≡ 1 → hold (close (suc k) i (view s)) ≡ hold (withoutTask (suc k) (view s))
+  closed-last : t .height ≡ 1 → hold (close (suc k) i (view s)) ≡ hold (withoutTask (suc k) (setNoHistory 0 (view s)))
   closed-last one =
       let h = tall in
       ap hold (close-emptied (suc k) i (view s) (empty-is (omit i xs) (omega (arith, omit-length i xs (c .there .1)))))
 
   closed-kept : (t .height ≡ 1 → ⊥)
-      → hold (close (suc k) i (view s)) ≡ withTasks s (set (s .tasks) k (holdTask (stack (t .root) (omit i (viewTask t .screens)))))
-  unfolding viewTask
+      → hold (close (suc k) i (view s)) ≡ withNoHistory (withTasks s (set (s .tasks) k (holdTask (stack (t .root) (omit i (viewTask t .screens)))))) 0
+  unfolding viewTask hold
   closed-kept more =
       let h = tall in
       ap hold (close-kept (suc k) i (view s) (filled-is (omit i xs) (λ q. more (omega (arith, omit-length i xs (c .there .1))))))
-      ∙ hold-set (view s) k (taskLeft (suc k) i (view s)) (c .there .0)
-      ∙ ap₂ (λ (o : Session) (u : Stack ℕ). withTasks o (set (o .tasks) k (holdTask (onScreens (omit i) u)))) (held s z (c .blank)) (view-at s k inside)
+      ∙ ap (λ (o : Session). withNoHistory o 0) (hold-set (view s) k (taskLeft (suc k) i (view s)) (c .there .0)
+      ∙ ap₂ (λ (o : Session) (u : Stack ℕ). withTasks o (set (o .tasks) k (holdTask (onScreens (omit i) u)))) (held s z (c .blank)) (view-at s k inside))
 
   -- where the task has one screen
   pub task-there : (storageBlank s ≡ true) × (k < s .n)
   task-there = (c .blank, inside)
 
-  pub task-closed : t .height ≡ 1 → {r : Session} → r ≡ hold (withoutTask (suc k) (view s))
+  pub task-closed : t .height ≡ 1 → {r : Session} → r ≡ hold (withoutTask (suc k) (setNoHistory 0 (view s)))
       → r ≡ hold (close (suc k) i (view s))
   task-closed one e = e ∙ sym (closed-last one)
 
@@ -94,8 +94,8 @@ module _ (s : Session) (z : Sized s) (k i : ℕ) (c : Closable s k i) where
   screen-there = let h = tall in (stored-blank s z (c .blank) k inside, omega (arith, c .there .1))
 
   pub screen-closed : (t .height ≡ 1 → ⊥) → {r : Task} → r ≡ holdTask (stack (t .root) (omit i (viewTask t .screens)))
-      → withTasks s (set (s .tasks) k r) ≡ hold (close (suc k) i (view s))
-  screen-closed more e = ap (λ (u : Task). withTasks s (set (s .tasks) k u)) e ∙ sym (closed-kept more)
+      → withNoHistory (withTasks s (set (s .tasks) k r)) 0 ≡ hold (close (suc k) i (view s))
+  screen-closed more e = ap (λ (u : Task). withNoHistory (withTasks s (set (s .tasks) k u)) 0) e ∙ sym (closed-kept more)
 
 -- ---- the top screen of a task that keeps others
 
@@ -104,7 +104,7 @@ hold-first-gone r [] h l = absurd (omega arith)
 hold-first-gone r (x ∷ xs) h l = hold-popped r x xs (omega arith)
 
 pub top-closed : (s : Session) → Sized s → (k : ℕ) → Closable s k 0 → 1 < getD (s .tasks) k noTask .height
-    → hold (close (suc k) 0 (view s)) ≡ withTasks s (set (s .tasks) k (popped (getD (s .tasks) k noTask)))
+    → hold (close (suc k) 0 (view s)) ≡ withNoHistory (withTasks s (set (s .tasks) k (popped (getD (s .tasks) k noTask)))) 0
 unfolding viewTask
 top-closed s z k c more =
     let t = getD (s .tasks) k noTask in
@@ -115,7 +115,7 @@ top-closed s z k c more =
     let n = blank-height t l e in
     let low = blank-low t e in
     closed-kept s z k 0 c (λ q. omega arith)
-    ∙ ap (λ (u : Task). withTasks s (set (s .tasks) k u))
+    ∙ ap (λ (u : Task). withNoHistory (withTasks s (set (s .tasks) k u)) 0)
     (hold-first-gone (t .root) (viewTask t .screens) (omega arith) (omega arith) ∙ ap popped (hold-viewTask t l e))
 
 -- ---- Back

@@ -9,7 +9,7 @@ use borrow.Author.Tests.{le-leb, ne-eqb}
 use Rattle.model.specs.declared.Answer.{Answer}
 use Rattle.model.specs.Lists.{All}
 use Rattle.model.specs.Table.{tableRefusal}
-use Rattle.model.specs.Session.{Stack, State, front, height, fresh, mostHeight, sound}
+use Rattle.model.specs.Session.{Stack, State, onTasks, front, height, fresh, mostHeight, sound}
 use Rattle.model.specs.Answers.{outcome, refused, settle, lookAt}
 use Rattle.model.specs.Calls.{ownChecks, done, answerTo, refusalOf, call}
 use Rattle.model.specs.Player.{Record, Request, unplayable, asks, outcomeOf, recordsIn, tableIn, recordBytes}
@@ -28,7 +28,7 @@ refused-taken n = rw (ne-eqb (suc n) 0 (λ e. omega arith))
 front-low : (tb : List ℕ) (s : State ℕ) → Sound tb s → height (front s) ≤ mostHeight
 front-low tb s h = go (s .tasks) (h .each)
   where
-    go : (ts : List (Stack ℕ)) → All (TaskSound tb) ts → height (front (record { tasks = ts; main = s .main; edition = s .edition })) ≤ mostHeight
+    go : (ts : List (Stack ℕ)) → All (TaskSound tb) ts → height (front (onTasks (λ _. ts) s)) ≤ mostHeight
     go [] a = omega arith
     go (t ∷ ts) a = a .0 .low
 

@@ -30,6 +30,7 @@ fn agree(a: Answer, b: Answer) -> bool
         & (a.main == b.main)
         & (a.closed == b.closed)
         & (a.edition == b.edition)
+        & (a.no_history == b.no_history)
 }
 
 // Looks at both sessions, then does Back in both, until the answers differ or both sessions are empty.

@@ -1,5 +1,5 @@
 -- Masks and digits: a word under the mask of one bit is the digit of that weight, and under the sum of masks that have
--- no bit in common the sum of what it is under each. So the word is the six flags and what lies outside them.
+-- no bit in common the sum of what it is under each. So the word is the seven flags and what lies outside them.
 use Prim.Native.Nat.{ℕ, zero, suc, _+_, _*_, _-_, _/_, _%_, _^_, _<_, min}
 use mathlib.Core.Path.{_≡_, refl, sym, _∙_, ap, ap₂}
 use mathlib.Core.Bool.{not}
@@ -10,7 +10,7 @@ use lib.Arith.{bin-ind}
 use lib.Pow.{pow-pos}
 use lib.Bits.{bitAnd, and-step, and-high, and-mask}
 use borrow.Author.Tests.{ne-eqb}
-use Rattle.model.specs.Flags.{NTK, STP, MTK, CTP, RTF, CTK, bit, sixOf, hasOtherBit}
+use Rattle.model.specs.Flags.{NTK, STP, MTK, CTP, RTF, CTK, NOH, bit, sevenOf, hasOtherBit}
 use Rattle.model.proofs.Logic.{same-test, eqb-decides}
 
 -- ---- masks that have no bit in common
@@ -52,27 +52,29 @@ digit (suc (suc x)) p h q = absurd (omega arith)
 pub flag : (w k : ℕ) → not (eqb (bitAnd w (2 ^ (1 + k) - 2 ^ k)) 0) ≡ eqb (bit (2 ^ k) w) 1
 flag w k = rw (and-high w 1 k) (digit (bit (2 ^ k) w) (2 ^ k) (omega arith) (pow-pos k))
 
--- ---- the six and the others
+-- ---- the seven and the others
 
-abbrev SIX : ℕ
-SIX = NTK + STP + MTK + CTP + RTF + CTK
+abbrev pub SEVEN : ℕ
+SEVEN = NTK + STP + MTK + CTP + RTF + CTK + NOH
 
--- all bits but the six
+-- all bits but the seven
 abbrev OTHERS : ℕ
-OTHERS = 0xFFFFFFFF - SIX
+OTHERS = 0xFFFFFFFF - SEVEN
 
-six : (w : ℕ) → bitAnd w SIX ≡ sixOf w
-six w =
-    and-apart w (NTK + STP + MTK + CTP + RTF) CTK refl
+-- a word under the mask of the seven
+pub seven : (w : ℕ) → bitAnd w SEVEN ≡ sevenOf w
+seven w =
+    and-apart w (NTK + STP + MTK + CTP + RTF + CTK) NOH refl
+    ∙ ap₂ _+_ (and-apart w (NTK + STP + MTK + CTP + RTF) CTK refl
     ∙ ap₂ _+_ (and-apart w (NTK + STP + MTK + CTP) RTF refl
     ∙ ap₂ _+_ (and-apart w (NTK + STP + MTK) CTP refl
     ∙ ap₂ _+_ (and-apart w (NTK + STP) MTK refl
     ∙ ap₂ _+_ (and-apart w NTK STP refl
-    ∙ ap₂ _+_ (and-high w 1 28) (and-high w 1 29)) (and-high w 1 27)) (and-high w 1 26)) (and-high w 1 17)) (and-high w 1 15)
+    ∙ ap₂ _+_ (and-high w 1 28) (and-high w 1 29)) (and-high w 1 27)) (and-high w 1 26)) (and-high w 1 17)) (and-high w 1 15)) (and-high w 1 30)
 
-whole : (w : ℕ) → w < 2 ^ 32 → bitAnd w OTHERS + sixOf w ≡ w
+whole : (w : ℕ) → w < 2 ^ 32 → bitAnd w OTHERS + sevenOf w ≡ w
 whole w h =
-    ap (λ (x : ℕ). bitAnd w OTHERS + x) (sym (six w)) ∙ sym (and-apart w OTHERS SIX refl) ∙ and-mask w 32 ∙ mod-eq-of-lt h
+    ap (λ (x : ℕ). bitAnd w OTHERS + x) (sym (seven w)) ∙ sym (and-apart w OTHERS SEVEN refl) ∙ and-mask w 32 ∙ mod-eq-of-lt h
 
 none-left : {x y w : ℕ} → x + y ≡ w → x ≡ 0 → y ≡ w
 none-left e q = omega arith
@@ -80,10 +82,10 @@ none-left e q = omega arith
 all-left : {x y w : ℕ} → x + y ≡ w → y ≡ w → x ≡ 0
 all-left e q = omega arith
 
--- under the mask of the others a word is not 0 exactly where the six do not make it up
+-- under the mask of the others a word is not 0 exactly where the seven do not make it up
 pub other : (w : ℕ) → w < 2 ^ 32 → not (eqb (bitAnd w OTHERS) 0) ≡ hasOtherBit w
 unfolding hasOtherBit
 other w h =
-    let d = eqb-decides (sixOf w) w in
+    let d = eqb-decides (sevenOf w) w in
     ap not (same-test (eqb-decides (bitAnd w OTHERS) 0)
     (record { holds = λ e. all-left (whole w h) (d .holds e); shows = λ e. d .shows (none-left (whole w h) e) }))

@@ -1,4 +1,4 @@
-// The flag word of a start: its six flags, whether a bit outside them is set, and the word in a record.
+// The flag word of a start: its seven flags, whether a bit outside them is set, and the word in a record.
 
 ghost use Prim.Native.Nat.{_+_, _<_, _≤_};
 ghost use mathlib.Core.Path.{_≡_};
@@ -7,7 +7,8 @@ ghost use Rattle.model.specs.Flags.{flagsOf, hasOtherBit};
 ghost use Rattle.flags.specs.Words.{wordAt};
 use model::Flags;
 
-// The six, in hex as Android publishes them: new task, single top, multiple task, clear top, reorder to front, clear task.
+// The seven, in hex as Android publishes them: new task, single top, multiple task, clear top, reorder to front, clear task, no
+// history.
 const NTK: u32 = 0x10000000;
 
 const STP: u32 = 0x20000000;
@@ -20,10 +21,12 @@ const RTF: u32 = 0x00020000;
 
 const CTK: u32 = 0x00008000;
 
-// Any of the six may be set together.
-const SIX: u32 = NTK | STP | MTK | CTP | RTF | CTK;
+const NOH: u32 = 0x40000000;
 
-// The six flags of a word.
+// Any of the seven may be set together.
+pub const SEVEN: u32 = NTK | STP | MTK | CTP | RTF | CTK | NOH;
+
+// The seven flags of a word.
 pub fn read(word: u32) -> Flags
     ensures { λ r. ⌜ r ≡ flagsOf word ⌝ }
 {
@@ -34,14 +37,15 @@ pub fn read(word: u32) -> Flags
         ctp: word & CTP != 0,
         rtf: word & RTF != 0,
         ctk: word & CTK != 0,
+        noh: word & NOH != 0,
     }
 }
 
-// A bit outside the six is set.
+// A bit outside the seven is set.
 pub fn has_other_bit(word: u32) -> bool
     ensures { λ r. ⌜ r ≡ hasOtherBit word ⌝ }
 {
-    word & !SIX != 0
+    word & !SEVEN != 0
 }
 
 fn wide(x: u8) -> u32

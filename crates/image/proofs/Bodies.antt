@@ -9,7 +9,7 @@ use native.Mathlib.Omega.{arith}
 use lib.ListN.{length, getD, take, drop, length-append, take-append-drop}
 use lib.Seq.{take-suc, take-all}
 use Rattle.model.specs.Session.{Stack, noStack, height, count, mostHeight}
-use Rattle.model.specs.Image.{bodyOf, trailer, image}
+use Rattle.model.specs.Image.{bodyOf, mainByte, trailer, image}
 use Rattle.model.proofs.WrittenLaws.{Wrote, wrote-append}
 use Rattle.session.specs.declared.Session.{Session}
 use Rattle.session.specs.Stored.{view, viewTask, noTask, storageBlank}
@@ -49,14 +49,15 @@ module _ (c : Session) (z : Sized c) (e : storageBlank c ≡ true) where
   body-whole i k = ap bodyOf (take-all i (view c .tasks) (omega (arith, counted)))
 
   -- and the trailer behind them
-  pub image-wrote : (i : ℕ) → i ≡ c .n → {d d′ d″ : List ℕ} {at next : ℕ} → Wrote d 0 (bodyOf (take i (view c .tasks))) d′ at
-      → at ≤ length d → Wrote d′ at (trailer at (c .n) (c .main) (c .edition)) d″ next → Wrote d 0 (image (view c)) d″ next
+  pub image-wrote : (i : ℕ) → i ≡ c .n → {d d′ d″ : List ℕ} {at next x : ℕ} → Wrote d 0 (bodyOf (take i (view c .tasks))) d′ at
+      → at ≤ length d → x ≡ mainByte (c .main) (c .«no_history») → Wrote d′ at (trailer at (c .n) x (c .edition)) d″ next
+      → Wrote d 0 (image (view c)) d″ next
   unfolding image view
-  image-wrote i k {at} v fits w =
+  image-wrote i k {at} v fits e w =
       let b = bodyOf (view c .tasks) in
       let u = rw (body-whole i k) at v in
       let l : at ≡ length b = u .place ∙ zero-add (length b) in
-      rw (counted, ← l) (wrote-append u fits w)
+      rw (counted, ← l, ← e) (wrote-append u fits w)
 
   pub body-next : (i : ℕ) → i < c .n → Next c i
   body-next i h =

@@ -3,3 +3,4 @@ pub mod ReadTrailer
 pub mod ReadTask
 pub mod ReadTasks
 pub mod Bodies
+pub mod Writables

@@ -80,14 +80,14 @@ begun-none body n =
 
 module _ {body : List ℕ} {n i at : ℕ} {stored : List Task} (b : Begun body n i at stored) where
   -- where the next task cannot be read, none can
-  stops : readTasks (n - i) (drop at body) ≡ unreadable → (m v : ℕ) → unreadableContents ≡ contentsOf (readTasks n body) m v
-  stops e m v = rw (b .rest, e, onto-unreadable (b .tasks))
+  stops : readTasks (n - i) (drop at body) ≡ unreadable → (m v x : ℕ) → unreadableContents ≡ contentsOf (readTasks n body) m v x
+  stops e m v x = rw (b .rest, e, onto-unreadable (b .tasks))
 
   module _ (l : i < n) where
     left : n - i ≡ suc (n - (i + 1))
     left = omega arith
 
-    pub begun-cut : length body - at < 2 → (m v : ℕ) → unreadableContents ≡ contentsOf (readTasks n body) m v
+    pub begun-cut : length body - at < 2 → (m v x : ℕ) → unreadableContents ≡ contentsOf (readTasks n body) m v x
     begun-cut short = stops (ap (λ (k : ℕ). readTasks k (drop at body)) left ∙ read-cut (n - (i + 1)) (drop at body) (omega (arith, length-drop at body)))
 
     module _ (whole : at + 2 ≤ length body) (h : ℕ) (e : getD body (at + 1) 0 ≡ h) where
@@ -95,7 +95,7 @@ module _ {body : List ℕ} {n i at : ℕ} {stored : List Task} (b : Begun body n
           ≡ (if heightFits h (length body - at - 2) then readMore (taskIn body at h) (readTasks (n - (i + 1)) (drop (at + (2 + h)) body)) else unreadable)
       next = ap (λ (k : ℕ). readTasks k (drop at body)) left ∙ read-next (n - (i + 1)) body at whole h e
 
-      pub begun-unfit : heightFits h (length body - at - 2) ≡ false → (m v : ℕ) → unreadableContents ≡ contentsOf (readTasks n body) m v
+      pub begun-unfit : heightFits h (length body - at - 2) ≡ false → (m v x : ℕ) → unreadableContents ≡ contentsOf (readTasks n body) m v x
       begun-unfit f = stops (rw f at next)
 
       pub begun-more : n ≤ mostTasks → heightFits h (length body - at - 2) ≡ true → (u : Task) → u ≡ holdTask (taskIn body at (getD body (at + 1) 0))
@@ -117,14 +117,14 @@ module _ {body : List ℕ} {n i at : ℕ} {stored : List Task} (b : Begun body n
     ended : n - i ≡ 0
     ended = omega arith
 
-    pub begun-over : at < length body → (m v : ℕ) → unreadableContents ≡ contentsOf (readTasks n body) m v
+    pub begun-over : at < length body → (m v x : ℕ) → unreadableContents ≡ contentsOf (readTasks n body) m v x
     unfolding readTasks
     begun-over l = stops (rw (ended, drop-cons body at 0 l))
 
-    pub begun-end : at ≡ length body → i ≡ n → (m v : ℕ)
-        → contents true (record { tasks = stored; n = n; main = m; edition = v }) ≡ contentsOf (readTasks n body) m v
+    pub begun-end : at ≡ length body → i ≡ n → (m v x : ℕ)
+        → contents true (record { tasks = stored; n = n; main = m; edition = v; «no_history» = x }) ≡ contentsOf (readTasks n body) m v x
     unfolding readTasks hold
-    begun-end e k m v =
+    begun-end e k m v x =
         let r : readTasks n body ≡ readAs (b .tasks) =
         b .rest ∙ ap (readOnto (b .tasks)) (rw (ended, e, drop-length body)) ∙ onto-end (b .tasks) in
-        rw r (λ j. contents true (record { tasks = b .kept j; n = sym (b .many ∙ k) j; main = m; edition = v }))
+        rw r (λ j. contents true (record { tasks = b .kept j; n = sym (b .many ∙ k) j; main = m; edition = v; «no_history» = x }))

@@ -1,5 +1,5 @@
 -- The trailer's bytes by their places in the image, and what is read where n is above 16 or not.
-use Prim.Native.Nat.{ℕ, _+_, _-_, _*_, _≤_, _<_}
+use Prim.Native.Nat.{ℕ, _+_, _-_, _*_, _/_, _%_, _≤_, _<_}
 use mathlib.Core.Path.{_≡_, refl}
 use mathlib.Core.Bool.{true, false, _&&_}
 use mathlib.Core.List.{List}
@@ -46,14 +46,16 @@ module _ (bytes : List ℕ) where
   read-many h = rw (trailer-at bytes 2, lt-leb (getD bytes (end bytes + 2) 0) mostTasks h)
 
   pub read-few : getD bytes (end bytes + 2) 0 ≤ mostTasks
-      → contentsOf (readTasks (getD bytes (end bytes + 2) 0) (bodyIn bytes)) (getD bytes (end bytes + 3) 0) (getD bytes (end bytes + 4) 0)
+      → contentsOf (readTasks (getD bytes (end bytes + 2) 0) (bodyIn bytes)) (getD bytes (end bytes + 3) 0 % 128) (getD bytes (end bytes + 4) 0)
+      (getD bytes (end bytes + 3) 0 / 128)
       ≡ readStored bytes
   unfolding readStored imageReadable sessionIn
   read-few h =
       rw (trailer-at bytes 2, trailer-at bytes 3, trailer-at bytes 4, le-leb (getD bytes (end bytes + 2) 0) mostTasks h)
-      (go (readTasks (getD bytes (end bytes + 2) 0) (bodyIn bytes)) (getD bytes (end bytes + 3) 0) (getD bytes (end bytes + 4) 0))
+      (go (readTasks (getD bytes (end bytes + 2) 0) (bodyIn bytes)) (getD bytes (end bytes + 3) 0 % 128) (getD bytes (end bytes + 4) 0)
+      (getD bytes (end bytes + 3) 0 / 128))
     where
-      go : (q : Reading) (m e : ℕ)
-          → contentsOf q m e ≡ contents (isReadable q) (if isReadable q then hold (state (tasksRead q) m e) else freshSession)
-      go unreadable m e = refl
-      go (readAs ts) m e = refl
+      go : (q : Reading) (m e h : ℕ)
+          → contentsOf q m e h ≡ contents (isReadable q) (if isReadable q then hold (state (tasksRead q) m e h) else freshSession)
+      go unreadable m e h = refl
+      go (readAs ts) m e h = refl

@@ -20,10 +20,10 @@ taskIn bytes at h = stack (getD bytes at 0) (take h (drop (at + 2) bytes))
 abbrev pub unreadableContents : Contents
 unreadableContents = contents false freshSession
 
--- the tasks that were read, with the main place m and the edition e
-abbrev pub contentsOf : Reading → ℕ → ℕ → Contents
-contentsOf unreadable m e = unreadableContents
-contentsOf (readAs ts) m e = contents true (hold (state ts m e))
+-- the tasks that were read, with the main place m, the edition e and the No-History mark h
+abbrev pub contentsOf : Reading → ℕ → ℕ → ℕ → Contents
+contentsOf unreadable m e h = unreadableContents
+contentsOf (readAs ts) m e h = contents true (hold (state ts m e h))
 
 -- not 6, and "the session read from the image"; a fresh one where 6 applies
 unfoldable pub readStored : List ℕ → Contents

@@ -8,10 +8,11 @@ ghost use lib.Dec.{eqb};
 ghost use mathlib.Core.List.{[], _∷_, _++_};
 ghost use lib.ListN.{length, drop};
 ghost use Rattle.model.specs.Session.{mostTasks, mostHeight, isEdition};
-ghost use Rattle.model.specs.Image.{bodyOf, trailer, image, imageShaped, readTasks};
+ghost use Rattle.model.specs.Image.{bodyOf, mainByte, trailer, image, imageShaped, readTasks};
 ghost use Rattle.model.specs.Written.{written};
 ghost use Rattle.session.specs.Stored.{view, viewTask, storageBlank, holdTask};
 ghost use Rattle.image.specs.Readings.{taskIn, unreadableContents, contentsOf, readStored};
+ghost use Rattle.image.specs.Writable.{Writable};
 use session::Session;
 use session::Task;
 
@@ -71,7 +72,15 @@ fn write_task(out: &mut [u8], at: usize, t: Task) -> usize
     write_screens(out, at + 2, t)
 }
 
-// Writes the trailer behind `at` bytes. Yields the place after it.
+// The byte of the main place, with the No-History mark for its bit 7.
+fn main_byte(main: u8, no_history: u8) -> u8
+    requires { ⌜ (main < 128) × («no_history» ≤ 1) ⌝ }
+    ensures { λ r. ⌜ r ≡ mainByte main «no_history» ⌝ }
+{
+    main + 128 * no_history
+}
+
+// Writes the trailer behind `at` bytes; main is the byte of the main place. Yields the place after it.
 fn write_trailer(out: &mut [u8], at: usize, n: u8, main: u8, edition: u8) -> usize
     requires { ⌜ (at < 65536) × ((at + 6 ≤ length (now out)) × (isEdition edition ≡ true)) ⌝ }
     ensures place { λ r. ⌜ r ≡ at + 6 ⌝ }
@@ -89,7 +98,7 @@ fn write_trailer(out: &mut [u8], at: usize, n: u8, main: u8, edition: u8) -> usi
 
 // Writes a session's image at the start of a lent buffer; the bytes beyond it stay. Yields its length.
 pub fn write(s: Session, out: &mut [u8]) -> usize
-    requires { ⌜ (storageBlank s ≡ true) × ((length (image (view s)) ≤ length (now out)) × (isEdition (s .edition) ≡ true)) ⌝ }
+    requires { ⌜ Writable s × (length (image (view s)) ≤ length (now out)) ⌝ }
     ensures length { λ r. ⌜ r ≡ length (image (view s)) ⌝ }
     ensures bytes { λ r. ⌜ now (out .exit) ≡ image (view s) ++ drop (length (image (view s))) (now (out .entry)) ⌝ }
 {
@@ -101,7 +110,7 @@ pub fn write(s: Session, out: &mut [u8]) -> usize
         at = write_task(out, at, t);
         i += 1;
     }
-    write_trailer(out, at, s.n, s.main, s.edition)
+    write_trailer(out, at, s.n, main_byte(s.main, s.no_history), s.edition)
 }
 
 // ---- reading
@@ -167,9 +176,9 @@ fn read_task(body: &[u8], at: usize, height: u8) -> Task
 }
 
 // The session that the body is of: exactly n tasks of height 1 to 32, front first.
-fn read_tasks(body: &[u8], n: u8, main: u8, edition: u8) -> Contents
+fn read_tasks(body: &[u8], n: u8, main: u8, edition: u8, no_history: u8) -> Contents
     requires { ⌜ n ≤ mostTasks ⌝ }
-    ensures { λ r. ⌜ r ≡ contentsOf (readTasks n (now (body .entry))) main edition ⌝ }
+    ensures { λ r. ⌜ r ≡ contentsOf (readTasks n (now (body .entry))) main edition «no_history» ⌝ }
 {
     let mut s = Session::fresh();
     let mut at: usize = 0;
@@ -196,23 +205,25 @@ fn read_tasks(body: &[u8], n: u8, main: u8, edition: u8) -> Contents
     s.n = n;
     s.main = main;
     s.edition = edition;
+    s.no_history = no_history;
     Contents {
         readable: true,
         session: s,
     }
 }
 
-// Reads an image: n tasks, 16 at most, the main place and the edition.
+// Reads an image: n tasks, 16 at most, the main place, the edition and the No-History mark.
 pub fn read(image: &[u8]) -> Contents
     requires { ⌜ imageShaped (now image) ≡ true ⌝ }
     ensures { λ r. ⌜ r ≡ readStored (now (image .entry)) ⌝ }
 {
     let end = image.len() - 6;
     let n = image[end + 2];
-    let main = image[end + 3];
+    let main = image[end + 3] % 128;
+    let no_history = image[end + 3] / 128;
     let edition = image[end + 4];
     if wide(n) > Session::TASKS {
         return unreadable();
     }
-    read_tasks(&image[..end], n, main, edition)
+    read_tasks(&image[..end], n, main, edition, no_history)
 }

@@ -11,6 +11,7 @@ ghost use Rattle.image_calls.specs.StoredSaves.{saved, saveStored, BroughtBack,
 ghost use Rattle.model.specs.Reasons.{noReason, FitsFirst, IsFoundAt};
 ghost use Rattle.model.specs.Affinity.{AffinityZero};
 ghost use Rattle.model.specs.Editions.{EditionSeeks};
+ghost use Rattle.model.specs.NoHistory.{MarksBy, withoutNoHistory};
 ghost use Rattle.session.specs.Stored.{view};
 ghost use Rattle.reasons.specs.StoredReasons.{whyStored, CarriesOut};
 ghost use Rattle.navigator.specs.Promise3.{KeepsPromise3};
@@ -25,7 +26,7 @@ use tally::Report;
 use tally::Tally;
 
 // The number of this interface; bindings/abi has its structs and signatures.
-const ABI: u32 = 3;
+const ABI: u32 = 4;
 
 // The library's own number, for callers who compare it with that of their header.
 #[no_mangle]
@@ -112,6 +113,8 @@ pub extern "C" fn milchkompass_why(table: &[u8], s: Session, b: u8, word: u32) -
     ensures carries { λ r. ⌜ (r .refusal ≡ 0 → CarriesOut (now (table .entry)) s b word r) ⌝ }
     ensures affinity { λ r. ⌜ (r .refusal ≡ 0 → AffinityZero (now (table .entry)) (view s) b r) ⌝ }
     ensures edition { λ r. ⌜ (r .refusal ≡ 0 → EditionSeeks (now (table .entry)) (view s) b r) ⌝ }
+    ensures mark { λ r. ⌜ (r .refusal ≡ 0 → MarksBy (now (table .entry)) (view s) b word r) ⌝ }
+    ensures bit { λ r. ⌜ r ≡ whyStored (now (table .entry)) s b (withoutNoHistory word) ⌝ }
 {
     navigator::why(table, s, b, word)
 }

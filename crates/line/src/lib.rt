@@ -68,5 +68,6 @@ pub fn write_line(out: &mut [u8], at: usize, kind: u8, a: Answer) -> usize
 {
     let height = write_four(out, at, kind, a.refusal, a.screen, a.root);
     let edition = write_four(out, height, a.height, a.tasks, a.main, a.closed);
-    put(out, edition, a.edition, b'\n')
+    let no_history = put(out, edition, a.edition, b' ');
+    put(out, no_history, a.no_history, b'\n')
 }

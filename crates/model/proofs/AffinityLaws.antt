@@ -14,9 +14,9 @@ use Rattle.model.specs.Table.{isSingleTask, isSingleInstance}
 use Rattle.model.specs.Session.{Stack, State, noStack, taskAt}
 use Rattle.model.specs.Flags.{flagsOf}
 use Rattle.model.specs.Search.{hasRoot, seekRoot, seeksByRoot, seek}
-use Rattle.model.specs.Rules.{rulesOf, isApart, groupOf, soughtBy, fits, chooseIn, choose}
+use Rattle.model.specs.Rules.{numberOf, rulesOf, isApart, groupOf, soughtBy, fits, chooseIn, choose}
 use Rattle.model.specs.Calls.{chosen}
-use Rattle.model.specs.Reasons.{numberOf, reasonOf}
+use Rattle.model.specs.Reasons.{reasonOf}
 use Rattle.model.specs.Affinity.{seeksTask, AffinityZero}
 use Rattle.model.proofs.Logic.{if-elim, Each, first-elim, never, contradiction}
 use Rattle.model.proofs.SearchLaws.{HasRoot, HasAffinity, FirstTask, NoTask, FindsByRoot, Finds, root-decides, find-first, find-nowhere, seekRoot-exact, seek-exact}

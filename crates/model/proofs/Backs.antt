@@ -81,6 +81,7 @@ empty : (tb : List ℕ) (s : State ℕ) → Sound tb s → count s ≡ 0 → s �
 empty tb s h e =
     let z : s .main ≡ 0 = omega (arith, h .place .most) in
     same-fields (none (s .tasks) e) z (sym (h .edition .kept) ∙ ap (λ (n : ℕ). editionKept n (s .edition)) e)
+    (omega (arith, h .noHistory .stands))
   where
     none : (ts : List (Stack ℕ)) → length ts ≡ 0 → ts ≡ []
     none [] e = refl
@@ -99,7 +100,7 @@ module _ (s s′ : State ℕ) (r r′ x x′ : ℕ) (ts ts′ : List (Stack ℕ)
   front-tells [] [] q e =
       same-fields
       (cons-tasks (ap (λ (a : Answer). a .root) q) (ap (λ (a : Answer). a .screen ∷ []) q) (ap (λ (s : State ℕ). s .tasks) e))
-      (ap (λ (a : Answer). a .main) q) (ap (λ (a : Answer). a .edition) q)
+      (ap (λ (a : Answer). a .main) q) (ap (λ (a : Answer). a .edition) q) (ap (λ (a : Answer). a .«no_history») q)
   front-tells [] (y′ ∷ ys′) q e = let h : 1 ≡ suc (suc (length ys′)) = ap (λ (a : Answer). a .height) q in absurd (omega arith)
   front-tells (y ∷ ys) [] q e = let h : suc (suc (length ys)) ≡ 1 = ap (λ (a : Answer). a .height) q in absurd (omega arith)
   front-tells (y ∷ ys) (y′ ∷ ys′) q e =
@@ -108,7 +109,7 @@ module _ (s s′ : State ℕ) (r r′ x x′ : ℕ) (ts ts′ : List (Stack ℕ)
       (cons-tasks (ap (λ (a : Answer). a .root) q)
       (ap₂ _∷_ (ap (λ (a : Answer). a .screen) q) (ap (λ (u : Stack ℕ). u .screens) (head-eq-of-cons-eq us)))
       (tail-eq-of-cons-eq us))
-      (ap (λ (a : Answer). a .main) q) (ap (λ (a : Answer). a .edition) q)
+      (ap (λ (a : Answer). a .main) q) (ap (λ (a : Answer). a .edition) q) (ap (λ (a : Answer). a .«no_history») q)
 
 module _ (tb : List ℕ) (s t : State ℕ) (h : Sound tb s) (k : Sound tb t) (q : lookAt s ≡ lookAt t) where
   same-count : count s ≡ count t

@@ -2,7 +2,7 @@
 -- of an effect, of the marked screen, of a call, of a list.
 use Prim.Native.Nat.{ℕ, zero, suc, pred, _+_, _-_, _≤_}
 use mathlib.Core.Path.{_≡_, refl, ap}
-use mathlib.Core.Bool.{true, not, _&&_}
+use mathlib.Core.Bool.{Bool, true, false, not, _&&_}
 use mathlib.Core.List.{List, [], _∷_}
 use native.Mathlib.Omega.{arith}
 use lib.Dec.{leb, eqb}
@@ -21,7 +21,7 @@ use Rattle.model.specs.Effects.{changed, carryOut}
 use Rattle.model.specs.Counts.{createdIn, createdBy, closedIn, closedBy}
 use Rattle.model.specs.Answers.{outcome, settle}
 use Rattle.model.specs.Image.{Reading, unreadable, readAs, readMore, readTasks, tasksRead, countIn, bodyIn, sessionIn}
-use Rattle.model.specs.Calls.{Call, launch, start, finishingStart, back, look, restore, chosen, effectIn, startedBy, started, finishedBy, finished, launched, backed, ownChecks, createdByChoice, closedByChoice, closedByFinish, createdOf, closedOf, done, refusalOf, answerTo, call}
+use Rattle.model.specs.Calls.{Call, launch, start, finishingStart, back, look, restore, chosen, effectIn, startedBy, started, finishedBy, callerCloses, startedWith, closedWith, launched, backed, ownChecks, createdByChoice, closedByChoice, closedByFinish, createdOf, closedOf, done, refusalOf, answerTo, call}
 use Rattle.model.specs.Marks.{closeAt, closedAt, Stands}
 use Rattle.model.specs.Histories.{byRules, IsNoRestore}
 use Rattle.model.specs.Balance.{ifAccepted, created, ScreensBalance}
@@ -32,7 +32,7 @@ use Rattle.model.proofs.Measures.{measure, carry-measure, close-measure
 use Rattle.model.proofs.Sound.{TaskSound, Sound}
 use Rattle.model.proofs.Effects.{Suits, Ready}
 use Rattle.model.proofs.Start.{choose-ready, start-accepted}
-use Rattle.model.proofs.Finish.{markOf, finished-by, finished-closes, marked-stands}
+use Rattle.model.proofs.Finish.{markOf, finished-by, finished-closes, marked-stands, created-effect}
 use Rattle.model.proofs.Keeps.{refusal-own, settled, fresh-sound, call-sound}
 use Rattle.model.proofs.HistoryLaws.{sum-answers, along-measure}
 
@@ -98,14 +98,22 @@ module _ (tb : List ℕ) (s : State ℕ) (h : Sound tb s) where
       rw (finished-by tb b (flagsOf w) s h some, finished-closes tb b (flagsOf w) s h some)
       (omega (arith, k, start-standing b w some))
 
+  -- whether the caller closes or not
+  with-standing : (closes : Bool) (b w : ℕ) → 1 ≤ count s
+      → let c = chosen tb s b w in
+      standing (startedWith closes (effectIn s c) (placeOf (c .found)) b s) + closedWith closes c b s ≡ standing s + createdByChoice c s
+  with-standing true b w some = finish-standing b w some
+  with-standing false b w some = start-standing b w some
+
   done-standing : (c : Call) → IsNoRestore c → refusal (ownChecks tb s c) ≡ 0
       → standing (done tb s c) + closedOf tb s c ≡ standing s + createdOf tb s c
-  unfolding done ownChecks createdOf closedOf launched started finished backed
+  unfolding done ownChecks createdOf closedOf launched started backed
   done-standing (launch v) made e =
       let z = no-screens (s .tasks) (not-false _ (refusal-skip 21 (not (isEmpty (s .tasks))) _ e .0)) in
       omega (arith, z)
-  done-standing (start b w) made e = start-standing b w (start-accepted tb s b w e .some)
-  done-standing (finishingStart b w) made e = finish-standing b w (start-accepted tb s b w e .some)
+  done-standing (start b w) made e = with-standing (callerCloses false (s .noHistory) (chosen tb s b w .rule)) b w (start-accepted tb s b w e .some)
+  done-standing (finishingStart b w) made e =
+      with-standing (callerCloses true (s .noHistory) (chosen tb s b w .rule)) b w (start-accepted tb s b w e .some)
   done-standing back made e =
       let some = isEmpty-length (s .tasks) (refusal-skip 20 (isEmpty (s .tasks)) [] e .0) in
       let k = closed-standing (Mark.Stands 0 0) s (some, All-at (TaskSound tb) (s .tasks) 0 noStack some (h .each) .filled) in
@@ -123,20 +131,6 @@ mostBrought (finishingStart b w) = 1
 mostBrought back = 1
 mostBrought look = 1
 mostBrought (restore bytes) = length bytes
-
-created-change : (c : Change) → createdIn c ≤ 1
-unfolding createdIn
-created-change Change.Keep = omega arith
-created-change Change.Renew = omega arith
-created-change Change.Clear = omega arith
-created-change Change.Lift = omega arith
-created-change Change.Push = omega arith
-
-created-effect : (d : Effect) → createdBy d ≤ 1
-unfolding createdBy
-created-effect Effect.New = omega arith
-created-effect (Effect.InFront c) = created-change c
-created-effect (Effect.MoveAnd c) = created-change c
 
 created-one : (tb : List ℕ) (s : State ℕ) (c : Call) → createdOf tb s c ≤ 1
 unfolding createdOf

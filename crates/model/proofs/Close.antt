@@ -11,23 +11,23 @@ use lib.Seq.{map-set-same}
 use borrow.Author.Tests.{eqb-false, ltb-true, ltb-false}
 use Rattle.model.specs.Lists.{isEmpty, omit, Pairwise}
 use Rattle.model.specs.Table.{sizeOf, rootsOnce}
-use Rattle.model.specs.Session.{Stack, State, noStack, onScreens, onTasks, taskAt, isEdition, editionKept}
+use Rattle.model.specs.Session.{Stack, State, noStack, onScreens, onTasks, setNoHistory, taskAt, isEdition, editionKept}
 use Rattle.model.specs.Effects.{mainWithout, withoutTask, taskLeft, close}
 use Rattle.model.specs.Calls.{backed}
 use Rattle.model.proofs.Logic.{if-elim, All-at}
 use Rattle.model.proofs.ListLaws.{All-omit, All-set, Pairwise-of-map, Pairwise-omit, Pairwise-to-map, isEmpty-length, omit-before, omit-behind, omit-inside, omit-length, omit-length-le}
-use Rattle.model.proofs.Sound.{TaskSound, RootsDiffer, MainSound, EditionSound, Sound, Plain}
+use Rattle.model.proofs.Sound.{TaskSound, RootsDiffer, MainSound, EditionSound, NoHistorySound, Sound, Plain}
 
 -- ---- the two ways of closing
 
 module _ {A : Type 0} (p i : ℕ) (s : State A) where
   -- the task loses its last screen, and goes
-  pub close-emptied : isEmpty (taskLeft p i s .screens) ≡ true → close p i s ≡ withoutTask p s
+  pub close-emptied : isEmpty (taskLeft p i s .screens) ≡ true → close p i s ≡ withoutTask p (setNoHistory 0 s)
   unfolding close
   close-emptied e = rw e
 
   -- other screens stay in the task
-  pub close-kept : isEmpty (taskLeft p i s .screens) ≡ false → close p i s ≡ onTasks (λ ts. set ts (pred p) (taskLeft p i s)) s
+  pub close-kept : isEmpty (taskLeft p i s .screens) ≡ false → close p i s ≡ onTasks (λ ts. set ts (pred p) (taskLeft p i s)) (setNoHistory 0 s)
   unfolding close
   close-kept e = rw e
 
@@ -70,6 +70,12 @@ unfolding isEdition
 kept-edition zero e h = record { known = refl; kept = refl }
 kept-edition (suc n) e h = record { known = h; kept = refl }
 
+-- ---- the No-History mark
+
+-- none is sound in any session
+pub no-mark : (n : ℕ) → NoHistorySound n 0
+no-mark n = record { isMark = zero-le; stands = zero-le }
+
 -- ---- soundness
 
 omit-lone : (i r : ℕ) → isEmpty (omit i (r ∷ [])) ≡ false → omit i (r ∷ []) ≡ r ∷ []
@@ -109,7 +115,7 @@ module _ (tb : List ℕ) where
       before (suc n) l h = follows-main tb ts (omit k ts) n (suc n) (omit-inside k (suc n) ts l (h .most)) (omit-before noStack k n ts l) h
 
   module _ (k i : ℕ) (s : State ℕ) (h : Sound tb s) where
-    emptied-sound : Sound tb (withoutTask (suc k) s)
+    emptied-sound : Sound tb (withoutTask (suc k) (setNoHistory 0 s))
     emptied-sound =
         record {
           few = le-trans (omit-length-le k (s .tasks)) (h .few);
@@ -117,12 +123,13 @@ module _ (tb : List ℕ) where
           pairs = Pairwise-omit (RootsDiffer tb) k (s .tasks) (h .pairs);
           place = without-main k (s .main) (s .tasks) (h .place);
           edition = kept-edition (length (omit k (s .tasks))) (s .edition) (h .edition .known);
+          noHistory = no-mark (length (omit k (s .tasks)));
         }
 
     abbrev left : Stack ℕ
     left = taskLeft (suc k) i s
 
-    kept-sound : isEmpty (left .screens) ≡ false → Sound tb (onTasks (λ ts. set ts k left) s)
+    kept-sound : isEmpty (left .screens) ≡ false → Sound tb (onTasks (λ ts. set ts k left) (setNoHistory 0 s))
     kept-sound e =
         record {
           few = rw (length-set (s .tasks) k left) (h .few);
@@ -132,6 +139,7 @@ module _ (tb : List ℕ) where
           pairs = same-roots-pairs tb (s .tasks) ts (sym same) (h .pairs);
           place = same-roots-main tb (s .tasks) ts (sym same) (s .main) (h .place);
           edition = rw (length-set (s .tasks) k left) (h .edition);
+          noHistory = no-mark (length (set (s .tasks) k left));
         }
       where
         ts : List (Stack ℕ)

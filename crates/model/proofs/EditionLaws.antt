@@ -18,19 +18,19 @@ use Rattle.model.specs.Table.{isSingleTask, isSingleInstance, tableRefus
 use Rattle.model.specs.Session.{State, onTasks, count, editionKept}
 use Rattle.model.specs.Flags.{flagsOf}
 use Rattle.model.specs.Search.{isFoundByRoot, placeOf, seekRoot, seeksByRoot, seek}
-use Rattle.model.specs.Rules.{rulesOf, isApart, groupOf, soughtBy, fits, chooseIn, choose}
+use Rattle.model.specs.Rules.{numberOf, rulesOf, isApart, groupOf, soughtBy, fits, chooseIn, choose}
 use Rattle.model.specs.Effects.{move, changeFront, putNew, carryOut, taskLeft, close}
 use Rattle.model.specs.Answers.{outcome, settle}
-use Rattle.model.specs.Calls.{Call, launch, start, finishingStart, back, look, restore, chosen, effectIn, startedBy, started, finished, backed, ownChecks, done, answerTo, call}
+use Rattle.model.specs.Calls.{Call, launch, start, finishingStart, back, look, restore, chosen, effectIn, startedBy, callerCloses, startedWith, started, backed, startChecks, ownChecks, done, answerTo, call}
 use Rattle.model.specs.Marks.{closeAt}
-use Rattle.model.specs.Reasons.{numberOf, howFound, reasonOf}
+use Rattle.model.specs.Reasons.{howFound, reasonOf}
 use Rattle.model.specs.Editions.{EditionSeeks, EditionKept, NamesNoEdition, EditionsApart}
 use Rattle.model.proofs.Logic.{if-elim, first-elim, never, contradiction, and-left}
 use Rattle.model.proofs.SearchLaws.{FindsByRoot, Finds, seekRoot-exact, seek-exact}
 use Rattle.model.proofs.Sound.{Sound, sound-decides}
 use Rattle.model.proofs.Close.{close-emptied, close-kept}
-use Rattle.model.proofs.Start.{start-accepted, started-sound}
-use Rattle.model.proofs.Finish.{markOf, finished-by}
+use Rattle.model.proofs.Start.{start-accepted}
+use Rattle.model.proofs.Finish.{markOf, finished-by, with-sound}
 use Rattle.model.proofs.Keeps.{settled, call-sound}
 use Rattle.model.proofs.ImageLaws.{image-injective}
 
@@ -167,19 +167,27 @@ module _ (tb : List ℕ) (ok : tableRefusal tb ≡ 0) (s : State ℕ) (h : Sound
   started-edition : (b w : ℕ) → startedBy (chosen tb s b w) b s .edition ≡ s .edition
   started-edition b w = let c = chosen tb s b w in carried-edition b (effectIn s c) (placeOf (c .found)) s
 
-  finished-edition : (b w : ℕ) → refusal (ownChecks tb s (finishingStart b w)) ≡ 0 → Sound tb (finished tb s b w)
-      → EditionKept s (finished tb s b w)
-  unfolding finished ownChecks
-  finished-edition b w e =
+  -- whether the caller closes or not
+  with-edition : (closes : Bool) (b w : ℕ) → refusal (startChecks tb s b w) ≡ 0
+      → let c = chosen tb s b w in
+      Sound tb (startedWith closes (effectIn s c) (placeOf (c .found)) b s) → EditionKept s (startedWith closes (effectIn s c) (placeOf (c .found)) b s)
+  with-edition true b w e =
       let c = chosen tb s b w in
       rw (finished-by tb b (flagsOf w) s h (start-accepted tb s b w e .some))
       (λ k. close-at-edition tb (markOf c b s) (startedBy c b s) k ∙ ap (editionKept (count (closeAt (markOf c b s) (startedBy c b s)))) (started-edition b w))
+  with-edition false b w e = λ k. same-edition tb s _ k (started-edition b w)
+
+  start-kept : (finishing : Bool) (b w : ℕ) → refusal (startChecks tb s b w) ≡ 0 → EditionKept s (started finishing tb s b w)
+  unfolding started
+  start-kept finishing b w e =
+      let x = callerCloses finishing (s .noHistory) (chosen tb s b w .rule) in
+      with-edition x b w e (with-sound tb finishing s b w h e x)
 
   done-edition : (c : Call) → NamesNoEdition c → refusal (ownChecks tb s c) ≡ 0 → Sound tb (done tb s c) → EditionKept s (done tb s c)
-  unfolding done started backed
+  unfolding done backed ownChecks
   done-edition (launch e) n r k = absurd n
-  done-edition (start b w) n r k = same-edition tb s _ k (started-edition b w)
-  done-edition (finishingStart b w) n r k = finished-edition b w r k
+  done-edition (start b w) n r k = start-kept false b w r
+  done-edition (finishingStart b w) n r k = start-kept true b w r
   done-edition back n r k = closed-edition tb 0 0 s k
   done-edition look n r k = same-edition tb s s k refl
   done-edition (restore bytes) n r k = absurd n

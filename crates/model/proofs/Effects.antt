@@ -103,6 +103,7 @@ module _ (tb : List ℕ) where
         pairs = Pairwise-toFront (RootsDiffer tb) differ-flip k (s .tasks) (h .pairs);
         place = moved-main k (s .main) (s .tasks) (l .1) (h .place);
         edition = rw (toFront-length k (s .tasks)) (h .edition);
+        noHistory = rw (toFront-length k (s .tasks)) (h .noHistory);
       }
 
   -- ---- a change of the front task's screens
@@ -118,6 +119,7 @@ module _ (tb : List ℕ) where
         pairs = same-roots-pairs tb (s .tasks) (onFirst change (s .tasks)) (same (s .tasks)) (h .pairs);
         place = same-roots-main tb (s .tasks) (onFirst change (s .tasks)) (same (s .tasks)) (s .main) (h .place);
         edition = rw (onFirst-length change (s .tasks)) (h .edition);
+        noHistory = rw (onFirst-length change (s .tasks)) (h .noHistory);
       }
     where
       change : Stack ℕ → Stack ℕ
@@ -185,6 +187,7 @@ module _ (tb : List ℕ) where
           pairs = (r, h .pairs);
           place = further-main (s .main) (h .place);
           edition = kept-edition (suc (count s)) (s .edition) (h .edition .known);
+          noHistory = record { isMark = h .noHistory .isMark; stands = omega (arith, h .noHistory .stands) };
         }
       where
         further-main : (m : ℕ) → MainSound tb (s .tasks) m → MainSound tb (stack b (b ∷ []) ∷ s .tasks) (further m)

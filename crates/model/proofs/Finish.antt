@@ -1,7 +1,8 @@
--- A finishing start on a sound session: the start, and then the screen at the mark's position closes, if it stands.
--- So a finishing start keeps a session sound.
-use Prim.Native.Nat.{ℕ, zero, suc, _≤_}
-use mathlib.Core.Path.{_≡_}
+-- A finishing start on a sound session: the rule, and then the screen at the mark's position closes, if it stands. So every start
+-- keeps a session sound; and where it leaves a No-History mark, a screen stands.
+use Prim.Native.Nat.{ℕ, zero, suc, pred, _≤_, zero-le}
+use mathlib.Core.Path.{_≡_, refl, _∙_}
+use mathlib.Core.Bool.{Bool, true, false, not, _&&_, _||_}
 use mathlib.Core.List.{List, [], _∷_}
 use native.Mathlib.Nat.{not-suc-le-zero}
 use native.Mathlib.Omega.{arith}
@@ -12,20 +13,24 @@ use Rattle.model.specs.declared.Choice.{Choice}
 use Rattle.model.specs.declared.Effect.{Effect}
 use Rattle.model.specs.declared.Flags.{Flags}
 use Rattle.model.specs.declared.Mark.{Mark}
+use Rattle.model.specs.Lists.{if_then_else_, toFront}
 use Rattle.model.specs.Refusals.{refusal}
-use Rattle.model.specs.Session.{Stack, State, stack, taskAt, front, frontScreen, count}
+use Rattle.model.specs.Session.{Stack, State, stack, onScreens, setNoHistory, taskAt, front, frontScreen, count}
 use Rattle.model.specs.Flags.{flagsOf}
 use Rattle.model.specs.Search.{placeOf}
-use Rattle.model.specs.Rules.{choose}
-use Rattle.model.specs.Calls.{chosen, effectIn, startedBy, started, markFront, startMarked, finishedBy, finished, startChecks, closedMarked}
+use Rattle.model.specs.Rules.{isR7, choose}
+use Rattle.model.specs.Effects.{move, changed, changeFront, putNew, carryOut}
+use Rattle.model.specs.Counts.{createdIn, createdBy}
+use Rattle.model.specs.Calls.{chosen, effectIn, startedBy, markFront, startMarked, finishedBy, callerCloses, startedWith, noHistoryAfter, started, startChecks, closedMarked}
 use Rattle.model.specs.Marks.{markAfter, closeAt, closedAt, Stands}
 use Rattle.model.proofs.Sessions.{withTasks}
-use Rattle.model.proofs.Sound.{Sound}
-use Rattle.model.proofs.Close.{close-sound}
+use Rattle.model.proofs.ListLaws.{toFront-length, onFirst-length}
+use Rattle.model.proofs.Sound.{NoHistorySound, Sound}
+use Rattle.model.proofs.Close.{no-mark, close-sound}
 use Rattle.model.proofs.Effects.{Suits, Ready}
 use Rattle.model.proofs.Marks.{AbleIn, Able, finished-carry, closed-carry}
-use Rattle.model.proofs.MarkStands.{mark-stands}
-use Rattle.model.proofs.Start.{choose-ready, start-accepted, started-sound}
+use Rattle.model.proofs.MarkStands.{mark-stands, created-stays}
+use Rattle.model.proofs.Start.{choose-ready, start-accepted, carried-sound}
 
 module _ (tb : List ℕ) (b : ℕ) where
   suits-able : (c : Change) (t : Stack ℕ) → Suits tb b c t → AbleIn c b (t .screens)
@@ -91,12 +96,98 @@ module _ (tb : List ℕ) (b : ℕ) (f : Flags) where
       let c = choose tb v b f in
       mark-stands o b r x xs ts (effectIn v c) (placeOf (c .found)) a) s (s .tasks) h l
 
+  -- what the start pushed or made new stays
+  pub created-some : (s : State ℕ) → Sound tb s → 1 ≤ count s → createdBy (effectIn s (choose tb s b f)) ≡ 1
+      → 1 ≤ count (closeAt (markOf (choose tb s b f) b s) (startedBy (choose tb s b f) b s))
+  created-some s h l =
+      in-session (λ s. createdBy (effectIn s (choose tb s b f)) ≡ 1 → 1 ≤ count (closeAt (markOf (choose tb s b f) b s) (startedBy (choose tb s b f) b s)))
+      (λ o r x xs ts a.
+      let v = withTasks o (stack r (x ∷ xs) ∷ ts) in
+      let c = choose tb v b f in
+      created-stays o b r x xs ts (effectIn v c) (placeOf (c .found)) a) s (s .tasks) h l
+
+-- ---- screens created
+
+created-change : (c : Change) → createdIn c ≤ 1
+unfolding createdIn
+created-change Change.Keep = omega arith
+created-change Change.Renew = omega arith
+created-change Change.Clear = omega arith
+created-change Change.Lift = omega arith
+created-change Change.Push = omega arith
+
+-- an effect creates one screen or none
+pub created-effect : (d : Effect) → createdBy d ≤ 1
+unfolding createdBy
+created-effect Effect.New = omega arith
+created-effect (Effect.InFront c) = created-change c
+created-effect (Effect.MoveAnd c) = created-change c
+
+-- ---- soundness
+
 close-at-sound : (tb : List ℕ) (k : Mark) (s : State ℕ) → Sound tb s → Sound tb (closeAt k s)
 close-at-sound tb Mark.Gone s h = h
 close-at-sound tb (Mark.Stands k i) s h = close-sound tb k i s h
 
-pub finished-sound : (tb : List ℕ) (s : State ℕ) (b w : ℕ) → Sound tb s → refusal (startChecks tb s b w) ≡ 0 → Sound tb (finished tb s b w)
-unfolding finished started
-finished-sound tb s b w h e =
-    rw (finished-by tb b (flagsOf w) s h (start-accepted tb s b w e .some))
-    (close-at-sound tb (markOf (chosen tb s b w) b s) (startedBy (chosen tb s b w) b s) (started-sound tb s b w h e))
+-- another mark, where it is one and a task stands
+marked-sound : (tb : List ℕ) (h : ℕ) (s : State ℕ) → Sound tb s → NoHistorySound (count s) h → Sound tb (setNoHistory h s)
+marked-sound tb h s k m =
+    record { few = k .few; each = k .each; pairs = k .pairs; place = k .place; edition = k .edition; noHistory = m }
+
+some-carried : (b : ℕ) (d : Effect) (p : ℕ) (s : State ℕ) → 1 ≤ count s → 1 ≤ count (carryOut (eqb b) b b d p s)
+unfolding carryOut putNew changeFront move
+some-carried b Effect.New p s l = omega arith
+some-carried b (Effect.InFront c) p s l = rw (onFirst-length (onScreens (changed (eqb b) b c)) (s .tasks)) l
+some-carried b (Effect.MoveAnd c) p s l =
+    rw (onFirst-length (onScreens (changed (eqb b) b c)) (toFront (pred p) (s .tasks)), toFront-length (pred p) (s .tasks)) l
+
+module _ (tb : List ℕ) (finishing : Bool) (s : State ℕ) (b w : ℕ) (h : Sound tb s) (e : refusal (startChecks tb s b w) ≡ 0) where
+  abbrev c : Choice
+  c = chosen tb s b w
+
+  abbrev d : Effect
+  d = effectIn s (chosen tb s b w)
+
+  some : 1 ≤ count s
+  some = start-accepted tb s b w e .some
+
+  -- the rule, and the removal where the caller closes, without the mark
+  pub with-sound : (closes : Bool) → Sound tb (startedWith closes d (placeOf (c .found)) b s)
+  with-sound true =
+      rw (finished-by tb b (flagsOf w) s h some) (close-at-sound tb (markOf c b s) (startedBy c b s) (carried-sound tb s b w h e))
+  with-sound false = carried-sound tb s b w h e
+
+  with-some : (closes : Bool) → createdBy d ≡ 1 → 1 ≤ count (startedWith closes d (placeOf (c .found)) b s)
+  with-some true k = rw (finished-by tb b (flagsOf w) s h some) (created-some tb b (flagsOf w) s h some k)
+  with-some false k = some-carried b d (placeOf (c .found)) s some
+
+  -- the mark that a start leaves: the caller of a plain start by R7 does not close
+  mark-left : NoHistorySound (count (startedWith (callerCloses finishing (s .noHistory) (c .rule)) d (placeOf (c .found)) b s))
+      (noHistoryAfter finishing (s .noHistory) (flagsOf w .noh) (c .rule) d)
+  unfolding callerCloses noHistoryAfter
+  mark-left = go finishing (isR7 (c .rule)) (flagsOf w .noh) (createdBy d) refl (created-effect d)
+    where
+      no-caller : (x : Bool) → (x && false) ≡ false
+      no-caller true = refl
+      no-caller false = refl
+
+      created : (n m : ℕ) → n ≤ 1 → (n ≡ 1 → 1 ≤ m) → n ≤ m
+      created zero m l k = zero-le
+      created (suc zero) m l k = k refl
+      created (suc (suc n)) m l k = absurd (omega arith)
+
+      go : (f r noh : Bool) (n : ℕ) → createdBy d ≡ n → n ≤ 1
+          → NoHistorySound (count (startedWith (f || (eqb (s .noHistory) 1 && not r)) d (placeOf (c .found)) b s)) (if not f && r then s .noHistory else if noh then n else 0)
+      go false true noh n k l =
+          rw (no-caller (eqb (s .noHistory) 1))
+          (record { isMark = h .noHistory .isMark; stands = omega (arith, h .noHistory .isMark, some-carried b d (placeOf (c .found)) s some) })
+      go true r true n k l = record { isMark = l; stands = created n _ l (λ m. with-some true (k ∙ m)) }
+      go true r false n k l = no-mark _
+      go false false true n k l = record { isMark = l; stands = created n _ l (λ m. with-some (eqb (s .noHistory) 1 && true) (k ∙ m)) }
+      go false false false n k l = no-mark _
+
+pub started-sound : (tb : List ℕ) (finishing : Bool) (s : State ℕ) (b w : ℕ)
+    → Sound tb s → refusal (startChecks tb s b w) ≡ 0 → Sound tb (started finishing tb s b w)
+unfolding started
+started-sound tb finishing s b w h e =
+    marked-sound tb _ _ (with-sound tb finishing s b w h e (callerCloses finishing (s .noHistory) (chosen tb s b w .rule))) (mark-left tb finishing s b w h e)

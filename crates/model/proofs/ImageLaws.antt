@@ -14,7 +14,7 @@ use Rattle.model.specs.Lists.{if_then_else_, All}
 use Rattle.model.specs.Refusals.{refusal}
 use Rattle.model.specs.Table.{sizeOf, mostScreens, tableShaped, tableChecks, tableRefusal}
 use Rattle.model.specs.Session.{Stack, State, stack, height, count, mostTasks, mostHeight, isEdition, sound}
-use Rattle.model.specs.Image.{bodyOf, trailer, image, longestImage, bodyIn, trailerIn, lengthIn, countIn, mainIn, editionIn, imageShaped, Reading, unreadable, readAs, readMore, readTasks, isReadable, tasksRead, imageReadable, sessionIn, imageChecks}
+use Rattle.model.specs.Image.{bodyOf, mainByte, trailer, image, longestImage, bodyIn, trailerIn, lengthIn, countIn, mainByteIn, mainIn, noHistoryIn, editionIn, imageShaped, Reading, unreadable, readAs, readMore, readTasks, isReadable, tasksRead, imageReadable, sessionIn, imageChecks}
 use Rattle.model.specs.Histories.{IsByte}
 use Rattle.model.specs.Promises.{ImagesExact}
 use Rattle.model.proofs.Logic.{and-decides, leb-decides, eqb-decides, self-decides, and-right, All-map}
@@ -59,7 +59,7 @@ module _ (s : State ℕ) where
   body = bodyOf (s .tasks)
 
   abbrev end : List ℕ
-  end = trailer (length (bodyOf (s .tasks))) (count s) (s .main) (s .edition)
+  end = trailer (length (bodyOf (s .tasks))) (count s) (mainByte (s .main) (s .noHistory)) (s .edition)
 
   pub image-length : length (image s) ≡ length body + 6
   unfolding image
@@ -92,9 +92,16 @@ module _ (s : State ℕ) where
     unfolding imageReadable
     image-readable = rw (image-read, image-end, le-leb (count s) mostTasks (h .few))
 
+    -- m is below 128, so its byte is read as m and the mark
+    main-low : mainByte (s .main) (s .noHistory) % 128 ≡ s .main
+    main-low = omega (arith, h .few, h .place .most)
+
+    mark-high : mainByte (s .main) (s .noHistory) / 128 ≡ s .noHistory
+    mark-high = omega (arith, h .few, h .place .most)
+
     image-session : sessionIn (image s) ≡ s
     unfolding sessionIn
-    image-session = rw (image-read, image-end)
+    image-session = rw (image-read, image-end, main-low, mark-high)
 
 -- ---- what is accepted is the image of what is read
 
@@ -160,7 +167,7 @@ module _ (bytes : List ℕ) (small : All IsByte bytes) (shaped : imageShaped byt
       body-read (countIn bytes) (bodyIn bytes)
       (and-right (leb (countIn bytes) mostTasks) (isReadable (readTasks (countIn bytes) (bodyIn bytes))) readable)
 
-  trailer-read : trailer (length (bodyIn bytes)) (countIn bytes) (mainIn bytes) (editionIn bytes) ≡ trailerIn bytes
+  trailer-read : trailer (length (bodyIn bytes)) (countIn bytes) (mainByteIn bytes) (editionIn bytes) ≡ trailerIn bytes
   trailer-read =
       let short : length bytes - 6 ≤ length bytes = omega arith in
       let named : lengthIn bytes ≡ length (bodyIn bytes) = omega (arith, length-take-le (length bytes - 6) bytes short, shape .1 .1) in
@@ -168,9 +175,9 @@ module _ (bytes : List ℕ) (small : All IsByte bytes) (shaped : imageShaped byt
       trailer-is (trailerIn bytes) (length (bodyIn bytes)) whole (shape .1 .0 .1) named
       (byte-at (trailerIn bytes) (All-drop IsByte (length bytes - 6) bytes small) 1)
 
-  main-read : sessionIn bytes .main ≡ mainIn bytes
+  main-read : mainByte (sessionIn bytes .main) (sessionIn bytes .noHistory) ≡ mainByteIn bytes
   unfolding sessionIn
-  main-read = refl
+  main-read = omega arith
 
   edition-read : sessionIn bytes .edition ≡ editionIn bytes
   unfolding sessionIn
@@ -251,7 +258,7 @@ image-bytes tb ok s h =
     let high : IsByte (length (body s) / 256) = omega (arith, length-append (body s) (end s)) in
     let low : IsByte (length (body s) % 256) = omega arith in
     let n : IsByte (count s) = omega (arith, h .few) in
-    let m : IsByte (s .main) = omega (arith, h .few, h .place .most) in
+    let m : IsByte (mainByte (s .main) (s .noHistory)) = omega (arith, h .few, h .place .most, h .noHistory .isMark) in
     let v : IsByte (s .edition) = omega (arith, edition-between (s .edition) (h .edition .known) .1) in
     All-append IsByte (body s) (end s) (body-bytes tb (few-screens tb ok) (s .tasks) (h .each))
     (high, (low, (n, (m, (v, (omega arith, tt))))))

@@ -1,7 +1,7 @@
 -- Every call keeps a session sound, and so does every list of calls.
 use Prim.Native.Nat.{ℕ, zero, suc, _<_, zero-le}
 use mathlib.Core.Path.{_≡_, refl, ap}
-use mathlib.Core.Bool.{true, not}
+use mathlib.Core.Bool.{true, false, not}
 use mathlib.Core.List.{List, [], _∷_}
 use native.Mathlib.Omega.{arith}
 use borrow.Author.Tests.{ltb-true, not-false}
@@ -16,10 +16,9 @@ use Rattle.model.specs.Histories.{after, byRules}
 use Rattle.model.proofs.Logic.{and-left}
 use Rattle.model.proofs.RefusalLaws.{refusal-skip, checks-own}
 use Rattle.model.proofs.Sound.{Sound, sound-decides}
-use Rattle.model.proofs.Close.{no-main, backed-sound}
+use Rattle.model.proofs.Close.{no-main, no-mark, backed-sound}
 use Rattle.model.proofs.Effects.{new-task-sound}
-use Rattle.model.proofs.Start.{started-sound}
-use Rattle.model.proofs.Finish.{finished-sound}
+use Rattle.model.proofs.Finish.{started-sound}
 
 -- ---- what is known of a good table and of an accepted image
 
@@ -55,7 +54,7 @@ settled tb ok s h c = ap (λ (k : ℕ). settle outcome k s (done tb s c) (answer
 
 pub fresh-sound : (tb : List ℕ) → Sound tb fresh
 unfolding isEdition
-fresh-sound tb = record { few = zero-le; each = tt; pairs = tt; place = no-main tb []; edition = record { known = refl; kept = refl } }
+fresh-sound tb = record { few = zero-le; each = tt; pairs = tt; place = no-main tb []; edition = record { known = refl; kept = refl }; noHistory = no-mark 0 }
 
 -- of an edition that a launch accepts
 pub launched-sound : (tb : List ℕ) → tableRefusal tb ≡ 0 → (e : ℕ) → isEdition (editionNamed e) ≡ true → Sound tb (launched tb e)
@@ -67,6 +66,7 @@ launched-sound tb ok e known =
       pairs = (tt, tt);
       place = record { most = omega arith; root = λ l. refl };
       edition = record { known = known; kept = refl };
+      noHistory = no-mark 1;
     }
 
 -- what a launch that is not refused is given
@@ -79,8 +79,8 @@ module _ (tb : List ℕ) (ok : tableRefusal tb ≡ 0) where
   pub done-sound : (s : State ℕ) → Sound tb s → (c : Call) → refusal (ownChecks tb s c) ≡ 0 → Sound tb (done tb s c)
   unfolding done ownChecks
   done-sound s h (launch v) e = launched-sound tb ok v (launch-edition s v e)
-  done-sound s h (start b w) e = started-sound tb s b w h e
-  done-sound s h (finishingStart b w) e = finished-sound tb s b w h e
+  done-sound s h (start b w) e = started-sound tb false s b w h e
+  done-sound s h (finishingStart b w) e = started-sound tb true s b w h e
   done-sound s h back e = backed-sound tb s h
   done-sound s h look e = h
   done-sound s h (restore bytes) e = sound-decides tb (sessionIn bytes) .holds (restored-sound tb bytes e)

@@ -25,6 +25,7 @@ pub mod Balance
 pub mod Backs
 pub mod ImageLaws
 pub mod EditionLaws
+pub mod NoHistoryLaws
 pub mod Same
 pub mod Promise3
 pub mod Cases

@@ -1,4 +1,5 @@
--- After a start the mark's position is one at which a screen stands: code may close it.
+-- After a start the mark's position is one at which a screen stands: code may close it. And what the start pushed or made new
+-- stays.
 use Prim.Native.Nat.{ℕ, zero, suc, pred, _≤_}
 use mathlib.Core.Path.{_≡_, refl}
 use mathlib.Core.Bool.{Bool, true, false, false≢true}
@@ -6,17 +7,19 @@ use mathlib.Core.List.{List, [], _∷_}
 use native.Mathlib.Nat.{not-suc-le-zero}
 use native.Mathlib.Omega.{arith}
 use lib.Dec.{eqb}
-use lib.ListN.{length}
+use lib.ListN.{length, set, length-set}
 use borrow.Author.Tests.{lt-leb}
 use Rattle.model.specs.declared.Change.{Change}
 use Rattle.model.specs.declared.Effect.{Effect}
 use Rattle.model.specs.declared.Mark.{Mark}
-use Rattle.model.specs.Lists.{find, putSecond, toFront}
-use Rattle.model.specs.Session.{Stack, State, stack}
+use Rattle.model.specs.Lists.{isEmpty, find, omit, putSecond, toFront}
+use Rattle.model.specs.Session.{Stack, State, stack, onScreens, onTasks, setNoHistory, count}
 use Rattle.model.specs.Search.{holds}
-use Rattle.model.specs.Effects.{move, changed, changeFront, putNew, carryOut}
-use Rattle.model.specs.Marks.{markIn, markAfter, Stands}
-use Rattle.model.proofs.ListLaws.{toFront-length}
+use Rattle.model.specs.Effects.{move, changed, changeFront, putNew, carryOut, withoutTask, taskLeft, close}
+use Rattle.model.specs.Counts.{createdIn, createdBy}
+use Rattle.model.specs.Marks.{markIn, markAfter, closeAt, Stands}
+use Rattle.model.proofs.Logic.{if-elim}
+use Rattle.model.proofs.ListLaws.{toFront-length, onFirst-length}
 use Rattle.model.proofs.Sessions.{withTasks}
 use Rattle.model.proofs.Marks.{AbleIn, Able}
 
@@ -58,3 +61,44 @@ module _ (s : State ℕ) (b r x : ℕ) (xs : List ℕ) (ts : List (Stack ℕ)) w
   mark-stands (Effect.MoveAnd c) (suc zero) h = in-front (move 1 s) c (eqb b x) refl (h .1 (omega arith))
   mark-stands (Effect.MoveAnd c) (suc (suc k)) h =
       rw (lt-leb (suc (suc k)) 1 (omega arith)) (behind (move (suc (suc k)) s) c (toFront k ts) (omega (arith, toFront-length k ts, h .0)))
+
+-- ---- what is pushed or made new stays
+
+omit-most : {A : Type 0} (i : ℕ) (xs : List A) → length xs ≤ suc (length (omit i xs))
+omit-most i [] = omega arith
+omit-most zero (x ∷ xs) = omega arith
+omit-most (suc i) (x ∷ xs) = omega (arith, omit-most i xs)
+
+-- where two tasks stood and a screen closed, one stands
+two-left : (k i : ℕ) (s : State ℕ) → 2 ≤ count s → 1 ≤ count (close (suc k) i s)
+unfolding close
+two-left k i s l =
+    if-elim (λ u. 1 ≤ count u) (isEmpty (taskLeft (suc k) i s .screens)) (withoutTask (suc k) (setNoHistory 0 s))
+    (onTasks (λ ts. set ts k (taskLeft (suc k) i s)) (setNoHistory 0 s)) (λ e. omega (arith, omit-most k (s .tasks)))
+    (λ e. rw (length-set (s .tasks) k (taskLeft (suc k) i s)) (omega arith))
+
+module _ (s : State ℕ) (b r x : ℕ) (xs : List ℕ) (ts : List (Stack ℕ)) where
+  created-in-front : (o : State ℕ) (c : Change) (same : Bool) → createdIn c ≡ 1
+      → 1 ≤ count (closeAt (markIn c same) (withTasks o (stack r (changed (eqb b) b c (x ∷ xs)) ∷ ts)))
+  unfolding changed createdIn close
+  created-in-front o Change.Keep same e = absurd (omega arith)
+  created-in-front o Change.Renew same e = omega arith
+  created-in-front o Change.Clear same e = absurd (omega arith)
+  created-in-front o Change.Lift same e = absurd (omega arith)
+  created-in-front o Change.Push same e = omega arith
+
+  -- a task stands after a start that created a screen, though its caller closed
+  pub created-stays : (d : Effect) (p : ℕ) → Able d p b (before s b r x xs ts) → createdBy d ≡ 1
+      → 1 ≤ count (closeAt (markAfter d p (eqb b x)) (carryOut (eqb b) b b d p (before s b r x xs ts)))
+  unfolding carryOut putNew changeFront move createdBy
+  created-stays Effect.New p h e = two-left 1 0 _ (omega arith)
+  created-stays (Effect.InFront c) p h e = created-in-front s c (eqb b x) e
+  created-stays (Effect.MoveAnd c) zero h e = created-in-front (move 0 s) c (eqb b x) e
+  created-stays (Effect.MoveAnd c) (suc zero) h e = created-in-front (move 1 s) c (eqb b x) e
+  created-stays (Effect.MoveAnd c) (suc (suc k)) h e =
+      rw (lt-leb (suc (suc k)) 1 (omega arith))
+      (two-left 1 0 _ (rw (onFirst-length (onScreens (changed (eqb b) b c)) (putSecond (stack r (x ∷ xs)) (toFront k ts))) (two (toFront k ts) (omega (arith, toFront-length k ts, h .0)))))
+    where
+      two : (us : List (Stack ℕ)) → 1 ≤ length us → 2 ≤ length (putSecond (stack r (x ∷ xs)) us)
+      two [] l = absurd (not-suc-le-zero l)
+      two (u ∷ us) l = omega arith

@@ -14,7 +14,7 @@ use Rattle.model.specs.declared.Change.{Change}
 use Rattle.model.specs.declared.Effect.{Effect}
 use Rattle.model.specs.declared.Mark.{Mark}
 use Rattle.model.specs.Lists.{if_then_else_, isEmpty, isPlace, further, find, omit, putSecond, toFront, All}
-use Rattle.model.specs.Session.{Stack, State, stack, noStack, onScreens, onTasks, taskAt, front, count}
+use Rattle.model.specs.Session.{Stack, State, stack, noStack, onScreens, onTasks, setNoHistory, taskAt, front, count}
 use Rattle.model.specs.Search.{holds}
 use Rattle.model.specs.Effects.{move, changed, changeFront, putNew, carryOut, withoutTask, taskLeft, close}
 use Rattle.model.specs.Calls.{Marked, unmarked, mapScreens, mapState, markFront, placeOfMark, closeMarked, closedMarked}
@@ -33,8 +33,9 @@ module _ {A B : Type 0} (f : A → B) where
       rw (List·getD-map (mapScreens f) (s .tasks) (pred p) noStack, ← (map-omit f i (t .screens)), isEmpty-map f (omit i (t .screens)))
       (go (isEmpty (omit i (t .screens))))
     where
-      go : (b : Bool) → mapState f (if b then withoutTask p s else onTasks (λ ts. set ts (pred p) (taskLeft p i s)) s)
-          ≡ (if b then withoutTask p (mapState f s) else onTasks (λ ts. set ts (pred p) (mapScreens f (taskLeft p i s))) (mapState f s))
+      go : (b : Bool) → mapState f (if b then withoutTask p (setNoHistory 0 s) else onTasks (λ ts. set ts (pred p) (taskLeft p i s)) (setNoHistory 0 s))
+          ≡ (if b then withoutTask p (setNoHistory 0 (mapState f s))
+          else onTasks (λ ts. set ts (pred p) (mapScreens f (taskLeft p i s))) (setNoHistory 0 (mapState f s)))
       go true = rw (← (map-omit (mapScreens f) (pred p) (s .tasks)), length-map (omit (pred p) (s .tasks)) (mapScreens f))
       go false = rw (map-set (mapScreens f) (pred p) (taskLeft p i s) (s .tasks))
 

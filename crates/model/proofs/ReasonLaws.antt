@@ -2,15 +2,16 @@
 -- search gives, and carrying the rule out there is the start.
 use Prim.Native.Nat.{ℕ}
 use mathlib.Core.Path.{_≡_, refl, _∙_, ap}
+use mathlib.Core.Bool.{false}
 use mathlib.Core.List.{List}
 use Rattle.model.specs.declared.Rule.{Rule}
 use Rattle.model.specs.Lists.{FirstFit}
 use Rattle.model.specs.Session.{State}
 use Rattle.model.specs.Flags.{flagsOf}
 use Rattle.model.specs.Search.{placeOf}
-use Rattle.model.specs.Rules.{rulesOf, fits, chooseIn, choose}
+use Rattle.model.specs.Rules.{numberOf, rulesOf, fits, chooseIn, choose}
 use Rattle.model.specs.Calls.{chosen, started}
-use Rattle.model.specs.Reasons.{numberOf, howFound, ruleNumbered, groupSelected, taskSought, FitsFirst, IsFoundAt, carriedBy}
+use Rattle.model.specs.Reasons.{howFound, ruleNumbered, groupSelected, taskSought, FitsFirst, IsFoundAt, carriedBy}
 use Rattle.model.proofs.RuleLaws.{choose-first}
 
 -- each rule has its number
@@ -53,6 +54,6 @@ module _ (tb : List ℕ) (s : State ℕ) (b w : ℕ) where
   found-at p h = record { place = p ∙ ap placeOf found-sought; how = h ∙ ap howFound found-sought }
 
   pub carried-started : {n p : ℕ} → n ≡ numberOf (chosen tb s b w .rule) → p ≡ placeOf (chosen tb s b w .found)
-      → started tb s b w ≡ carriedBy s b w (ruleNumbered n) p
+      → started false tb s b w ≡ carriedBy s b w (ruleNumbered n) p
   unfolding started carriedBy
   carried-started e f = rw (e, f, rule-numbered (chosen tb s b w .rule))

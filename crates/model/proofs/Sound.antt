@@ -10,7 +10,7 @@ use lib.Dec.{leb, ltb, eqb}
 use borrow.Author.Tests.{ne-eqb}
 use Rattle.model.specs.Lists.{if_then_else_, all, pairwise, All, Pairwise}
 use Rattle.model.specs.Table.{sizeOf, mainScreen, isSingleInstance, rootsOnce}
-use Rattle.model.specs.Session.{Stack, State, taskAt, height, count, isAlone, heightFits, screensKnown, instanceAlone, taskSound, rootsDiffer, mainSound, editionSound, sound, mostTasks, mostHeight, isEdition, editionKept}
+use Rattle.model.specs.Session.{Stack, State, taskAt, height, count, isAlone, heightFits, screensKnown, instanceAlone, taskSound, rootsDiffer, mainSound, editionSound, noHistorySound, sound, mostTasks, mostHeight, isEdition, editionKept}
 use Rattle.model.proofs.Logic.{Decides, and-decides, not-decides, leb-decides, ltb-decides, eqb-decides, self-decides, false-decides, all-decides, pairwise-decides}
 
 -- not single-instance
@@ -37,12 +37,17 @@ pub record EditionSound (n e : ℕ) : Type 0 where
   pub known : isEdition e ≡ true
   pub kept : editionKept n e ≡ e
 
+pub record NoHistorySound (n h : ℕ) : Type 0 where
+  pub isMark : h ≤ 1
+  pub stands : h ≤ n
+
 pub record Sound (tb : List ℕ) (s : State ℕ) : Type 0 where
   pub few : count s ≤ mostTasks
   pub each : All (TaskSound tb) (s .tasks)
   pub pairs : Pairwise (RootsDiffer tb) (s .tasks)
   pub place : MainSound tb (s .tasks) (s .main)
   pub edition : EditionSound (count s) (s .edition)
+  pub noHistory : NoHistorySound (count s) (s .noHistory)
 
 alone-decides : (r : ℕ) (xs : List ℕ) → Decides (isAlone r xs) (xs ≡ r ∷ [])
 alone-decides r [] = record { holds = λ h. absurd (false≢true h); shows = λ h. absurd (nil≢cons h) }
@@ -120,24 +125,32 @@ module _ (tb : List ℕ) where
       d : Decides (isEdition e && eqb (editionKept n e) e) ((isEdition e ≡ true) × (editionKept n e ≡ e))
       d = and-decides (self-decides (isEdition e)) (eqb-decides (editionKept n e) e)
 
+  no-history-decides : (n h : ℕ) → Decides (noHistorySound n h) (NoHistorySound n h)
+  unfolding noHistorySound
+  no-history-decides n h =
+      record { holds = λ e. let r = d .holds e in record { isMark = r .0; stands = r .1 }; shows = λ k. d .shows (k .isMark, k .stands) }
+    where
+      d : Decides (leb h 1 && leb h n) ((h ≤ 1) × (h ≤ n))
+      d = and-decides (leb-decides h 1) (leb-decides h n)
+
   pub sound-decides : (s : State ℕ) → Decides (sound tb s) (Sound tb s)
   unfolding sound
   sound-decides s =
       record {
         holds = λ h.
             let r = d .holds h in
-            record { few = r .0 .0 .0; each = r .0 .0 .1; pairs = r .0 .1 .0; place = r .0 .1 .1; edition = r .1 };
-        shows = λ k. d .shows (((k .few, k .each), (k .pairs, k .place)), k .edition);
+            record { few = r .0 .0 .0; each = r .0 .0 .1; pairs = r .0 .1 .0; place = r .0 .1 .1; edition = r .1 .0; noHistory = r .1 .1 };
+        shows = λ k. d .shows (((k .few, k .each), (k .pairs, k .place)), (k .edition, k .noHistory));
       }
     where
       d : Decides
           (((leb (count s) mostTasks && all (taskSound tb) (s .tasks))
           && (pairwise (rootsDiffer tb) (s .tasks) && mainSound tb (s .tasks) (s .main)))
-          && editionSound (count s) (s .edition))
+          && (editionSound (count s) (s .edition) && noHistorySound (count s) (s .noHistory)))
           ((((count s ≤ mostTasks) × All (TaskSound tb) (s .tasks)) × (Pairwise (RootsDiffer tb) (s .tasks) × MainSound tb (s .tasks) (s .main)))
-          × EditionSound (count s) (s .edition))
+          × (EditionSound (count s) (s .edition) × NoHistorySound (count s) (s .noHistory)))
       d =
           and-decides
           (and-decides (and-decides (leb-decides (count s) mostTasks) (all-decides task-decides (s .tasks)))
           (and-decides (pairwise-decides differ-decides (s .tasks)) (main-decides (s .tasks) (s .main))))
-          (edition-decides (count s) (s .edition))
+          (and-decides (edition-decides (count s) (s .edition)) (no-history-decides (count s) (s .noHistory)))

@@ -20,7 +20,7 @@ use Rattle.model.specs.Flags.{flagsOf, hasOtherBit}
 use Rattle.model.specs.Search.{placeOf, isFound, isFoundByRoot, hasRoot, hasAffinity, seekRoot, seekAffinity, seeksByRoot, seek, holds}
 use Rattle.model.specs.Rules.{rulesOf, isApart, groupOf, soughtBy, taskFound, fits, chooseIn, choose}
 use Rattle.model.specs.Effects.{effectOf, reordered}
-use Rattle.model.specs.Calls.{chosen, effectIn, started, startChecks, makesTask, overfills}
+use Rattle.model.specs.Calls.{chosen, effectIn, startedBy, startChecks, makesTask, overfills}
 use Rattle.model.proofs.Logic.{All-map, All-of, All-at, if-elim, first-elim, never, contradiction, and-left, and-right, and-false-right, or-false-right, or-true-left}
 use Rattle.model.proofs.ListLaws.{found-at, found-none, find-none, isEmpty-length}
 use Rattle.model.proofs.RefusalLaws.{refusal-skip}
@@ -216,7 +216,7 @@ module _ (tb : List ℕ) (s : State ℕ) (b w : ℕ) where
   -- what is known of a start that is not refused
   pub record Accepted : Type 0 where
     pub known : b < sizeOf tb
-    pub sixOnly : hasOtherBit w ≡ false
+    pub sevenOnly : hasOtherBit w ≡ false
     pub some : 1 ≤ count s
     pub taskFits : (makesTask (effectIn s (chosen tb s b w)) && eqb (count s) mostTasks) ≡ false
     pub screenFits : overfills (effectIn s (chosen tb s b w)) (placeOf (chosen tb s b w .found)) s ≡ false
@@ -230,16 +230,16 @@ module _ (tb : List ℕ) (s : State ℕ) (b w : ℕ) where
       let c₂₄ = refusal-skip 23 _ _ (c₂₃ .1) in
       record {
         known = ltb-true b (sizeOf tb) (not-false _ (c₃ .0));
-        sixOnly = c₄ .0;
+        sevenOnly = c₄ .0;
         some = isEmpty-length (s .tasks) (c₂₁ .0);
         taskFits = c₂₃ .0;
         screenFits = c₂₄ .0;
       }
 
-pub started-sound : (tb : List ℕ) (s : State ℕ) (b w : ℕ)
-    → Sound tb s → refusal (startChecks tb s b w) ≡ 0 → Sound tb (started tb s b w)
-unfolding started
-started-sound tb s b w h e =
+-- the rule chosen, carried out
+pub carried-sound : (tb : List ℕ) (s : State ℕ) (b w : ℕ)
+    → Sound tb s → refusal (startChecks tb s b w) ≡ 0 → Sound tb (startedBy (chosen tb s b w) b s)
+carried-sound tb s b w h e =
     let a = start-accepted tb s b w e in
     carry-sound tb b (a .known) (effectIn s (chosen tb s b w)) (placeOf (chosen tb s b w .found)) s
     (choose-ready tb s b (flagsOf w) h (a .some)) (a .taskFits) (a .screenFits) h

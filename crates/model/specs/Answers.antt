@@ -1,4 +1,4 @@
--- Document 01, "Calls", and document 02, requests 2 and 4: what an answer is.
+-- Document 01, "Calls", and document 02, requests 2, 4 and 7: what an answer is.
 use Prim.Native.Nat.{ℕ, zero, suc}
 use mathlib.Core.List.{List, [], _∷_}
 use Rattle.model.specs.declared.Answer.{Answer}
@@ -6,7 +6,7 @@ use Rattle.model.specs.Session.{State, front, frontScreen, height, count
 
 -- "An answer is six numbers: refusal (0 if none), front screen, front root, front height, n, m, after the call. An
 -- empty session gives six zeros." "The answer gains a seventh number: screens removed by this call": by a look, none. "the answer
--- gains it as its eighth number": the edition.
+-- gains it as its eighth number": the edition. "The mark is the answer's ninth number".
 unfoldable pub lookAt : State ℕ → Answer
 lookAt s =
     record {
@@ -18,6 +18,7 @@ lookAt s =
       main = s .main;
       closed = 0;
       edition = s .edition;
+      «no_history» = s .noHistory;
     }
 
 -- the answer of a call that closed k screens
@@ -32,15 +33,18 @@ withClosed k a =
       main = a .main;
       closed = k;
       edition = a .edition;
+      «no_history» = a .«no_history»;
     }
 
 -- "A refused call gives its number and zeros in every other place of the answer"; "0 when refused"
 abbrev pub refused : ℕ → Answer
-refused k = record { refusal = k; screen = 0; root = 0; height = 0; tasks = 0; main = 0; closed = 0; edition = 0 }
+refused k =
+    record { refusal = k; screen = 0; root = 0; height = 0; tasks = 0; main = 0; closed = 0; edition = 0; «no_history» = 0 }
 
--- the eight numbers in the documents' order
+-- the nine numbers in the documents' order
 abbrev pub numbersOf : Answer → List ℕ
-numbersOf a = a .refusal ∷ a .screen ∷ a .root ∷ a .height ∷ a .tasks ∷ a .main ∷ a .closed ∷ a .edition ∷ []
+numbersOf a =
+    a .refusal ∷ a .screen ∷ a .root ∷ a .height ∷ a .tasks ∷ a .main ∷ a .closed ∷ a .edition ∷ a .«no_history» ∷ []
 
 -- what a call gives: the session and the answer
 pub record Outcome : Type 0 where

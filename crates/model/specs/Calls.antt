@@ -1,7 +1,7 @@
 -- Document 01, "Calls" and "Refusals": each call, its checks, the session and the answer that it gives. Launch names an edition
--- (document 02, request 4).
+-- (document 02, request 4), and a start may leave no history (request 7).
 use Prim.Native.Nat.{ℕ, zero, suc, pred, _+_}
-use mathlib.Core.Bool.{Bool, true, false, not, _&&_}
+use mathlib.Core.Bool.{Bool, true, false, not, _&&_, _||_}
 use mathlib.Core.List.{List, [], _∷_, _++_, map}
 use lib.Dec.{ltb, eqb}
 use lib.ListN.{length, drop}
@@ -9,13 +9,15 @@ use Rattle.model.specs.declared.Answer.{Answer}
 use Rattle.model.specs.declared.Choice.{Choice}
 use Rattle.model.specs.declared.Change.{Change}
 use Rattle.model.specs.declared.Effect.{Effect}
+use Rattle.model.specs.declared.Flags.{Flags}
+use Rattle.model.specs.declared.Rule.{Rule}
 use Rattle.model.specs.Lists.{if_then_else_, isEmpty, isPlace, find, onFirst}
 use Rattle.model.specs.Refusals.{Check, check, refusal}
 use Rattle.model.specs.Table.{sizeOf, mainScreen, tableChecks}
-use Rattle.model.specs.Session.{Stack, State, stack, state, taskAt, front, height, count, mostTasks, mostHeight, isEdition, sound}
+use Rattle.model.specs.Session.{Stack, State, stack, state, setNoHistory, taskAt, front, height, count, mostTasks, mostHeight, isEdition, sound}
 use Rattle.model.specs.Flags.{flagsOf, hasOtherBit}
 use Rattle.model.specs.Search.{placeOf}
-use Rattle.model.specs.Rules.{choose}
+use Rattle.model.specs.Rules.{isR7, choose}
 use Rattle.model.specs.Effects.{effectOf, changeFront, carryOut, close}
 use Rattle.model.specs.Counts.{createdBy, closedBy}
 use Rattle.model.specs.Answers.{Outcome, outcome, lookAt, withClosed, settle}
@@ -34,17 +36,17 @@ pub data Call : Type 0 where
 abbrev pub chosen : List ℕ → State ℕ → ℕ → ℕ → Choice
 chosen tb s b w = choose tb s b (flagsOf w)
 
--- what the rule chosen does in the session s
-abbrev pub effectIn : State ℕ → Choice → Effect
-effectIn s c = effectOf (s .edition) (s .main) (c .rule)
+-- what a rule does in the session s
+abbrev pub effectAt : State ℕ → Rule → Effect
+effectAt s r = effectOf (s .edition) (s .main) r
 
--- a start by the rule chosen
+-- what the rule chosen does
+abbrev pub effectIn : State ℕ → Choice → Effect
+effectIn s c = effectAt s (c .rule)
+
+-- the rule chosen, carried out
 abbrev pub startedBy : Choice → ℕ → State ℕ → State ℕ
 startedBy c b s = carryOut (eqb b) b b (effectIn s c) (placeOf (c .found)) s
-
--- "Start of B": "The first rule that fits is used."
-unfoldable pub started : List ℕ → State ℕ → ℕ → ℕ → State ℕ
-started tb s b w = startedBy (chosen tb s b w) b s
 
 -- ---- finishing start
 
@@ -65,7 +67,7 @@ module _ {A B : Type 0} (f : A → B) where
   mapScreens t = stack (t .root) (map f (t .screens))
 
   unfoldable pub mapState : State A → State B
-  mapState s = state (map mapScreens (s .tasks)) (s .main) (s .edition)
+  mapState s = state (map mapScreens (s .tasks)) (s .main) (s .edition) (s .noHistory)
 
 -- "mark the front screen"
 unfoldable pub markFront : State ℕ → State Marked
@@ -98,11 +100,38 @@ closeMarked s = if markStands s then close (markedTask s) (aboveMarked s) s else
 
 -- "Finishing start: mark the front screen, start B, then remove the marked screen if it still stands, as Back would
 -- in its task. A mark travels with its screen; an emptied screen is gone, and the pushed B is unmarked."
-abbrev pub finishedBy : Choice → ℕ → State ℕ → State ℕ
-finishedBy c b s = mapState (λ x. x .screen) (closeMarked (startMarked (effectIn s c) (placeOf (c .found)) b (markFront s)))
+abbrev pub finishedAt : Effect → ℕ → ℕ → State ℕ → State ℕ
+finishedAt d p b s = mapState (λ x. x .screen) (closeMarked (startMarked d p b (markFront s)))
 
-unfoldable pub finished : List ℕ → State ℕ → ℕ → ℕ → State ℕ
-finished tb s b w = finishedBy (chosen tb s b w) b s
+abbrev pub finishedBy : Choice → ℕ → State ℕ → State ℕ
+finishedBy c b s = finishedAt (effectIn s c) (placeOf (c .found)) b s
+
+-- ---- the No-History mark, and a start whole (document 02, request 7)
+
+-- the caller of a start closes: of a finishing one; and "A plain start from a marked front is done as a finishing start (request
+-- 1's rule, then the removal), save where R7 fits". h is the mark before it, and r its rule.
+unfoldable pub callerCloses : Bool → ℕ → Rule → Bool
+callerCloses finishing h r = finishing || (eqb h 1 && not (isR7 r))
+
+-- the effect of a rule, and then the removal where the caller closes
+abbrev pub startedWith : Bool → Effect → ℕ → ℕ → State ℕ → State ℕ
+startedWith true d p b s = finishedAt d p b s
+startedWith false d p b s = carryOut (eqb b) b b d p s
+
+-- the mark after a start, by the mark h before it, the No-History flag, the rule and its effect: "the front screen was pushed or
+-- made new by a start, plain or finishing, with this flag". Where R7 fits a plain start, "nothing changes, the mark included".
+unfoldable pub noHistoryAfter : Bool → ℕ → Bool → Rule → Effect → ℕ
+noHistoryAfter finishing h noh r d = if not finishing && isR7 r then h else if noh then createdBy d else 0
+
+-- a start of b, or a finishing one, with the flags f by the rule r; p is the place of the task found
+abbrev pub startBy : Bool → Flags → Rule → ℕ → ℕ → State ℕ → State ℕ
+startBy finishing f r p b s =
+    setNoHistory (noHistoryAfter finishing (s .noHistory) (f .noh) r (effectAt s r))
+    (startedWith (callerCloses finishing (s .noHistory) r) (effectAt s r) p b s)
+
+-- "Start of B", or a finishing one: "The first rule that fits is used."
+unfoldable pub started : Bool → List ℕ → State ℕ → ℕ → ℕ → State ℕ
+started finishing tb s b w = startBy finishing (flagsOf w) (chosen tb s b w .rule) (placeOf (chosen tb s b w .found)) b s
 
 -- ---- launch and Back
 
@@ -111,9 +140,9 @@ abbrev pub editionNamed : ℕ → ℕ
 editionNamed zero = 8
 editionNamed (suc k) = suc k
 
--- "Launch: on an empty session, one task whose root and only screen is the main screen; m = 1."
+-- "Launch: on an empty session, one task whose root and only screen is the main screen; m = 1." No start made it: no mark.
 unfoldable pub launched : List ℕ → ℕ → State ℕ
-launched tb e = state (stack (mainScreen tb) (mainScreen tb ∷ []) ∷ []) 1 (editionNamed e)
+launched tb e = state (stack (mainScreen tb) (mainScreen tb ∷ []) ∷ []) 1 (editionNamed e) 0
 
 -- "Back: removes the front screen; a task left empty goes, and m follows its task or becomes 0."
 unfoldable pub backed : State ℕ → State ℕ
@@ -146,8 +175,8 @@ roomChecks c s =
     ∷ check 24 (overfills (effectIn s c) (placeOf (c .found)) s)
     ∷ []
 
--- "Start checks 3, 4, 21, then 23 or 24." "3: start: B not below N", "4: start: a bit outside the six",
--- "21: start, Back: empty"
+-- "Start checks 3, 4, 21, then 23 or 24." "3: start: B not below N"; 01's "a bit outside the six" is now
+-- "4: start: a bit outside the seven" (02, request 7); "21: start, Back: empty"
 abbrev pub startChecks : List ℕ → State ℕ → ℕ → ℕ → List Check
 startChecks tb s b w =
     check 3 (not (ltb b (sizeOf tb))) ∷ check 4 (hasOtherBit w) ∷ check 21 (isEmpty (s .tasks))
@@ -187,6 +216,15 @@ closedMarked s = if markStands s then 1 else 0
 abbrev pub closedByFinish : Choice → ℕ → State ℕ → ℕ
 closedByFinish c b s = closedByChoice c b s + closedMarked (startMarked (effectIn s c) (placeOf (c .found)) b (markFront s))
 
+-- of a start, where the caller closes or does not
+abbrev pub closedWith : Bool → Choice → ℕ → State ℕ → ℕ
+closedWith true c b s = closedByFinish c b s
+closedWith false c b s = closedByChoice c b s
+
+-- of a start by the rule chosen, or a finishing one
+abbrev pub closedByStart : Bool → Choice → ℕ → State ℕ → ℕ
+closedByStart finishing c b s = closedWith (callerCloses finishing (s .noHistory) (c .rule)) c b s
+
 -- the screens that a call creates where it is not refused: "one for launch, each new task and each push"
 unfoldable pub createdOf : List ℕ → State ℕ → Call → ℕ
 createdOf tb s (launch e) = 1
@@ -199,8 +237,8 @@ createdOf tb s (restore bytes) = 0
 -- the screens that it closes: "screens removed by this call, 0 when refused and for a restore"
 unfoldable pub closedOf : List ℕ → State ℕ → Call → ℕ
 closedOf tb s (launch e) = 0
-closedOf tb s (start b w) = closedByChoice (chosen tb s b w) b s
-closedOf tb s (finishingStart b w) = closedByFinish (chosen tb s b w) b s
+closedOf tb s (start b w) = closedByStart false (chosen tb s b w) b s
+closedOf tb s (finishingStart b w) = closedByStart true (chosen tb s b w) b s
 closedOf tb s back = 1
 closedOf tb s look = 0
 closedOf tb s (restore bytes) = 0
@@ -210,8 +248,8 @@ closedOf tb s (restore bytes) = 0
 -- the session that a call makes where it is not refused. "Look: changes nothing."
 unfoldable pub done : List ℕ → State ℕ → Call → State ℕ
 done tb s (launch e) = launched tb e
-done tb s (start b w) = started tb s b w
-done tb s (finishingStart b w) = finished tb s b w
+done tb s (start b w) = started false tb s b w
+done tb s (finishingStart b w) = started true tb s b w
 done tb s back = backed s
 done tb s look = s
 done tb s (restore bytes) = sessionIn bytes
@@ -220,7 +258,7 @@ unfoldable pub refusalOf : List ℕ → State ℕ → Call → ℕ
 refusalOf tb s c = refusal (checksIn tb (sound tb s) (ownChecks tb s c))
 
 -- the answer to a call that is not refused: "front screen, front root, front height, n, m, after the call", "screens removed by
--- this call", and the edition
+-- this call", the edition and the mark
 abbrev pub answerTo : List ℕ → State ℕ → Call → Answer
 answerTo tb s c = withClosed (closedOf tb s c) (lookAt (done tb s c))
 

@@ -10,7 +10,7 @@ use Rattle.model.specs.declared.Rule.{Rule}
 use Rattle.model.specs.declared.Change.{Change}
 use Rattle.model.specs.declared.Effect.{Effect}
 use Rattle.model.specs.Lists.{if_then_else_, isEmpty, further, find, omit, toFront, onFirst}
-use Rattle.model.specs.Session.{Stack, State, stack, onScreens, onTasks, onMain, onEdition, taskAt, count, editionKept}
+use Rattle.model.specs.Session.{Stack, State, stack, onScreens, onTasks, onMain, onEdition, setNoHistory, taskAt, count, editionKept}
 
 -- what R9 does with the front task: "lift"; and "Edition 7 ..: where R9 fits and the front task is the main one, the task is
 -- emptied and B pushed" (02, request 4)
@@ -89,7 +89,8 @@ module _ {A : Type 0} where
   taskLeft p i s = onScreens (omit i) (taskAt (s .tasks) p)
 
   -- "removes the front screen; a task left empty goes, and m follows its task or becomes 0": in the task at place p, the
-  -- screen that stands below i others
+  -- screen that stands below i others. The No-History mark goes: "other accepted calls clear it" (02, request 7).
   unfoldable pub close : ℕ → ℕ → State A → State A
   close p i s =
-      if isEmpty (taskLeft p i s .screens) then withoutTask p s else onTasks (λ ts. set ts (pred p) (taskLeft p i s)) s
+      if isEmpty (taskLeft p i s .screens) then withoutTask p (setNoHistory 0 s)
+      else onTasks (λ ts. set ts (pred p) (taskLeft p i s)) (setNoHistory 0 s)

@@ -1,4 +1,5 @@
--- Document 01, "Image", and refusals 5, 6 and 7; "the image carries" the edition "in the byte that was 8" (02, request 4).
+-- Document 01, "Image", and refusals 5, 6 and 7; "the image carries" the edition "in the byte that was 8" (02,
+-- request 4), and the No-History mark in "bit 7 of the image's m byte" (02, request 7).
 use Prim.Native.Nat.{ℕ, zero, suc, _+_, _-_, _*_, _/_, _%_}
 use mathlib.Core.Bool.{Bool, true, false, not, _&&_}
 use mathlib.Core.List.{List, [], _∷_, _++_}
@@ -17,12 +18,17 @@ bodyOf (t ∷ ts) = t .root ∷ height t ∷ (t .screens ++ bodyOf ts)
 abbrev pub closing : ℕ → List ℕ
 closing e = e ∷ 0x42 ∷ []
 
+-- m, with the mark h for "bit 7 of the image's m byte": the other seven bits are m
+abbrev pub mainByte : ℕ → ℕ → ℕ
+mainByte m h = m + 128 * h
+
 -- "Then six trailer bytes pointing back: the length L of all that precedes (2 bytes, high first), n, m, 8, hex 42."
+-- Here x is the m byte.
 abbrev pub trailer : ℕ → ℕ → ℕ → ℕ → List ℕ
-trailer l n m e = l / 256 ∷ l % 256 ∷ n ∷ m ∷ closing e
+trailer l n x e = l / 256 ∷ l % 256 ∷ n ∷ x ∷ closing e
 
 unfoldable pub image : State ℕ → List ℕ
-image s = bodyOf (s .tasks) ++ trailer (length (bodyOf (s .tasks))) (count s) (s .main) (s .edition)
+image s = bodyOf (s .tasks) ++ trailer (length (bodyOf (s .tasks))) (count s) (mainByte (s .main) (s .noHistory)) (s .edition)
 
 -- as long as an image of 16 tasks of 32 screens, which no sound session's image passes
 abbrev pub longestImage : ℕ
@@ -41,8 +47,14 @@ lengthIn bytes = 256 * getD (trailerIn bytes) 0 0 + getD (trailerIn bytes) 1 0
 abbrev pub countIn : List ℕ → ℕ
 countIn bytes = getD (trailerIn bytes) 2 0
 
+abbrev pub mainByteIn : List ℕ → ℕ
+mainByteIn bytes = getD (trailerIn bytes) 3 0
+
 abbrev pub mainIn : List ℕ → ℕ
-mainIn bytes = getD (trailerIn bytes) 3 0
+mainIn bytes = mainByteIn bytes % 128
+
+abbrev pub noHistoryIn : List ℕ → ℕ
+noHistoryIn bytes = mainByteIn bytes / 128
 
 abbrev pub editionIn : List ℕ → ℕ
 editionIn bytes = getD (trailerIn bytes) 4 0
@@ -89,7 +101,7 @@ imageReadable bytes = leb (countIn bytes) mostTasks && isReadable (readTasks (co
 
 -- "the session read from the image"
 unfoldable pub sessionIn : List ℕ → State ℕ
-sessionIn bytes = state (tasksRead (readTasks (countIn bytes) (bodyIn bytes))) (mainIn bytes) (editionIn bytes)
+sessionIn bytes = state (tasksRead (readTasks (countIn bytes) (bodyIn bytes))) (mainIn bytes) (editionIn bytes) (noHistoryIn bytes)
 
 -- 5, 6, and "7: restore: the session read from the image is not sound under the table"
 abbrev pub imageChecks : List ℕ → List ℕ → List Check

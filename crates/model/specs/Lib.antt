@@ -18,6 +18,7 @@ pub mod Player
 pub mod Reasons
 pub mod Affinity
 pub mod Editions
+pub mod NoHistory
 pub mod Sentences
 pub mod Explained
 pub mod Promises

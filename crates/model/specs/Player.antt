@@ -115,8 +115,8 @@ unfoldable pub startsWithTable : List ℕ → Bool
 startsWithTable input =
     (leb 1 (sizeOf input) && leb (sizeOf input) mostScreens) && leb (2 + 2 * sizeOf input) (length input)
 
--- "With N bad or the table cut it prints 0 and the answer of refusal 1, `0 1 0 0 0 0 0`, and stops." With the seventh and
--- the eighth number the line has two zeros more.
+-- "With N bad or the table cut it prints 0 and the answer of refusal 1, `0 1 0 0 0 0 0`, and stops." With the numbers that the
+-- answer gained the line has three zeros more.
 unfoldable pub playerText : List ℕ → List ℕ
 playerText input =
     if startsWithTable input then textOf (tableIn input) fresh (recordsIn (recordBytes input)) else lineOf 0 (refused 1)

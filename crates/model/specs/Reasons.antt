@@ -1,8 +1,8 @@
 -- Document 02, request 1, "Which rule moved my seller?": the rule of a start and the task that was found for it.
 use Prim.Native.Nat.{ℕ, zero, suc, pred}
 use mathlib.Core.Path.{_≡_}
+use mathlib.Core.Bool.{false}
 use mathlib.Core.List.{List, _++_}
-use lib.Dec.{eqb}
 use lib.ListN.{getD}
 use Rattle.model.specs.declared.Choice.{Choice}
 use Rattle.model.specs.declared.Found.{Found}
@@ -13,32 +13,10 @@ use Rattle.model.specs.Lists.{FirstFit}
 use Rattle.model.specs.Session.{State}
 use Rattle.model.specs.Flags.{flagsOf}
 use Rattle.model.specs.Search.{placeOf}
-use Rattle.model.specs.Rules.{rulesOf, groupOf, soughtBy, fits}
-use Rattle.model.specs.Effects.{effectOf, carryOut}
-use Rattle.model.specs.Calls.{start, chosen, refusalOf}
+use Rattle.model.specs.Rules.{numberOf, rulesOf, groupOf, soughtBy, fits}
+use Rattle.model.specs.Calls.{start, chosen, startBy, refusalOf}
 
 -- ---- the four numbers
-
--- "the rule number R1 to R18"
-abbrev pub numberOf : Rule → ℕ
-numberOf Rule.R1 = 1
-numberOf Rule.R2 = 2
-numberOf Rule.R3 = 3
-numberOf Rule.R4 = 4
-numberOf Rule.R5 = 5
-numberOf Rule.R6 = 6
-numberOf Rule.R7 = 7
-numberOf Rule.R8 = 8
-numberOf Rule.R9 = 9
-numberOf Rule.R10 = 10
-numberOf Rule.R11 = 11
-numberOf Rule.R12 = 12
-numberOf Rule.R13 = 13
-numberOf Rule.R14 = 14
-numberOf Rule.R15 = 15
-numberOf Rule.R16 = 16
-numberOf Rule.R17 = 17
-numberOf Rule.R18 = 18
 
 -- "whether root or affinity found it (0 none, 1 root, 2 affinity)"
 abbrev pub howFound : Found → ℕ
@@ -91,7 +69,7 @@ module _ (tb : List ℕ) (s : State ℕ) (b w : ℕ) where
     pub place : p ≡ placeOf taskSought
     pub how : h ≡ howFound taskSought
 
--- a start of b with the flag word w in s, carried out by a rule; p is the place of the task found. Once the rule is known, the
--- flags say no more; the edition says what the rule does.
+-- a start of b with the flag word w in s by a rule: it is carried out, "then the removal" where the front was marked and the rule
+-- is not R7, and the mark is set or cleared; p is the place of the task found
 unfoldable pub carriedBy : State ℕ → ℕ → ℕ → Rule → ℕ → State ℕ
-carriedBy s b w r p = carryOut (eqb b) b b (effectOf (s .edition) (s .main) r) p s
+carriedBy s b w r p = startBy false (flagsOf w) r p b s

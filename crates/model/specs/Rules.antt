@@ -13,6 +13,31 @@ use Rattle.model.specs.Table.{isSingleTop, isSingleTask, isSingleInstanc
 use Rattle.model.specs.Session.{State, Stack, taskAt, front, frontScreen, top}
 use Rattle.model.specs.Search.{placeOf, isFound, isFoundByRoot, seekRoot, seek, holds}
 
+-- "the rule number R1 to R18" (02, request 1)
+abbrev pub numberOf : Rule → ℕ
+numberOf Rule.R1 = 1
+numberOf Rule.R2 = 2
+numberOf Rule.R3 = 3
+numberOf Rule.R4 = 4
+numberOf Rule.R5 = 5
+numberOf Rule.R6 = 6
+numberOf Rule.R7 = 7
+numberOf Rule.R8 = 8
+numberOf Rule.R9 = 9
+numberOf Rule.R10 = 10
+numberOf Rule.R11 = 11
+numberOf Rule.R12 = 12
+numberOf Rule.R13 = 13
+numberOf Rule.R14 = 14
+numberOf Rule.R15 = 15
+numberOf Rule.R16 = 16
+numberOf Rule.R17 = 17
+numberOf Rule.R18 = 18
+
+-- R7: "nothing"
+abbrev pub isR7 : Rule → Bool
+isR7 r = eqb (numberOf r) 7
+
 -- "B single-instance: ..", "B single-task, ..", "Otherwise, not apart: ..", "Otherwise, apart: .."
 unfoldable pub rulesOf : Group → List Rule
 rulesOf Group.Instance = Rule.R1 ∷ Rule.R2 ∷ []

@@ -43,7 +43,7 @@ refusalSentence k =
     if eqb k 1 then "refusal 1: table length wrong, or N not 1 to 64" else
     if eqb k 2 then "refusal 2: main screen not below N, or a mode above 3" else
     if eqb k 3 then "refusal 3: start: B not below N" else
-    if eqb k 4 then "refusal 4: start: a bit outside the six" else
+    if eqb k 4 then "refusal 4: start: a bit outside the seven" else
     if eqb k 9 then "refusal 9: player only: unknown kind, or a cut record" else
     if eqb k 20 then "refusal 20: the session is not sound under the table" else
     if eqb k 21 then "refusal 21: start, Back: empty" else

@@ -1,4 +1,4 @@
--- Document 01, "Session": tasks, limits, soundness; and document 02, request 4: the edition.
+-- Document 01, "Session": tasks, limits, soundness; and document 02, request 4: the edition, and request 7: the No-History mark.
 -- A task is here a `Stack` and a session a `State`; `Task` and `Session` are the structs that store them.
 -- What stands in a task may be of any kind A: screens are numbers, and a finishing start puts marked ones there.
 use Prim.Native.Nat.{ℕ, zero, suc, pred}
@@ -23,17 +23,20 @@ pub record Stack (A : Type 0) : Type 0 where
 
 -- "A session is a list of n tasks, front first, and a main place m: the place (from 1) of the task made by launch, or
 -- 0 if that task is gone." The main place is 01's own term. "Launch names" an edition; "the session keeps it" (02, request 4).
+-- "The session gains one mark: the front screen was pushed or made new by a start, plain or finishing, with this flag" (02,
+-- request 7): 1, or 0. The mark of a finishing start is another.
 pub record State (A : Type 0) : Type 0 where
   pub tasks : List (Stack A)
   pub main : ℕ
   pub edition : ℕ
+  pub noHistory : ℕ
 
 module _ {A : Type 0} where
   abbrev pub stack : ℕ → List A → Stack A
   stack r xs = record { root = r; screens = xs }
 
-  abbrev pub state : List (Stack A) → ℕ → ℕ → State A
-  state ts m e = record { tasks = ts; main = m; edition = e }
+  abbrev pub state : List (Stack A) → ℕ → ℕ → ℕ → State A
+  state ts m e h = record { tasks = ts; main = m; edition = e; noHistory = h }
 
   -- ---- one field changed, the others kept
 
@@ -43,15 +46,19 @@ module _ {A : Type 0} where
 
   -- a session with its tasks changed
   abbrev pub onTasks : (List (Stack A) → List (Stack A)) → State A → State A
-  onTasks f s = record { tasks = f (s .tasks); main = s .main; edition = s .edition }
+  onTasks f s = record { tasks = f (s .tasks); main = s .main; edition = s .edition; noHistory = s .noHistory }
 
   -- a session with its main place changed
   abbrev pub onMain : (ℕ → ℕ) → State A → State A
-  onMain f s = record { tasks = s .tasks; main = f (s .main); edition = s .edition }
+  onMain f s = record { tasks = s .tasks; main = f (s .main); edition = s .edition; noHistory = s .noHistory }
 
   -- a session with its edition changed
   abbrev pub onEdition : (ℕ → ℕ) → State A → State A
-  onEdition f s = record { tasks = s .tasks; main = s .main; edition = f (s .edition) }
+  onEdition f s = record { tasks = s .tasks; main = s .main; edition = f (s .edition); noHistory = s .noHistory }
+
+  -- a session with this No-History mark
+  abbrev pub setNoHistory : ℕ → State A → State A
+  setNoHistory h s = record { tasks = s .tasks; main = s .main; edition = s .edition; noHistory = h }
 
   -- ---- what is read of a task and of a session
 
@@ -97,13 +104,17 @@ editionKept (suc n) e = e
 
 -- ---- soundness
 
--- "Fresh means empty and sound: n = 0, m = 0." So its edition is 8.
+-- "Fresh means empty and sound: n = 0, m = 0." So its edition is 8, and it has no mark.
 abbrev pub fresh : State ℕ
-fresh = state [] 0 8
+fresh = state [] 0 8 0
 
 -- the edition of a sound session in which n tasks stand
 unfoldable pub editionSound : ℕ → ℕ → Bool
 editionSound n e = isEdition e && eqb (editionKept n e) e
+
+-- the No-History mark of a sound session in which n tasks stand: 0 or 1, and 0 where none does
+unfoldable pub noHistorySound : ℕ → ℕ → Bool
+noHistorySound n h = leb h 1 && leb h n
 
 -- that screen alone
 abbrev pub isAlone : ℕ → List ℕ → Bool
@@ -138,9 +149,10 @@ module _ (tb : List ℕ) where
   mainSound ts m = leb m (length ts) && (eqb m 0 || eqb (taskAt ts m .root) (mainScreen tb))
 
   -- "A session is sound under a table when .."; what is said of storage is said where sessions are stored. An empty session with
-  -- another edition than 8, "or with none of the three, gives 20" (02, request 4)
+  -- another edition than 8, "or with none of the three, gives 20" (02, request 4); and so does "a mark on an empty" session, or a
+  -- number that is no mark (02, request 7)
   unfoldable pub sound : State ℕ → Bool
   sound s =
       ((leb (count s) mostTasks && all taskSound (s .tasks))
       && (pairwise rootsDiffer (s .tasks) && mainSound (s .tasks) (s .main)))
-      && editionSound (count s) (s .edition)
+      && (editionSound (count s) (s .edition) && noHistorySound (count s) (s .noHistory))

@@ -1,8 +1,8 @@
 // Documents 01 and 02 as definitions (specs/) and the theorems about them (proofs/). There is no function here: only the
 // plain structs and enums that definitions and code share.
 
-// An answer is eight numbers: the refusal (0 if none); after the call, the front screen, the front root, the front height, the
-// number of tasks and the main place; the screens that the call closed; and the edition after it.
+// An answer is nine numbers: the refusal (0 if none); after the call, the front screen, the front root, the front height, the
+// number of tasks and the main place; the screens that the call closed; and after it the edition and the No-History mark.
 #[repr(C)]
 pub struct Answer {
     pub refusal: u8,
@@ -13,13 +13,14 @@ pub struct Answer {
     pub main: u8,
     pub closed: u8,
     pub edition: u8,
+    pub no_history: u8,
 }
 
 impl Answer {
-    pub const NUMBERS: usize = 8;
+    pub const NUMBERS: usize = 9;
 }
 
-// The six flags of a flag word: new task, single top, multiple task, clear top, reorder to front, clear task.
+// The seven flags of a flag word: new task, single top, multiple task, clear top, reorder to front, clear task, no history.
 pub struct Flags {
     pub ntk: bool,
     pub stp: bool,
@@ -27,6 +28,7 @@ pub struct Flags {
     pub ctp: bool,
     pub rtf: bool,
     pub ctk: bool,
+    pub noh: bool,
 }
 
 // The rules of a start.

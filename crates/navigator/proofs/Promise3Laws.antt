@@ -12,8 +12,8 @@ use Rattle.model.specs.Refusals.{refusal}
 use Rattle.model.specs.Table.{tableRefusal}
 use Rattle.model.specs.Session.{State, fresh}
 use Rattle.model.specs.Image.{image, longestImage}
-use Rattle.model.specs.Answers.{Outcome, outcome, settle}
-use Rattle.model.specs.Calls.{Call, ownChecks, done, answerTo, call}
+use Rattle.model.specs.Answers.{Outcome, outcome, lookAt, settle}
+use Rattle.model.specs.Calls.{Call, look, ownChecks, done, answerTo, call}
 use Rattle.model.specs.Histories.{after, AnswerAlike, byRules}
 use Rattle.model.specs.Promises.{Lifelong}
 use Rattle.model.specs.Editions.{EditionKept, NamesNoEdition}
@@ -21,6 +21,8 @@ use Rattle.model.proofs.Sound.{Sound, sound-decides}
 use Rattle.model.proofs.Keeps.{settled, fresh-sound, after-sound}
 use Rattle.model.proofs.ImageLaws.{image-short}
 use Rattle.model.proofs.EditionLaws.{edition-kept, empty-edition, editions-apart}
+use Rattle.model.proofs.NoHistoryLaws.{marks-apart}
+use Rattle.model.proofs.Backs.{look-gives}
 use Rattle.model.proofs.Promise3.{sound-lifelong, lifelong-one, images-tell}
 use Rattle.session.specs.declared.Session.{Session}
 use Rattle.session.specs.Stored.{view, hold, soundStored, Ready}
@@ -28,7 +30,7 @@ use Rattle.session.proofs.StoredLaws.{view-hold, hold-sound, sound-view}
 use Rattle.calls.specs.declared.Reply.{Reply}
 use Rattle.calls.specs.StoredCalls.{reply, callStored, byProgram}
 use Rattle.calls.proofs.Settling.{call-settled}
-use Rattle.calls.proofs.HistoryLaws.{alike-held, after-fresh, answers-fresh}
+use Rattle.calls.proofs.HistoryLaws.{call-held, alike-held, after-fresh, answers-fresh}
 use Rattle.image_calls.specs.StoredSaves.{saveStored}
 use Rattle.image_calls.proofs.Saving.{save-fits}
 use Rattle.navigator.specs.Promise3.{reached, bytesSaved, KeepsPromise3}
@@ -77,14 +79,31 @@ module _ (tb : List ℕ) (ok : tableRefusal tb ≡ 0) where
   keeps-edition : (c : Session) (k : Call) → soundStored tb c ≡ true → NamesNoEdition k → EditionKept (view c) (view (callStored tb c k .session))
   keeps-edition c k e n = rw (call-viewed c k e) (edition-kept tb ok (view c) (sound-view tb c e) k n)
 
-  -- what save writes of two sound sessions of unlike edition
-  saved-apart : (v w : State ℕ) → Sound tb v → Sound tb w
-      → (buffer buffer′ : List ℕ) → longestImage ≤ length buffer → longestImage ≤ length buffer′
-      → (hold v .edition ≡ hold w .edition → ⊥) → bytesSaved tb (hold v) buffer ≡ bytesSaved tb (hold w) buffer′ → ⊥
+-- ---- sessions apart
+
+module _ (tb : List ℕ) (ok : tableRefusal tb ≡ 0) (v w : State ℕ) (h : Sound tb v) (k : Sound tb w) where
+  -- what save writes of two sound sessions whose images differ
+  saved-apart : (buffer buffer′ : List ℕ) → longestImage ≤ length buffer → longestImage ≤ length buffer′
+      → (image v ≡ image w → ⊥) → bytesSaved tb (hold v) buffer ≡ bytesSaved tb (hold w) buffer′ → ⊥
+  saved-apart buffer buffer′ long long′ differ e =
+      differ (sym (saved-held tb ok v h buffer long) ∙ e ∙ saved-held tb ok w k buffer′ long′)
+
+  editions : (hold v .edition ≡ hold w .edition → ⊥) → image v ≡ image w → ⊥
   unfolding hold
-  saved-apart v w h k buffer buffer′ long long′ differ e =
-      editions-apart tb v w (sound-decides tb v .shows h) (sound-decides tb w .shows k) differ
-      (sym (saved-held tb ok v h buffer long) ∙ e ∙ saved-held tb ok w k buffer′ long′)
+  editions differ = editions-apart tb v w (sound-decides tb v .shows h) (sound-decides tb w .shows k) differ
+
+  marks : (hold v .«no_history» ≡ hold w .«no_history» → ⊥) → image v ≡ image w → ⊥
+  unfolding hold
+  marks differ = marks-apart tb .images v w (sound-decides tb v .shows h) (sound-decides tb w .shows k) differ
+
+  -- a look at each
+  looks : (hold v .«no_history» ≡ hold w .«no_history» → ⊥)
+      → callStored tb (hold v) look .answer ≡ callStored tb (hold w) look .answer → ⊥
+  unfolding hold
+  looks differ e = marks-apart tb .looks v w differ (sym (looked v h) ∙ e ∙ looked w k)
+    where
+      looked : (u : State ℕ) → Sound tb u → callStored tb (hold u) look .answer ≡ lookAt u
+      looked u l = ap (λ (r : Reply). r .answer) (call-held tb ok u l look) ∙ ap (λ (o : Outcome). o .answer) (look-gives tb ok u l)
 
 -- ---- the promise
 
@@ -92,6 +111,10 @@ lives : (tb : List ℕ) → tableRefusal tb ≡ 0 → (cs : List Call) → Lifel
 lives tb ok cs =
     let v = after (byRules tb) fresh cs in
     rw (after-fresh tb ok cs, view-hold v) (sound-lifelong tb v (after-sound tb ok fresh (fresh-sound tb) cs))
+
+held-mark : (tb : List ℕ) (v : State ℕ) → Sound tb v → hold v .n ≡ 0 → hold v .«no_history» ≡ 0
+unfolding hold
+held-mark tb v h e = omega (arith, h .noHistory .stands)
 
 held-edition : (tb : List ℕ) (v : State ℕ) → Sound tb v → hold v .n ≡ 0 → hold v .edition ≡ 8
 unfolding hold
@@ -115,5 +138,18 @@ promise3 tb ok =
       keepsEdition = keeps-edition tb ok;
       editionsApart = λ cs ds buffer buffer′ long long′.
           rw (after-fresh tb ok cs, after-fresh tb ok ds)
-          (saved-apart tb ok (ruled cs) (ruled ds) (sound cs) (sound ds) buffer buffer′ long long′);
+          (λ differ. apart cs ds buffer buffer′ long long′ (editions tb ok (ruled cs) (ruled ds) (sound cs) (sound ds) differ));
+      marksApart = λ cs ds buffer buffer′ long long′.
+          rw (after-fresh tb ok cs, after-fresh tb ok ds)
+          (λ differ. apart cs ds buffer buffer′ long long′ (marks tb ok (ruled cs) (ruled ds) (sound cs) (sound ds) differ));
+      marksLook = λ cs ds. rw (after-fresh tb ok cs, after-fresh tb ok ds) (looks tb ok (ruled cs) (ruled ds) (sound cs) (sound ds));
+      emptyMark = λ cs. rw (after-fresh tb ok cs) (held-mark tb (ruled cs) (sound cs));
     }
+  where
+    apart : (cs ds : List Call) (buffer buffer′ : List ℕ) → longestImage ≤ length buffer → longestImage ≤ length buffer′
+        → let v = after (byRules tb) fresh cs in
+        let w = after (byRules tb) fresh ds in
+        (image v ≡ image w → ⊥) → bytesSaved tb (hold v) buffer ≡ bytesSaved tb (hold w) buffer′ → ⊥
+    apart cs ds =
+        saved-apart tb ok (after (byRules tb) fresh cs) (after (byRules tb) fresh ds) (after-sound tb ok fresh (fresh-sound tb) cs)
+        (after-sound tb ok fresh (fresh-sound tb) ds)

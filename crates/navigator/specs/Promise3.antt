@@ -11,7 +11,7 @@ use lib.ListN.{length, take}
 use Rattle.model.specs.Table.{affinityOf, isSingleTask, tableRefusal}
 use Rattle.model.specs.Session.{fresh}
 use Rattle.model.specs.Image.{longestImage}
-use Rattle.model.specs.Calls.{Call}
+use Rattle.model.specs.Calls.{Call, look}
 use Rattle.model.specs.Histories.{after, answers, AnswerAlike, byRules}
 use Rattle.model.specs.Promises.{Lifelong, RootOfOne}
 use Rattle.model.specs.Editions.{EditionKept, NamesNoEdition}
@@ -58,6 +58,14 @@ pub record Promise3 (tb : List ℕ) : Type 0 where
   -- "two sessions of unlike edition never share an image" (02, request 4)
   pub editionsApart : (cs ds : List Call) (buffer buffer′ : List ℕ) → longestImage ≤ length buffer → longestImage ≤ length buffer′
       → (reached tb cs .edition ≡ reached tb ds .edition → ⊥) → bytesSaved tb (reached tb cs) buffer ≡ bytesSaved tb (reached tb ds) buffer′ → ⊥
+  -- "Two sessions differing only in the mark must have different images and be told apart by a look" (02, request 7); and after
+  -- every list an empty session has none
+  pub marksApart : (cs ds : List Call) (buffer buffer′ : List ℕ) → longestImage ≤ length buffer → longestImage ≤ length buffer′
+      → (reached tb cs .«no_history» ≡ reached tb ds .«no_history» → ⊥)
+      → bytesSaved tb (reached tb cs) buffer ≡ bytesSaved tb (reached tb ds) buffer′ → ⊥
+  pub marksLook : (cs ds : List Call) → (reached tb cs .«no_history» ≡ reached tb ds .«no_history» → ⊥)
+      → callStored tb (reached tb cs) look .answer ≡ callStored tb (reached tb ds) look .answer → ⊥
+  pub emptyMark : (cs : List Call) → reached tb cs .n ≡ 0 → reached tb cs .«no_history» ≡ 0
 
 -- what every contract of a call cites
 abbrev pub KeepsPromise3 : List ℕ → Type 0

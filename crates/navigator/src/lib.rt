@@ -11,6 +11,7 @@ ghost use Rattle.image_calls.specs.StoredSaves.{saved, saveStored, BroughtBack,
 ghost use Rattle.model.specs.Reasons.{noReason, FitsFirst, IsFoundAt};
 ghost use Rattle.model.specs.Affinity.{AffinityZero};
 ghost use Rattle.model.specs.Editions.{EditionSeeks};
+ghost use Rattle.model.specs.NoHistory.{MarksBy, withoutNoHistory};
 ghost use Rattle.session.specs.Stored.{view};
 ghost use Rattle.reasons.specs.StoredReasons.{whyStored, CarriesOut};
 ghost use Rattle.navigator.specs.Promise3.{KeepsPromise3};
@@ -84,6 +85,8 @@ pub fn why(table: &[u8], s: Session, b: u8, word: u32) -> Reason
     ensures carries { λ r. ⌜ (r .refusal ≡ 0 → CarriesOut (now (table .entry)) s b word r) ⌝ }
     ensures affinity { λ r. ⌜ (r .refusal ≡ 0 → AffinityZero (now (table .entry)) (view s) b r) ⌝ }
     ensures edition { λ r. ⌜ (r .refusal ≡ 0 → EditionSeeks (now (table .entry)) (view s) b r) ⌝ }
+    ensures mark { λ r. ⌜ (r .refusal ≡ 0 → MarksBy (now (table .entry)) (view s) b word r) ⌝ }
+    ensures bit { λ r. ⌜ r ≡ whyStored (now (table .entry)) s b (withoutNoHistory word) ⌝ }
 {
     let number = shared_refusal(table, s);
     reasons::why(table, s, b, word, number)

@@ -69,11 +69,12 @@ module _ (s : Session) (z : Sized s) (p : Plan) (accepted : p .refusal ≡ 0) (u
   pub answers-look : answerFor p (taskBehind s 1) ≡ withClosed (p .closed) (lookAt (view (putOf s p)))
   answers-look =
       rw (accepted, ← shown)
-      (closed-by (rowOf p (s .tasks)) (p .n) (p .main) (p .closed) (p .edition) ∙ ap (withClosed (p .closed)) (sym (look-fronted (putOf s p) sizes seen)))
+      (closed-by (rowOf p (s .tasks)) (p .n) (p .main) (p .closed) (p .edition) (p .«no_history») ∙ ap (withClosed (p .closed)) (sym (look-fronted (putOf s p) sizes seen)))
     where
-      closed-by : (ts : List Task) (n m x e : ℕ) → answerOf (getD ts 0 noTask) n m x e ≡ withClosed x (answerOf (getD ts 0 noTask) n m 0 e)
-      closed-by ts zero m x e = refl
-      closed-by ts (suc n) m x e = refl
+      closed-by : (ts : List Task) (n m x e h : ℕ)
+          → answerOf (getD ts 0 noTask) n m x e h ≡ withClosed x (answerOf (getD ts 0 noTask) n m 0 e h)
+      closed-by ts zero m x e h = refl
+      closed-by ts (suc n) m x e h = refl
 
 pub refused-showable : (p : Plan) (t : Task) → (p .refusal ≡ 0 → ⊥) → Showable p t
 refused-showable p t bad e = absurd (bad e)

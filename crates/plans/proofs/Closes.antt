@@ -8,12 +8,15 @@ use lib.Dec.{leb}
 use lib.ListN.{length, getD}
 use borrow.Author.Tests.{leb-true, leb-false}
 use Rattle.model.specs.declared.Mark.{Mark}
-use Rattle.model.specs.Session.{mostTasks}
+use Rattle.model.specs.Lists.{isEmpty}
+use Rattle.model.specs.Session.{State, mostTasks}
+use Rattle.model.specs.Effects.{taskLeft, close}
 use Rattle.model.specs.Calls.{backed}
 use Rattle.model.specs.Marks.{closeAt, Stands}
+use Rattle.model.proofs.Logic.{if-elim}
 use Rattle.session.specs.declared.Session.{Session}
 use Rattle.session.specs.declared.Task.{Task}
-use Rattle.session.specs.Stored.{view, hold, noTask, withTasks, withCount, withMain, withEdition, storageBlank, Ready, taskBehind}
+use Rattle.session.specs.Stored.{view, hold, noTask, withTasks, withCount, withMain, withEdition, withNoHistory, storageBlank, Ready, taskBehind}
 use Rattle.session.proofs.Known.{Sized}
 use Rattle.session.proofs.StoredLaws.{held, stored-height}
 use Rattle.effects.specs.Rows.{shifted}
@@ -22,10 +25,14 @@ use Rattle.closing.specs.Closable.{Closable}
 use Rattle.closing.proofs.Closed.{screen-there, screen-closed, top-closed, back-closable}
 use Rattle.plans.specs.declared.Plan.{Plan}
 use Rattle.plans.specs.Puts.{putOf, Puttable}
-use Rattle.plans.specs.Plans.{stillOf, closes, planWithClosed, NearFront, Opens}
+use Rattle.plans.specs.Plans.{stillOf, closes, planWithClosed, planWithNoHistory, NearFront, Opens}
 use Rattle.plans.proofs.Gone.{task-goes}
 
 -- ---- a marked screen
+
+-- two sessions without their No-History marks
+unmarked : {c d : Session} → c ≡ d → withNoHistory c 0 ≡ withNoHistory d 0
+unmarked e = ap (λ (c : Session). withNoHistory c 0) e
 
 module _ (c : Session) (t : Task) (k n m v : ℕ) where
   -- the session before it closes
@@ -36,17 +43,17 @@ module _ (c : Session) (t : Task) (k n m v : ℕ) where
     pub plan-closes : (mark : Mark) → NearFront mark → Stands mark (view putIn)
         → (one one′ : Bool) → leb (t .height) 1 ≡ one
         → ((j i : ℕ) → mark ≡ Mark.Stands (suc j) i → leb (taskBehind putIn 1 .height) 1 ≡ one′)
-        → putOf c (closes mark one one′ t k n m v) ≡ hold (closeAt mark (view putIn))
-    plan-closes Mark.Gone near there one one′ e f = sym (held putIn z blank)
+        → putOf c (closes mark one one′ t k n m v) ≡ withNoHistory (hold (closeAt mark (view putIn))) 0
+    plan-closes Mark.Gone near there one one′ e f = unmarked (sym (held putIn z blank))
     plan-closes (Mark.Stands zero i) near there true one′ e f =
-        task-goes putIn z 0 i (record { blank = blank; there = there }) (leb-true _ _ e)
+        unmarked (task-goes putIn z 0 i (record { blank = blank; there = there }) (leb-true _ _ e))
     plan-closes (Mark.Stands zero i) near there false one′ e f =
         let more = leb-false (t .height) 1 e in
-        screen-closed putIn z 0 i (record { blank = blank; there = there }) (λ q. omega arith) refl
+        unmarked (screen-closed putIn z 0 i (record { blank = blank; there = there }) (λ q. omega arith) refl)
     plan-closes (Mark.Stands (suc zero) i) near there one true e f =
-        task-goes putIn z 1 i (record { blank = blank; there = there }) (leb-true _ _ (f 0 i refl))
+        unmarked (task-goes putIn z 1 i (record { blank = blank; there = there }) (leb-true _ _ (f 0 i refl)))
     plan-closes (Mark.Stands (suc zero) zero) near there one false e f =
-        sym (top-closed putIn z 1 (record { blank = blank; there = there }) (leb-false (taskBehind putIn 1 .height) 1 (f 0 0 refl)))
+        unmarked (sym (top-closed putIn z 1 (record { blank = blank; there = there }) (leb-false (taskBehind putIn 1 .height) 1 (f 0 0 refl))))
     plan-closes (Mark.Stands (suc zero) (suc i)) near there one false e f = absurd (omega (arith, near .1))
     plan-closes (Mark.Stands (suc (suc j)) i) near there one one′ e f = absurd (omega (arith, near .0))
 
@@ -62,9 +69,12 @@ module _ (c : Session) (t : Task) (k n m v : ℕ) where
         let stand : 1 < n = omega (arith, near .0, there .0, counted putIn z blank) in
         record { few = l; second = λ e. (omega arith, stored-height putIn z blank 1 stand) }
 
--- however many screens close
+-- however many screens close, and whichever mark it leaves
 pub closed-puttable : (c : Session) (x : ℕ) {p : Plan} → Puttable c p → Puttable c (planWithClosed x p)
 closed-puttable c x h = record { few = h .few; second = h .second }
+
+pub marked-puttable : (c : Session) (h : ℕ) {p : Plan} → Puttable c p → Puttable c (planWithNoHistory h p)
+marked-puttable c h q = record { few = q .few; second = q .second }
 
 -- ---- a refused call
 
@@ -87,6 +97,15 @@ pub still-puttable : (s : Session) (k : ℕ) → Puttable s (stillOf s k)
 still-puttable s k = record { few = omega arith; second = λ e. absurd (false≢true e) }
 
 -- ---- Back: the marked screen is the top one of the front task
+
+-- a screen that closes leaves no No-History mark
+closed-none : (s : State ℕ) → close 1 0 s .noHistory ≡ 0
+unfolding close
+closed-none s = if-elim (λ (u : State ℕ). u .noHistory ≡ 0) (isEmpty (taskLeft 1 0 s .screens)) _ _ (λ e. refl) (λ e. refl)
+
+none-held : (s : State ℕ) → withNoHistory (hold (close 1 0 s)) 0 ≡ hold (close 1 0 s)
+unfolding hold
+none-held s = ap (withNoHistory (hold (close 1 0 s))) (sym (closed-none s))
 
 abbrev pub backMark : Mark
 backMark = Mark.Stands 0 0
@@ -112,7 +131,7 @@ module _ (tb : List ℕ) (s : Session) (z : Sized s) (h : Ready tb s) (some : 1 
   back-put =
       plan-closes s front 0 (s .n) (s .main) (s .edition) (rw same z) (rw same (there .blank)) backMark tt (rw same (there .there))
       (leb (front .height) 1) one′ refl (λ j i e. absurd (not-behind j i e))
-      ∙ ap (λ (c : Session). hold (closeAt backMark (view c))) same
+      ∙ ap (λ (c : Session). withNoHistory (hold (closeAt backMark (view c))) 0) same ∙ none-held (view s)
 
   pub back-puttable : Puttable s backPlan
   back-puttable =

@@ -23,6 +23,7 @@ fields mark g t k n m e x =
       refusal = 0;
       closed = x;
       edition = editionKept (countBy g n) e;
+      «no_history» = 0;
     }
 
 -- where a task stands
@@ -38,7 +39,7 @@ by-fields (Mark.Stands (suc j) i) one false t k n m e x = rw (eqb·suc-zero j)
 pub plan-by : (mark : Mark) (one one′ : Bool) (t : Task) (k n m e x : ℕ) → 1 ≤ n → {g : ℕ} → g ≡ goneBy mark one one′
     → {u : Task} → u ≡ frontBy mark g t → {b : Bool} → b ≡ popsBy mark g → {n′ : ℕ} → n′ ≡ countBy g n → {m′ : ℕ} → m′ ≡ mainBy g m
     → {x′ : ℕ} → x′ ≡ x + closedAt mark → {e′ : ℕ} → e′ ≡ editionKept n′ e
-    → record { front = u; main = m′; shift = k; n = n′; gone = g; pops = b; refusal = 0; closed = x′; edition = e′ }
+    → record { front = u; main = m′; shift = k; n = n′; gone = g; pops = b; refusal = 0; closed = x′; edition = e′; «no_history» = 0 }
     ≡ closesWith mark one one′ t k n m e x
 plan-by mark one one′ t k zero m e x l g u b n′ m′ x′ e′ = absurd (omega arith)
 plan-by mark one one′ t k (suc n) m e x l g u b n′ m′ x′ e′ =

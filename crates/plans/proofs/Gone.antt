@@ -6,11 +6,11 @@ use mathlib.Core.List.{List, [], _∷_, _++_, map, append-assoc}
 use native.Mathlib.Omega.{arith}
 use lib.ListN.{length, getD, replicate, length-map, replicate-append-replicate}
 use Rattle.model.specs.Lists.{omit}
-use Rattle.model.specs.Session.{State, onTasks, onMain, count, mostTasks, editionKept}
+use Rattle.model.specs.Session.{State, onTasks, onMain, setNoHistory, count, mostTasks, editionKept}
 use Rattle.model.specs.Effects.{mainWithout, withoutTask, close}
 use Rattle.model.proofs.ListLaws.{omit-length, map-omit}
 use Rattle.session.specs.declared.Session.{Session}
-use Rattle.session.specs.Stored.{view, hold, holdTask, pad, noTask, blankTask, withTasks, withCount, withMain, withEdition, storageBlank}
+use Rattle.session.specs.Stored.{view, hold, holdTask, pad, noTask, blankTask, withTasks, withCount, withMain, withEdition, withNoHistory, storageBlank}
 use Rattle.session.proofs.Known.{Sized}
 use Rattle.session.proofs.StoredLaws.{held, blank-few}
 use Rattle.session.proofs.SessionLaws.{hold-row}
@@ -47,21 +47,25 @@ hold-omit v k h l =
 -- the session without the task behind k others
 abbrev pub goneFrom : Session → ℕ → Session
 goneFrom q k =
-    withEdition
+    withNoHistory
+    (withEdition
     (withMain (withCount (withTasks q (omit k (q .tasks) ++ blankTask ∷ [])) (q .n - 1)) (mainWithout (suc k) (q .main)))
-    (editionKept (q .n - 1) (q .edition))
+    (editionKept (q .n - 1) (q .edition)))
+    0
 
-gone-held : (q : Session) → Sized q → storageBlank q ≡ true → (k : ℕ) → k < q .n → hold (withoutTask (suc k) (view q)) ≡ goneFrom q k
+gone-held : (q : Session) → Sized q → storageBlank q ≡ true → (k : ℕ) → k < q .n
+    → hold (withoutTask (suc k) (setNoHistory 0 (view q))) ≡ goneFrom q k
 unfolding view hold
 gone-held q z e k h =
     let c = counted q z e in
     let few = blank-few q e in
     let m = mainWithout (suc k) in
     let n : length (omit k (view q .tasks)) ≡ q .n - 1 = omega (arith, omit-length k (view q .tasks) (omega arith)) in
-    ap₂ (λ (o : Session) (j : ℕ). withEdition o (editionKept j (q .edition))) (hold-omit (onMain m (view q)) k (omega arith) (omega arith)) n
+    ap (λ (o : Session). withNoHistory o 0)
+    (ap₂ (λ (o : Session) (j : ℕ). withEdition o (editionKept j (q .edition))) (hold-omit (onMain m (view q)) k (omega arith) (omega arith)) n
     ∙ ap₂ (λ (o : Session) (j : ℕ).
     withEdition (withMain (withCount (withTasks o (omit k (o .tasks) ++ blankTask ∷ [])) (j - 1)) (m (q .main))) (editionKept (q .n - 1) (q .edition)))
-    (held q z e) c
+    (held q z e) c)
 
 -- closing the only screen of a task
 pub task-goes : (q : Session) → Sized q → (k i : ℕ) → Closable q k i → getD (q .tasks) k noTask .height ≤ 1

@@ -13,7 +13,7 @@ use Rattle.model.proofs.Logic.{and-left, and-right}
 use Rattle.model.specs.Session.{mostTasks}
 use Rattle.session.specs.declared.Session.{Session}
 use Rattle.session.specs.declared.Task.{Task}
-use Rattle.session.specs.Stored.{noTask, blankTask, withTasks, withCount, withMain, withEdition, popped}
+use Rattle.session.specs.Stored.{noTask, blankTask, withTasks, withCount, withMain, withEdition, withNoHistory, popped}
 use Rattle.effects.specs.Rows.{shifted, closedUp}
 use Rattle.closing.proofs.Gaps.{closingIn, closes-begin, closes-end}
 use Rattle.plans.specs.declared.Plan.{Plan}
@@ -65,14 +65,14 @@ popped-length false t k ts h = shifted-length t k ts h
 -- ---- a plan that changes the front task alone
 
 pub front-put : (s : Session) → length (s .tasks) ≡ mostTasks → (p : Plan) → frontAlone p ≡ true
-    → withTasks (withEdition (withMain (withCount s (p .n)) (p .main)) (p .edition)) (set (s .tasks) 0 (p .front)) ≡ putOf s p
+    → withTasks (withNoHistory (withEdition (withMain (withCount s (p .n)) (p .main)) (p .edition)) (p .«no_history»)) (set (s .tasks) 0 (p .front)) ≡ putOf s p
 front-put s z p e =
     let tests = and-left (eqb (p .shift) 0 && leb mostTasks (p .gone)) (not (p .pops)) e in
     let shift = eqb-true (p .shift) 0 (and-left (eqb (p .shift) 0) (leb mostTasks (p .gone)) tests) in
     let gone = leb-true mostTasks (p .gone) (and-right (eqb (p .shift) 0) (leb mostTasks (p .gone)) tests) in
     let pops = not-true (p .pops) (and-right (eqb (p .shift) 0 && leb mostTasks (p .gone)) (not (p .pops)) e) in
     rw (shift, le-ltb (p .gone) mostTasks gone, pops)
-    (ap (withTasks (withEdition (withMain (withCount s (p .n)) (p .main)) (p .edition))) (set-first (s .tasks) (omega arith)))
+    (ap (withTasks (withNoHistory (withEdition (withMain (withCount s (p .n)) (p .main)) (p .edition)) (p .«no_history»))) (set-first (s .tasks) (omega arith)))
   where
     set-first : (ts : List Task) → 1 ≤ length ts → set ts 0 (p .front) ≡ shifted (p .front) 0 ts
     set-first [] l = absurd (omega arith)

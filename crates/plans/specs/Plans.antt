@@ -27,15 +27,19 @@ stillOf s k =
       refusal = k;
       closed = 0;
       edition = s .edition;
+      «no_history» = s .«no_history»;
     }
 
--- ---- the three plans, but for the screens that close: no task goes, the second one pops, the task behind g others goes
+-- ---- the three plans, but for the screens that close and the No-History mark: no task goes, the second one pops, the task behind g
+-- others goes
 
 abbrev pub keeps : Task → ℕ → ℕ → ℕ → ℕ → Plan
-keeps t k n m e = record { front = t; main = m; shift = k; n = n; gone = mostTasks; pops = false; refusal = 0; closed = 0; edition = e }
+keeps t k n m e =
+    record { front = t; main = m; shift = k; n = n; gone = mostTasks; pops = false; refusal = 0; closed = 0; edition = e; «no_history» = 0 }
 
 abbrev pub pops : Task → ℕ → ℕ → ℕ → ℕ → Plan
-pops t k n m e = record { front = t; main = m; shift = k; n = n; gone = mostTasks; pops = true; refusal = 0; closed = 0; edition = e }
+pops t k n m e =
+    record { front = t; main = m; shift = k; n = n; gone = mostTasks; pops = true; refusal = 0; closed = 0; edition = e; «no_history» = 0 }
 
 abbrev pub loses : ℕ → Task → ℕ → ℕ → ℕ → ℕ → Plan
 loses g t k n m e =
@@ -49,6 +53,7 @@ loses g t k n m e =
       refusal = 0;
       closed = 0;
       edition = editionKept (n - 1) e;
+      «no_history» = 0;
     }
 
 -- ---- closing the marked screen
@@ -79,6 +84,23 @@ planWithClosed x p =
       refusal = p .refusal;
       closed = x;
       edition = p .edition;
+      «no_history» = p .«no_history»;
+    }
+
+-- a plan that leaves this No-History mark
+abbrev pub planWithNoHistory : ℕ → Plan → Plan
+planWithNoHistory h p =
+    record {
+      front = p .front;
+      main = p .main;
+      shift = p .shift;
+      n = p .n;
+      gone = p .gone;
+      pops = p .pops;
+      refusal = p .refusal;
+      closed = p .closed;
+      edition = p .edition;
+      «no_history» = h;
     }
 
 -- the same, where x screens closed before the marked one does

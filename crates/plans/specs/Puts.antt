@@ -9,7 +9,7 @@ use Rattle.model.specs.Lists.{omit}
 use Rattle.model.specs.Session.{mostTasks, mostHeight}
 use Rattle.session.specs.declared.Task.{Task}
 use Rattle.session.specs.declared.Session.{Session}
-use Rattle.session.specs.Stored.{noTask, blankTask, withTasks, withCount, withMain, withEdition, popped}
+use Rattle.session.specs.Stored.{noTask, blankTask, withTasks, withCount, withMain, withEdition, withNoHistory, popped}
 use Rattle.effects.specs.Rows.{shifted}
 use Rattle.plans.specs.declared.Plan.{Plan}
 
@@ -28,7 +28,8 @@ abbrev pub rowOf : Plan → List Task → List Task
 rowOf p ts = goneIf (ltb (p .gone) mostTasks) (p .gone) (poppedIf (p .pops) (shifted (p .front) (p .shift) ts))
 
 abbrev pub putOf : Session → Plan → Session
-putOf s p = withEdition (withMain (withCount (withTasks s (rowOf p (s .tasks))) (p .n)) (p .main)) (p .edition)
+putOf s p =
+    withNoHistory (withEdition (withMain (withCount (withTasks s (rowOf p (s .tasks))) (p .n)) (p .main)) (p .edition)) (p .«no_history»)
 
 -- no task goes back, pops or goes
 abbrev pub frontAlone : Plan → Bool

@@ -16,7 +16,8 @@ shownBy (suc g) front second = front
 
 -- second is the task behind the front one before the call
 abbrev pub answerFor : Plan → Task → Answer
-answerFor p second = answerBy (p .refusal) (answerOf (shownBy (p .gone) (p .front) second) (p .n) (p .main) (p .closed) (p .edition))
+answerFor p second =
+    answerBy (p .refusal) (answerOf (shownBy (p .gone) (p .front) second) (p .n) (p .main) (p .closed) (p .edition) (p .«no_history»))
 
 -- where the call is accepted and a task stands after it, the one that is shown has screens
 abbrev pub Showable : Plan → Task → Type 0

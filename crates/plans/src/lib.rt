@@ -15,8 +15,8 @@ use session::Session;
 use session::Task;
 
 // The front task after the call, how many tasks go one place back, which task goes then, if one does, whether the
-// task behind the front one loses its top screen, the numbers, how many screens close, and the edition. A refused call changes
-// nothing.
+// task behind the front one loses its top screen, the numbers, how many screens close, the edition, and the No-History mark. A
+// refused call changes nothing.
 pub struct Plan {
     pub front: Task,
     pub main: u8,
@@ -27,6 +27,7 @@ pub struct Plan {
     pub refusal: u8,
     pub closed: u8,
     pub edition: u8,
+    pub no_history: u8,
 }
 
 // What stands for no task among the indices of tasks, and the last of these.
@@ -89,10 +90,24 @@ pub fn answer_of(plan: Plan, second: Task) -> Answer
         return answer::refused(plan.refusal);
     }
     if plan.gone == 0 {
-        return answer::of_front(second, plan.n, plan.main, plan.closed, plan.edition);
+        return answer::of_front(
+            second,
+            plan.n,
+            plan.main,
+            plan.closed,
+            plan.edition,
+            plan.no_history,
+        );
     }
     let front = plan.front;
-    answer::of_front(front, plan.n, plan.main, plan.closed, plan.edition)
+    answer::of_front(
+        front,
+        plan.n,
+        plan.main,
+        plan.closed,
+        plan.edition,
+        plan.no_history,
+    )
 }
 
 // ---- plans
@@ -112,6 +127,7 @@ pub fn still(s: Session, number: u8) -> Plan
         refusal: number,
         closed: 0,
         edition: s.edition,
+        no_history: s.no_history,
     }
 }
 
@@ -203,7 +219,7 @@ fn edition_by(n: u8, edition: u8) -> u8
 }
 
 // t comes in front and so many tasks go back, by which so many screens closed, and then the marked screen closes; second is the
-// height of the task behind t.
+// height of the task behind t. The No-History mark is cleared.
 pub fn closing_plan(
     mark: Mark,
     t: Task,
@@ -229,5 +245,6 @@ pub fn closing_plan(
         refusal: 0,
         closed: closed_with(mark, closed),
         edition: edition_by(left, edition),
+        no_history: 0,
     }
 }

@@ -97,6 +97,7 @@ fn play_whole(table: &[u8], from: Session, input: &[u8], count: usize, out: &mut
         s.n = plan.n;
         s.main = plan.main;
         s.edition = plan.edition;
+        s.no_history = plan.no_history;
         if plans::front_alone(plan) {
             let front = plan.front;
             s.tasks[0] = front;

@@ -7,9 +7,9 @@ use Rattle.model.specs.declared.Reason.{Reason}
 use Rattle.model.specs.declared.Rule.{Rule}
 use Rattle.model.specs.Flags.{flagsOf}
 use Rattle.model.specs.Search.{placeOf}
-use Rattle.model.specs.Rules.{soughtBy, chooseIn, choose}
+use Rattle.model.specs.Rules.{numberOf, soughtBy, chooseIn, choose}
 use Rattle.model.specs.Calls.{start, chosen}
-use Rattle.model.specs.Reasons.{numberOf, howFound, noReason, reasonBy}
+use Rattle.model.specs.Reasons.{howFound, noReason, reasonBy}
 use Rattle.session.specs.declared.Session.{Session}
 use Rattle.session.specs.Stored.{view}
 use Rattle.session.proofs.Known.{Sized}

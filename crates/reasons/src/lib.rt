@@ -2,39 +2,12 @@
 // here: what is sought and decided is what the start seeks and decides.
 
 ghost use mathlib.Core.Path.{_≡_};
-ghost use Rattle.model.specs.Reasons.{numberOf, howFound, noReason};
+ghost use Rattle.model.specs.Reasons.{howFound, noReason};
 ghost use Rattle.calls.specs.StoredCalls.{sharedRefusal};
 ghost use Rattle.reasons.specs.StoredReasons.{whyStored};
 use model::Found;
 use model::Reason;
-use model::Rule;
 use session::Session;
-
-// The number of a rule.
-fn number_of(rule: Rule) -> u8
-    ensures { λ r. ⌜ r ≡ numberOf rule ⌝ }
-{
-    match rule {
-        Rule::R1 => 1,
-        Rule::R2 => 2,
-        Rule::R3 => 3,
-        Rule::R4 => 4,
-        Rule::R5 => 5,
-        Rule::R6 => 6,
-        Rule::R7 => 7,
-        Rule::R8 => 8,
-        Rule::R9 => 9,
-        Rule::R10 => 10,
-        Rule::R11 => 11,
-        Rule::R12 => 12,
-        Rule::R13 => 13,
-        Rule::R14 => 14,
-        Rule::R15 => 15,
-        Rule::R16 => 16,
-        Rule::R17 => 17,
-        Rule::R18 => 18,
-    }
-}
 
 // How a task was found: not at all, by its root, or by its affinity.
 fn how_found(found: Found) -> u8
@@ -76,7 +49,7 @@ pub fn why(table: &[u8], s: Session, b: u8, word: u32, shared: u8) -> Reason
     let found = sought.found;
     Reason {
         refusal: 0,
-        rule: number_of(rule),
+        rule: rules::number_of(rule),
         place: rules::place_of(found),
         found: how_found(found),
     }

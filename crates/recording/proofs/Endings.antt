@@ -17,7 +17,9 @@ use Rattle.model.proofs.ImageLaws.{image-short}
 use Rattle.model.proofs.Promise3.{sound-lifelong, images-tell}
 use Rattle.session.specs.declared.Session.{Session}
 use Rattle.session.specs.Stored.{freshSession, view, hold, storageBlank, soundStored}
-use Rattle.session.proofs.StoredLaws.{fresh-held, view-hold, hold-sound, sound-blank, sound-view, sound-edition}
+use Rattle.session.proofs.StoredLaws.{fresh-held, view-hold, hold-sound, sound-view}
+use Rattle.image.specs.Writable.{Writable}
+use Rattle.image.proofs.Writables.{sound-writable}
 use Rattle.calls.proofs.HistoryLaws.{alike-held, after-fresh, answers-fresh}
 use Rattle.navigator.specs.Promise3.{reached}
 use Rattle.navigator.proofs.Promise3Laws.{saved-held}
@@ -87,8 +89,8 @@ module _ (tb : List ℕ) (c : Session) (e : soundStored tb c ≡ true) where
   pub stored-lifelong : Lifelong tb (view c)
   stored-lifelong = sound-lifelong tb (view c) (sound-view tb c e)
 
-  pub stored-short : (storageBlank c ≡ true) × ((length (image (view c)) ≤ longestImage) × (isEdition (c .edition) ≡ true))
-  stored-short = (sound-blank tb c e, (image-short tb (view c) (sound-view tb c e), sound-edition tb c e))
+  pub stored-short : Writable c × (length (image (view c)) ≤ longestImage)
+  stored-short = (sound-writable tb c e, image-short tb (view c) (sound-view tb c e))
 
 -- ---- every list
 

@@ -8,12 +8,13 @@ ghost use mathlib.Core.Bool.{true, false};
 ghost use lib.ListN.{length, drop};
 ghost use Rattle.model.specs.Lists.{All};
 ghost use Rattle.model.specs.Table.{tableRefusal};
-ghost use Rattle.model.specs.Session.{screensIn, isEdition};
+ghost use Rattle.model.specs.Session.{screensIn};
 ghost use Rattle.model.specs.Image.{image, longestImage};
 ghost use Rattle.model.specs.Histories.{IsNoRestore};
 ghost use Rattle.model.specs.Balance.{ScreensBalance};
 ghost use Rattle.model.specs.Promises.{Lifelong};
 ghost use Rattle.session.specs.Stored.{view, storageBlank, soundStored, Ready};
+ghost use Rattle.image.specs.Writable.{Writable};
 ghost use Rattle.navigator.specs.Promise3.{reached, KeepsPromise3};
 ghost use Rattle.notes.specs.Places.{Tells};
 ghost use Rattle.recording.specs.CallBytes.{imageLength, callOf, callsIn};
@@ -215,8 +216,8 @@ pub fn count_screens(table: &[u8], calls: &[u8]) -> Screens
 
 // Two sessions have equal images: the same length and the same bytes.
 fn same_image(s: Session, t: Session) -> bool
-    requires { ⌜ (storageBlank s ≡ true) × ((length (image (view s)) ≤ longestImage) × (isEdition (s .edition) ≡ true)) ⌝ }
-    requires { ⌜ (storageBlank t ≡ true) × ((length (image (view t)) ≤ longestImage) × (isEdition (t .edition) ≡ true)) ⌝ }
+    requires { ⌜ Writable s × (length (image (view s)) ≤ longestImage) ⌝ }
+    requires { ⌜ Writable t × (length (image (view t)) ≤ longestImage) ⌝ }
     ensures { λ r. ⌜ (r ≡ true) ↔ (image (view s) ≡ image (view t)) ⌝ }
 {
     let mut a = [0u8; LONGEST_IMAGE];

@@ -11,7 +11,7 @@ ghost use Rattle.model.specs.Refusals.{refusal};
 ghost use Rattle.model.specs.Table.{isSingleTop, isSingleInstance};
 ghost use Rattle.model.specs.Session.{State, frontScreen, count, mostHeight};
 ghost use Rattle.model.specs.Search.{placeOf, isFound, isFoundByRoot, holds};
-ghost use Rattle.model.specs.Rules.{groupOf, soughtBy, choose as chooseRule};
+ghost use Rattle.model.specs.Rules.{numberOf, isR7, groupOf, soughtBy, choose as chooseRule};
 ghost use Rattle.model.specs.Effects.{reordered as reorderedBy, effectOf};
 ghost use Rattle.model.specs.Calls.{effectIn, isPush, roomChecks};
 ghost use Rattle.session.specs.Stored.{view, viewTask};
@@ -96,6 +96,39 @@ pub fn effect_of(rule: Rule, edition: u8, main: u8) -> Effect
         Rule::R5 | Rule::R14 | Rule::R17 => Effect::MoveAnd(Change::Push),
         Rule::R1 | Rule::R15 | Rule::R16 => Effect::MoveAnd(Change::Keep),
     }
+}
+
+// The number of a rule.
+pub fn number_of(rule: Rule) -> u8
+    ensures { λ r. ⌜ r ≡ numberOf rule ⌝ }
+{
+    match rule {
+        Rule::R1 => 1,
+        Rule::R2 => 2,
+        Rule::R3 => 3,
+        Rule::R4 => 4,
+        Rule::R5 => 5,
+        Rule::R6 => 6,
+        Rule::R7 => 7,
+        Rule::R8 => 8,
+        Rule::R9 => 9,
+        Rule::R10 => 10,
+        Rule::R11 => 11,
+        Rule::R12 => 12,
+        Rule::R13 => 13,
+        Rule::R14 => 14,
+        Rule::R15 => 15,
+        Rule::R16 => 16,
+        Rule::R17 => 17,
+        Rule::R18 => 18,
+    }
+}
+
+// The rule is R7, by which a plain start changes nothing.
+pub fn is_r7(rule: Rule) -> bool
+    ensures { λ r. ⌜ r ≡ isR7 rule ⌝ }
+{
+    number_of(rule) == 7
 }
 
 // b stands in the task.

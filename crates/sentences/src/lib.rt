@@ -101,7 +101,7 @@ const REFUSAL_2: [u8; 53] = *b"refusal 2: main screen not below N, or a mode abo
 
 const REFUSAL_3: [u8; 31] = *b"refusal 3: start: B not below N";
 
-const REFUSAL_4: [u8; 39] = *b"refusal 4: start: a bit outside the six";
+const REFUSAL_4: [u8; 41] = *b"refusal 4: start: a bit outside the seven";
 
 const REFUSAL_9: [u8; 53] = *b"refusal 9: player only: unknown kind, or a cut record";
 

@@ -16,7 +16,7 @@ abbrev pub blankTask : Task
 blankTask = record { root = 0; height = 0; screens = replicate mostHeight 0 }
 
 abbrev pub freshSession : Session
-freshSession = record { tasks = replicate mostTasks blankTask; n = 0; main = 0; edition = 8 }
+freshSession = record { tasks = replicate mostTasks blankTask; n = 0; main = 0; edition = 8; «no_history» = 0 }
 
 -- what the language says that code reads past the end of an array of tasks
 abbrev pub noTask : Task
@@ -42,19 +42,23 @@ withScreens t xs = record { root = t .root; height = t .height; screens = xs }
 
 -- a session with these tasks
 abbrev pub withTasks : Session → List Task → Session
-withTasks c ts = record { tasks = ts; n = c .n; main = c .main; edition = c .edition }
+withTasks c ts = record { tasks = ts; n = c .n; main = c .main; edition = c .edition; «no_history» = c .«no_history» }
 
 -- a session with this n
 abbrev pub withCount : Session → ℕ → Session
-withCount c n = record { tasks = c .tasks; n = n; main = c .main; edition = c .edition }
+withCount c n = record { tasks = c .tasks; n = n; main = c .main; edition = c .edition; «no_history» = c .«no_history» }
 
 -- a session with this main place
 abbrev pub withMain : Session → ℕ → Session
-withMain c m = record { tasks = c .tasks; n = c .n; main = m; edition = c .edition }
+withMain c m = record { tasks = c .tasks; n = c .n; main = m; edition = c .edition; «no_history» = c .«no_history» }
 
 -- a session with this edition
 abbrev pub withEdition : Session → ℕ → Session
-withEdition c e = record { tasks = c .tasks; n = c .n; main = c .main; edition = e }
+withEdition c e = record { tasks = c .tasks; n = c .n; main = c .main; edition = e; «no_history» = c .«no_history» }
+
+-- a session with this No-History mark
+abbrev pub withNoHistory : Session → ℕ → Session
+withNoHistory c h = record { tasks = c .tasks; n = c .n; main = c .main; edition = c .edition; «no_history» = h }
 
 -- ---- what is stored
 
@@ -64,7 +68,7 @@ viewTask t = stack (t .root) (reverse (take (t .height) (t .screens)))
 
 -- the session that is stored
 unfoldable pub view : Session → State ℕ
-view c = state (map viewTask (take (c .n) (c .tasks))) (c .main) (c .edition)
+view c = state (map viewTask (take (c .n) (c .tasks))) (c .main) (c .edition) (c .«no_history»)
 
 -- the root of each task
 abbrev pub root : Task → ℕ
@@ -90,6 +94,7 @@ hold s =
       n = length (s .tasks);
       main = s .main;
       edition = s .edition;
+      «no_history» = s .noHistory;
     }
 
 -- ---- push and pop

@@ -13,13 +13,15 @@ pub struct Task {
     pub screens: [u8; Session::SCREENS],
 }
 
-// A session: n tasks, front first, the main place, and the edition: 6, 7 or 8, and 8 where no task stands.
+// A session: n tasks, front first, the main place, the edition (6, 7 or 8, and 8 where no task stands), and the No-History mark: 1
+// where the front screen was pushed or made new by a start with the No-History flag, else 0.
 #[repr(C)]
 pub struct Session {
     pub tasks: [Task; Session::TASKS],
     pub n: u8,
     pub main: u8,
     pub edition: u8,
+    pub no_history: u8,
 }
 
 impl Session {
@@ -42,6 +44,7 @@ impl Session {
             n: 0,
             main: 0,
             edition: 8,
+            no_history: 0,
         }
     }
 

@@ -9,7 +9,7 @@ use lib.ListN.{length, take, drop, length-take, length-map, List·getD-map}
 use borrow.Author.Tests.{eqb-true, eq-eqb, ne-eqb}
 use Rattle.model.specs.Lists.{all, pairwise, if_then_else_}
 use Rattle.model.specs.Table.{sizeOf, rootsOnce}
-use Rattle.model.specs.Session.{mostTasks, mostHeight, editionKept, editionSound, taskSound, rootsDiffer, mainSound, sound}
+use Rattle.model.specs.Session.{mostTasks, mostHeight, editionKept, editionSound, noHistorySound, taskSound, rootsDiffer, mainSound, sound}
 use Rattle.model.proofs.Logic.{Decides, and-decides, leb-decides, ltb-decides, eqb-decides, self-decides, all-decides, same-test, and-left, and-right, All-map}
 use Rattle.model.proofs.Sound.{task-decides}
 use Rattle.model.proofs.Walks.{all-map, all-both, all-cong, all-true, pairwise-map}
@@ -98,6 +98,7 @@ pub record SessionFits (tb : List ℕ) (c : Session) : Type 0 where
   pub pairs : pairwise (mayBeRoots tb) (rootsOf (take (c .n) (c .tasks))) ≡ true
   pub place : mainRootSound tb (rootsOf (take (c .n) (c .tasks))) (c .main) ≡ true
   pub edition : editionSound (length (take (c .n) (c .tasks))) (c .edition) ≡ true
+  pub noHistory : noHistorySound (length (take (c .n) (c .tasks))) (c .«no_history») ≡ true
 
 module _ (tb : List ℕ) (c : Session) where
   abbrev ts : List Task
@@ -124,6 +125,9 @@ module _ (tb : List ℕ) (c : Session) where
   edition-is : editionSound (length (map viewTask ts)) (c .edition) ≡ editionSound (length ts) (c .edition)
   edition-is = rw (length-map ts viewTask)
 
+  no-history-is : noHistorySound (length (map viewTask ts)) (c .«no_history») ≡ noHistorySound (length ts) (c .«no_history»)
+  no-history-is = rw (length-map ts viewTask)
+
   pub session-fits : Decides (soundStored tb c) (SessionFits tb c)
   unfolding soundStored storageBlank sound view
   session-fits =
@@ -136,12 +140,13 @@ module _ (tb : List ℕ) (c : Session) where
               rest = r .0 .1 .1;
               pairs = sym pairs-is ∙ r .1 .0 .1 .0;
               place = sym place-is ∙ r .1 .0 .1 .1;
-              edition = sym edition-is ∙ r .1 .1;
+              edition = sym edition-is ∙ r .1 .1 .0;
+              noHistory = sym no-history-is ∙ r .1 .1 .1;
             };
         shows = λ f.
             let b = both .holds (each-is ∙ f .each) in
             let few : length (map viewTask ts) ≤ mostTasks = omega (arith, f .few, length-take (c .n) (c .tasks), length-map ts viewTask) in
-            d .shows ((f .few, (b .0, f .rest)), (((few, b .1), (pairs-is ∙ f .pairs, place-is ∙ f .place)), edition-is ∙ f .edition));
+            d .shows ((f .few, (b .0, f .rest)), (((few, b .1), (pairs-is ∙ f .pairs, place-is ∙ f .place)), (edition-is ∙ f .edition, no-history-is ∙ f .noHistory)));
       }
     where
       both : Decides (all blankAbove ts && all (taskSound tb) (map viewTask ts)) ((all blankAbove ts ≡ true) × (all (taskSound tb) (map viewTask ts) ≡ true))
@@ -151,12 +156,12 @@ module _ (tb : List ℕ) (c : Session) where
           ((leb (c .n) mostTasks && (all blankAbove ts && all isBlank (drop (c .n) (c .tasks))))
           && (((leb (length (map viewTask ts)) mostTasks && all (taskSound tb) (map viewTask ts))
           && (pairwise (rootsDiffer tb) (map viewTask ts) && mainSound tb (map viewTask ts) (c .main)))
-          && editionSound (length (map viewTask ts)) (c .edition)))
+          && (editionSound (length (map viewTask ts)) (c .edition) && noHistorySound (length (map viewTask ts)) (c .«no_history»))))
           (((c .n ≤ mostTasks) × ((all blankAbove ts ≡ true) × (all isBlank (drop (c .n) (c .tasks)) ≡ true)))
           × ((((length (map viewTask ts) ≤ mostTasks) × (all (taskSound tb) (map viewTask ts) ≡ true))
           × ((pairwise (rootsDiffer tb) (map viewTask ts) ≡ true) × (mainSound tb (map viewTask ts) (c .main) ≡ true)))
-          × (editionSound (length (map viewTask ts)) (c .edition) ≡ true)))
+          × ((editionSound (length (map viewTask ts)) (c .edition) ≡ true) × (noHistorySound (length (map viewTask ts)) (c .«no_history») ≡ true))))
       d =
           and-decides (and-decides (leb-decides (c .n) mostTasks) (and-decides (self-decides _) (self-decides _)))
           (and-decides (and-decides (and-decides (leb-decides (length (map viewTask ts)) mostTasks) (self-decides _))
-          (and-decides (self-decides _) (self-decides _))) (self-decides _))
+          (and-decides (self-decides _) (self-decides _))) (and-decides (self-decides _) (self-decides _)))

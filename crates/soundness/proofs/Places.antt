@@ -11,7 +11,7 @@ use lib.Seq.{getD-set-same, getD-set-other, set-getD, getD-take, getD-drop, leng
 use borrow.Author.Tests.{ltb-true, ltb-false, lt-ltb, le-ltb, ne-eqb}
 use Rattle.model.specs.Lists.{all, All, if_then_else_}
 use Rattle.model.specs.Table.{tableRefusal}
-use Rattle.model.specs.Session.{mostTasks, editionSound}
+use Rattle.model.specs.Session.{mostTasks, editionSound, noHistorySound}
 use Rattle.model.proofs.Logic.{refuted, contradiction, and-left, and-right, All-at}
 use Rattle.model.proofs.Tables.{good-shaped}
 use Rattle.model.proofs.Walks.{all-at, all-take-at}
@@ -185,6 +185,9 @@ module _ {tb : List ℕ} {s : Session} where
 
     pub edition-read : editionSound (length (take (s .n) (s .tasks))) (s .edition) ≡ editionSound (s .n) (s .edition)
     edition-read = rw taken
+
+    pub no-history-read : noHistorySound (length (take (s .n) (s .tasks))) (s .«no_history») ≡ noHistorySound (s .n) (s .«no_history»)
+    no-history-read = rw taken
 
     root-read : (j : ℕ) → j < mostTasks → isRoot (getD roots j 0) ≡ placeSound tb (ltb j (s .n)) (task s j)
     root-read j h = ap isRoot (b .read j h) ∙ read-root tb (b .good) (task s j) (fits-at b j h) (ltb j (s .n))

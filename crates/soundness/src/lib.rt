@@ -6,7 +6,7 @@ ghost use mathlib.Core.Bool.{true};
 ghost use lib.ListN.{take, drop};
 ghost use Rattle.model.specs.Lists.{all, pairwise};
 ghost use Rattle.model.specs.Table.{tableRefusal};
-ghost use Rattle.model.specs.Session.{mostTasks, editionSound};
+ghost use Rattle.model.specs.Session.{mostTasks, editionSound, noHistorySound};
 ghost use Rattle.session.specs.Stored.{soundStored};
 ghost use Rattle.places.specs.PlaceTests.{isRoot};
 ghost use Rattle.soundness.specs.Tests.{otherRoot, rootsKnown, mayBeRoots, mainRootSound};
@@ -81,6 +81,13 @@ fn edition_sound(n: u8, edition: u8) -> bool
     Session::is_edition(edition) & ((n != 0) | (edition == 8))
 }
 
+// The No-History mark is 0 or 1, and 0 where n is 0.
+fn no_history_sound(n: u8, no_history: u8) -> bool
+    ensures { λ r. ⌜ r ≡ noHistorySound n «no_history» ⌝ }
+{
+    (no_history <= 1) & (no_history <= n)
+}
+
 // The session is sound under a good table.
 pub fn sound(table: &[u8], s: Session) -> bool
     requires { ⌜ tableRefusal (now table) ≡ 0 ⌝ }
@@ -123,5 +130,7 @@ pub fn sound(table: &[u8], s: Session) -> bool
     if !roots_differ(table, roots, n) {
         return false;
     }
-    main_sound(table, roots, s.n, s.main) & edition_sound(s.n, s.edition)
+    main_sound(table, roots, s.n, s.main)
+        & edition_sound(s.n, s.edition)
+        & no_history_sound(s.n, s.no_history)
 }

@@ -1,7 +1,7 @@
 -- What a start's plan puts is what the start makes, and it can be put. First the session before the marked screen closes, then
 -- where that screen stands: in front, or on top of the second task, to which the front task went.
 use Prim.Native.Nat.{ℕ, zero, suc, pred, _+_, _≤_}
-use mathlib.Core.Path.{_≡_, refl, sym, _∙_, ap}
+use mathlib.Core.Path.{_≡_, refl, sym, _∙_, ap, ap₂}
 use mathlib.Core.Bool.{Bool, true, false}
 use mathlib.Core.List.{List, [], _∷_}
 use native.Mathlib.Omega.{arith}
@@ -12,14 +12,15 @@ use Rattle.model.specs.declared.Change.{Change}
 use Rattle.model.specs.declared.Effect.{Effect}
 use Rattle.model.specs.declared.Flags.{Flags}
 use Rattle.model.specs.declared.Mark.{Mark}
+use Rattle.model.specs.declared.Rule.{Rule}
 use Rattle.model.specs.Lists.{if_then_else_}
 use Rattle.model.specs.Session.{top, mostHeight}
 use Rattle.model.specs.Rules.{choose}
-use Rattle.model.specs.Calls.{startedBy, closedByChoice}
+use Rattle.model.specs.Calls.{startedBy, callerCloses, noHistoryAfter, closedByChoice}
 use Rattle.model.specs.Marks.{markIn, closeAt, closedAt, Stands}
 use Rattle.session.specs.declared.Session.{Session}
 use Rattle.session.specs.declared.Task.{Task}
-use Rattle.session.specs.Stored.{view, viewTask, hold, noTask, storageBlank, taskBehind}
+use Rattle.session.specs.Stored.{view, viewTask, hold, noTask, withNoHistory, storageBlank, taskBehind}
 use Rattle.session.proofs.Known.{Sized}
 use Rattle.rules.specs.Shows.{indexOf}
 use Rattle.rules.specs.Startable.{Startable}
@@ -35,9 +36,9 @@ use Rattle.plans.specs.declared.Plan.{Plan}
 use Rattle.plans.specs.Puts.{putOf, Puttable}
 use Rattle.plans.specs.Plans.{closes, closesWith, NearFront, Opens}
 use Rattle.plans.specs.Shown.{Uncovers}
-use Rattle.plans.proofs.Closes.{putIn, plan-closes, plan-puttable, closed-puttable}
+use Rattle.plans.proofs.Closes.{putIn, plan-closes, plan-puttable, closed-puttable, marked-puttable}
 use Rattle.starts.specs.declared.Chosen.{Chosen}
-use Rattle.starts.specs.Steps.{markIf, made, Plannable, planShift, planMark, planNext, planClosed, startPlan, madeClosed}
+use Rattle.starts.specs.Steps.{markIf, Plannable, planShift, planMark, planNext, planClosed, carryingPlan, startPlan, carried, carriedClosed, made, madeClosed}
 
 -- ---- where a marked screen may stand
 
@@ -71,7 +72,7 @@ within-change Change.Lift true = first 0
 within-change Change.Lift false = first 1
 within-change Change.Push isB = first 1
 
-within : (fin : Bool) (d : Effect) (p n : ℕ) (isB : Bool) → 1 ≤ n → Within (markIf fin d p isB) (shiftOf d p n)
+within : (caller : Bool) (d : Effect) (p n : ℕ) (isB : Bool) → 1 ≤ n → Within (markIf caller d p isB) (shiftOf d p n)
 within false d p n isB some = none (shiftOf d p n)
 within true Effect.New p n isB some = behind n some
 within true (Effect.InFront c) p n isB some = within-change c isB
@@ -102,15 +103,15 @@ accepted (Mark.Stands zero i) false one′ t k n m v = refl
 accepted (Mark.Stands (suc j) i) one true t k n m v = refl
 accepted (Mark.Stands (suc j) i) one false t k n m v = refl
 
-pub plan-accepts : (fin : Bool) (b : ℕ) (c : Session) (t : Task) (x : Chosen) → startPlan fin b c t x .refusal ≡ 0
-plan-accepts fin b c t x =
-    accepted (planMark fin b c t x) (leb (planNext fin b c t x .height) 1) (leb (taskBehind c 0 .height) 1) (planNext fin b c t x)
-    (planShift fin b c t x) (countAfter (x .effect) (c .n)) (mainAfter (x .effect) (x .place) (c .main)) (c .edition)
+carrying-accepts : (caller : Bool) (b : ℕ) (c : Session) (t : Task) (x : Chosen) → carryingPlan caller b c t x .refusal ≡ 0
+carrying-accepts caller b c t x =
+    accepted (planMark caller b c t x) (leb (planNext caller b c t x .height) 1) (leb (taskBehind c 0 .height) 1) (planNext caller b c t x)
+    (planShift caller b c t x) (countAfter (x .effect) (c .n)) (mainAfter (x .effect) (x .place) (c .main)) (c .edition)
 
 -- ---- a start for which there is room
 
 module _ {tb : List ℕ} {c : Session} {b : ℕ} {f : Flags} (z : Sized c) (h : Startable tb c b) {t : Task} {x : Chosen}
-    (ok : Plannable tb c b f t x) (fin : Bool) where
+    (ok : Plannable tb c b f t x) (caller : Bool) where
   pub room : roomRefusal tb c b f ≡ 0
   room = sym (ok .chosen .number) ∙ ok .room
 
@@ -121,13 +122,13 @@ module _ {tb : List ℕ} {c : Session} {b : ℕ} {f : Flags} (z : Sized c) (h : 
   picks = record { index = refl; effect = ok .chosen .effect; place = ok .chosen .place }
 
   abbrev next : Task
-  next = planNext fin b c t x
+  next = planNext caller b c t x
 
   abbrev shift : ℕ
-  shift = planShift fin b c t x
+  shift = planShift caller b c t x
 
   abbrev mark : Mark
-  mark = planMark fin b c t x
+  mark = planMark caller b c t x
 
   abbrev isB : Bool
   isB = eqb b (top (viewTask (taskBehind c 0)))
@@ -149,23 +150,23 @@ module _ {tb : List ℕ} {c : Session} {b : ℕ} {f : Flags} (z : Sized c) (h : 
   put-blank = markable .blank
 
   put-marked : Stands mark (view put)
-  put-marked = go fin
+  put-marked = go caller
     where
-      go : (fin : Bool) → Stands (markIf fin (x .effect) (x .place) isB) (view put)
+      go : (caller : Bool) → Stands (markIf caller (x .effect) (x .place) isB) (view put)
       go true = markable .marked
       go false = tt
 
-  put-makes : hold (closeAt mark (view put)) ≡ hold (made fin tb c b f)
-  put-makes = go fin
+  put-makes : hold (closeAt mark (view put)) ≡ hold (carried caller tb c b f)
+  put-makes = go caller
     where
-      go : (fin : Bool) → hold (closeAt (markIf fin (x .effect) (x .place) isB) (view put)) ≡ hold (made fin tb c b f)
+      go : (caller : Bool) → hold (closeAt (markIf caller (x .effect) (x .place) isB) (view put)) ≡ hold (carried caller tb c b f)
       go true = picked-finished z h room picks put-started refl refl
       go false = sym (closed-gone put put-sized put-blank {m = Mark.Gone} refl) ∙ put-started
 
   -- ---- the mark
 
   stands : Within mark shift
-  stands = within fin (x .effect) (x .place) (c .n) isB (h .some)
+  stands = within caller (x .effect) (x .place) (c .n) isB (h .some)
 
   -- the test of the second task's height reads the old front task
   same : (j i : ℕ) → mark ≡ Mark.Stands (suc j) i → leb (taskBehind put 1 .height) 1 ≡ leb (taskBehind c 0 .height) 1
@@ -176,40 +177,75 @@ module _ {tb : List ℕ} {c : Session} {b : ℕ} {f : Flags} (z : Sized c) (h : 
   -- ---- the plan
 
   abbrev plan : Plan
-  plan = startPlan fin b c t x
+  plan = carryingPlan caller b c t x
 
-  pub start-put : putOf c plan ≡ hold (made fin tb c b f)
-  start-put = plan-closes c next shift _ _ _ put-sized put-blank mark (stands .0) put-marked _ _ refl same ∙ put-makes
+  carrying-put : putOf c plan ≡ withNoHistory (hold (carried caller tb c b f)) 0
+  carrying-put =
+      plan-closes c next shift _ _ _ put-sized put-blank mark (stands .0) put-marked _ _ refl same
+      ∙ ap (λ (d : Session). withNoHistory d 0) put-makes
 
-  pub start-puttable : Puttable c plan
-  start-puttable =
-      closed-puttable c (planClosed fin b c t x + closedAt mark)
+  carrying-puttable : Puttable c plan
+  carrying-puttable =
+      closed-puttable c (planClosed caller b c t x + closedAt mark)
       (plan-puttable c next shift _ _ _ put-sized put-blank (shift-low c z (x .place) (x .effect) (picked-carriable z h room picks))
       mark (stands .0) put-marked _ _ same)
 
-  pub start-uncovers : Uncovers plan
-  start-uncovers = uncovers mark _ _ next shift _ _ _ stands
+  carrying-uncovers : Uncovers plan
+  carrying-uncovers = uncovers mark _ _ next shift _ _ _ stands
 
   -- the screens that the effect closes
-  effect-closes : planClosed fin b c t x ≡ closedByChoice (choose tb (view c) b f) b (view c)
+  effect-closes : planClosed caller b c t x ≡ closedByChoice (choose tb (view c) b f) b (view c)
   effect-closes = rw (ok .task) (picked-closed z h room picks)
 
-  pub start-few : planClosed fin b c t x ≤ mostHeight
+  pub start-few : planClosed caller b c t x ≤ mostHeight
   start-few = rw (ok .task) (picked-few z h room picks)
 
   -- and with the marked one
-  pub start-closes : plan .closed ≡ madeClosed fin tb c b f
-  start-closes = go fin
+  carrying-closes : plan .closed ≡ carriedClosed caller tb c b f
+  carrying-closes = go caller
     where
-      go : (fin : Bool) → planClosed fin b c t x + closedAt (markIf fin (x .effect) (x .place) isB) ≡ madeClosed fin tb c b f
+      go : (caller : Bool) → planClosed caller b c t x + closedAt (markIf caller (x .effect) (x .place) isB) ≡ carriedClosed caller tb c b f
       go true = picked-finish-closed z h room picks refl effect-closes
       go false = let e = effect-closes in omega (arith, e)
 
-  pub start-accepts : plan .refusal ≡ 0
-  start-accepts = plan-accepts fin b c t x
-
   pub start-opens : Opens mark next
   start-opens i e = screen-there put put-sized 0 i (closable put 0 i put-blank e put-marked)
+
+-- ---- with the No-History mark
+
+pub plan-accepts : (fin noh : Bool) (b : ℕ) (c : Session) (t : Task) (x : Chosen) → startPlan fin noh b c t x .refusal ≡ 0
+plan-accepts fin noh b c t x = carrying-accepts (callerCloses fin (c .«no_history») (x .rule)) b c t x
+
+module _ {tb : List ℕ} {c : Session} {b : ℕ} {f : Flags} (z : Sized c) (h : Startable tb c b) {t : Task} {x : Chosen}
+    (ok : Plannable tb c b f t x) (fin : Bool) where
+  abbrev caller : Bool
+  caller = callerCloses fin (c .«no_history») (x .rule)
+
+  abbrev left : ℕ
+  left = noHistoryAfter fin (c .«no_history») (f .noh) (x .rule) (x .effect)
+
+  pub start-put : putOf c (startPlan fin (f .noh) b c t x) ≡ hold (made fin tb c b f)
+  unfolding hold view
+  start-put =
+      ap (λ (d : Session). withNoHistory d left) (carrying-put z h ok caller)
+      ∙ ap₂ (λ (r : Rule) (d : Effect).
+      withNoHistory (hold (carried (callerCloses fin (c .«no_history») r) tb c b f)) (noHistoryAfter fin (c .«no_history») (f .noh) r d))
+      (ok .chosen .rule) (ok .chosen .effect)
+
+  pub start-puttable : Puttable c (startPlan fin (f .noh) b c t x)
+  start-puttable = marked-puttable c left (carrying-puttable z h ok caller)
+
+  pub start-uncovers : Uncovers (startPlan fin (f .noh) b c t x)
+  start-uncovers = carrying-uncovers z h ok caller
+
+  pub start-closes : startPlan fin (f .noh) b c t x .closed ≡ madeClosed fin tb c b f
+  unfolding view
+  start-closes =
+      carrying-closes z h ok caller
+      ∙ ap (λ (r : Rule). carriedClosed (callerCloses fin (c .«no_history») r) tb c b f) (ok .chosen .rule)
+
+  pub start-accepts : startPlan fin (f .noh) b c t x .refusal ≡ 0
+  start-accepts = plan-accepts fin (f .noh) b c t x
 
 -- ---- by what the code has of it
 
@@ -219,17 +255,17 @@ count-some (Effect.InFront c) n some = some
 count-some (Effect.MoveAnd c) n some = some
 
 module _ {tb : List ℕ} {c : Session} {b : ℕ} {f : Flags} (z : Sized c) (h : Startable tb c b) {t : Task} {x : Chosen}
-    (ok : Plannable tb c b f t x) (fin : Bool) {a : ℕ} (top-is : a ≡ top (viewTask (taskBehind c 0)))
-    {mark : Mark} (mark-is : mark ≡ markIf fin (x .effect) (x .place) (eqb b a)) {next : Task} (next-is : next ≡ frontAfter b (x .effect) t)
+    (ok : Plannable tb c b f t x) (caller : Bool) {a : ℕ} (top-is : a ≡ top (viewTask (taskBehind c 0)))
+    {mark : Mark} (mark-is : mark ≡ markIf caller (x .effect) (x .place) (eqb b a)) {next : Task} (next-is : next ≡ frontAfter b (x .effect) t)
     {n : ℕ} (count-is : n ≡ countAfter (x .effect) (c .n)) {place : ℕ} (place-is : place ≡ placeFor b (x .effect) t)
     {closed : ℕ} (closed-is : closed ≡ closedFor (x .effect) (t .height) place) where
   pub closing-requires : Opens mark next × (1 ≤ n) × (closed ≤ mostHeight)
   closing-requires = (
-    rw (mark-is, top-is, next-is) (start-opens z h ok fin),
+    rw (mark-is, top-is, next-is) (start-opens z h ok caller),
     rw count-is (count-some (x .effect) (c .n) (h .some)),
-    rw (closed-is, place-is) (start-few z h ok fin),
+    rw (closed-is, place-is) (start-few z h ok caller),
   )
 
   pub plan-is : {k : ℕ} → k ≡ shiftOf (x .effect) (x .place) (c .n) → {m : ℕ} → m ≡ mainAfter (x .effect) (x .place) (c .main)
-      → closesWith mark (leb (next .height) 1) (leb (taskBehind c 0 .height) 1) next k n m (c .edition) closed ≡ startPlan fin b c t x
+      → closesWith mark (leb (next .height) 1) (leb (taskBehind c 0 .height) 1) next k n m (c .edition) closed ≡ carryingPlan caller b c t x
   plan-is shift-is main-is = rw (mark-is, top-is, next-is, count-is, shift-is, main-is, closed-is, place-is)

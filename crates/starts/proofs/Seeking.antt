@@ -133,7 +133,7 @@ module _ (tb : List ℕ) (c : Session) (b w k : ℕ) (passed : k ≡ 0) (fin : B
             room = room;
           }
 
-      pub planned-roomy : startPlan fin b c t x ≡ planStored k tb c b w fin
+      pub planned-roomy : startPlan fin (flagsOf w .noh) b c t x ≡ planStored k tb c b w fin
       planned-roomy =
           rw (chosen-is, task, chooses .index) (unless-passed (roomRefusal tb c b (flagsOf w)) c _ (sym (chooses .number) ∙ room))
           ∙ unless-passed k c _ passed
@@ -150,7 +150,7 @@ module _ (tb : List ℕ) (c : Session) (b w k : ℕ) where
   pub plan-number : (fin : Bool) → planStored k tb c b w fin .refusal ≡ orElse k (roomRefusal tb c b (flagsOf w))
   plan-number fin =
       unless-number k (roomRefusal tb c b (flagsOf w)) c (roomyPlan tb c b (flagsOf w) fin)
-      (plan-accepts fin b c (taskBehind c (indexOf (choose tb (view c) b (flagsOf w) .found))) (chosenStored tb c b (flagsOf w)))
+      (plan-accepts fin (flagsOf w .noh) b c (taskBehind c (indexOf (choose tb (view c) b (flagsOf w) .found))) (chosenStored tb c b (flagsOf w)))
 
   pub rule-refused : (k ≡ 0 → ⊥) → Rule.R18 ≡ ruleStored k tb c b w
   rule-refused some = go k some

@@ -15,7 +15,7 @@ use Rattle.model.specs.Session.{State, top}
 use Rattle.model.specs.Flags.{flagsOf}
 use Rattle.model.specs.Search.{placeOf}
 use Rattle.model.specs.Rules.{groupOf, soughtBy, choose}
-use Rattle.model.specs.Calls.{effectIn, startedBy, finishedBy, createdByChoice, closedByChoice, closedByFinish}
+use Rattle.model.specs.Calls.{effectIn, callerCloses, startedWith, noHistoryAfter, startBy, createdByChoice, closedWith, closedByStart}
 use Rattle.model.specs.Marks.{markAfter}
 use Rattle.model.specs.Balance.{ifAccepted}
 use Rattle.session.specs.declared.Session.{Session}
@@ -26,7 +26,7 @@ use Rattle.rules.specs.Startable.{Startable}
 use Rattle.effects.specs.Fronted.{shiftOf, placeFor, frontAfter, closedFor, countAfter, mainAfter}
 use Rattle.starts.specs.Checks.{startEntry, roomRefusal}
 use Rattle.plans.specs.declared.Plan.{Plan}
-use Rattle.plans.specs.Plans.{stillOf, closesWith}
+use Rattle.plans.specs.Plans.{stillOf, closesWith, planWithNoHistory}
 use Rattle.starts.specs.declared.Sought.{Sought}
 use Rattle.starts.specs.declared.Chosen.{Chosen}
 
@@ -75,13 +75,13 @@ pub record Plannable (tb : List ℕ) (c : Session) (b : ℕ) (f : Flags) (t : Ta
   pub task : t ≡ taskBehind c (indexOf (choose tb (view c) b f .found))
   pub room : x .number ≡ 0
 
--- a start of b, or a finishing one, where t is the task at the index of the task found
-module _ (finishing : Bool) (b : ℕ) (c : Session) (t : Task) (x : Chosen) where
+-- the rule chosen for a start of b, and the removal where the caller closes; t is the task at the index of the task found
+module _ (caller : Bool) (b : ℕ) (c : Session) (t : Task) (x : Chosen) where
   abbrev pub planShift : ℕ
   planShift = shiftOf (x .effect) (x .place) (c .n)
 
   abbrev pub planMark : Mark
-  planMark = markIf finishing (x .effect) (x .place) (eqb b (top (viewTask (taskBehind c 0))))
+  planMark = markIf caller (x .effect) (x .place) (eqb b (top (viewTask (taskBehind c 0))))
 
   abbrev pub planNext : Task
   planNext = frontAfter b (x .effect) t
@@ -90,10 +90,16 @@ module _ (finishing : Bool) (b : ℕ) (c : Session) (t : Task) (x : Chosen) wher
   abbrev pub planClosed : ℕ
   planClosed = closedFor (x .effect) (t .height) (placeFor b (x .effect) t)
 
-  abbrev pub startPlan : Plan
-  startPlan =
+  abbrev pub carryingPlan : Plan
+  carryingPlan =
       closesWith planMark (leb (planNext .height) 1) (leb (taskBehind c 0 .height) 1) planNext planShift
       (countAfter (x .effect) (c .n)) (mainAfter (x .effect) (x .place) (c .main)) (c .edition) planClosed
+
+-- a start of b, or a finishing one, with or without the No-History flag
+abbrev pub startPlan : Bool → Bool → ℕ → Session → Task → Chosen → Plan
+startPlan finishing noh b c t x =
+    planWithNoHistory (noHistoryAfter finishing (c .«no_history») noh (x .rule) (x .effect))
+    (carryingPlan (callerCloses finishing (c .«no_history») (x .rule)) b c t x)
 
 -- what the definition chooses, and the plan of it
 abbrev pub chosenStored : List ℕ → Session → ℕ → Flags → Chosen
@@ -106,7 +112,7 @@ chosenStored tb c b f =
     }
 
 abbrev pub roomyPlan : List ℕ → Session → ℕ → Flags → Bool → Plan
-roomyPlan tb c b f finishing = startPlan finishing b c (taskBehind c (indexOf (choose tb (view c) b f .found))) (chosenStored tb c b f)
+roomyPlan tb c b f finishing = startPlan finishing (f .noh) b c (taskBehind c (indexOf (choose tb (view c) b f .found))) (chosenStored tb c b f)
 
 -- the plan p, or that of the refusal k
 abbrev pub planUnless : ℕ → Session → Plan → Plan
@@ -127,14 +133,21 @@ ruleStored (suc k) tb c b w = Rule.R18
 abbrev pub Planned : List ℕ → Session → ℕ → ℕ → Task → Sought → Type 0
 Planned tb c b w t x = x .number ≡ 0 → Startable tb c b × (Seeks tb c b (flagsOf w) x × (t ≡ taskBehind c (x .index)))
 
--- the session that a finishing start, or a start, makes where there is room, and the screens that it closes
+-- the session that the rule chosen makes where there is room, and then the removal where the caller closes; and the screens that
+-- they close
+abbrev pub carried : Bool → List ℕ → Session → ℕ → Flags → State ℕ
+carried caller tb c b f =
+    startedWith caller (effectIn (view c) (choose tb (view c) b f)) (placeOf (choose tb (view c) b f .found)) b (view c)
+
+abbrev pub carriedClosed : Bool → List ℕ → Session → ℕ → Flags → ℕ
+carriedClosed caller tb c b f = closedWith caller (choose tb (view c) b f) b (view c)
+
+-- the session that a finishing start, or a start, makes, and the screens that it closes
 abbrev pub made : Bool → List ℕ → Session → ℕ → Flags → State ℕ
-made true tb c b f = finishedBy (choose tb (view c) b f) b (view c)
-made false tb c b f = startedBy (choose tb (view c) b f) b (view c)
+made finishing tb c b f = startBy finishing f (choose tb (view c) b f .rule) (placeOf (choose tb (view c) b f .found)) b (view c)
 
 abbrev pub madeClosed : Bool → List ℕ → Session → ℕ → Flags → ℕ
-madeClosed true tb c b f = closedByFinish (choose tb (view c) b f) b (view c)
-madeClosed false tb c b f = closedByChoice (choose tb (view c) b f) b (view c)
+madeClosed finishing tb c b f = closedByStart finishing (choose tb (view c) b f) b (view c)
 
 -- the screens that a start, or a finishing one, creates: none where it is refused at its entry or for want of room
 abbrev pub createdStored : List ℕ → Session → ℕ → ℕ → ℕ

@@ -3,12 +3,13 @@
 
 ghost use mathlib.Core.Path.{_≡_};
 ghost use Rattle.model.specs.Flags.{flagsOf};
+ghost use Rattle.model.specs.Calls.{callerCloses, noHistoryAfter};
 ghost use Rattle.model.specs.Table.{tableRefusal};
 ghost use Rattle.model.specs.Refusals.{refusal as refusalOf};
 ghost use Rattle.session.specs.Stored.{Ready, taskBehind};
 ghost use Rattle.rules.specs.Startable.{Startable};
 ghost use Rattle.starts.specs.Checks.{startEntry};
-ghost use Rattle.starts.specs.Steps.{noneSought, Seeks, SoughtFrom, Chooses, markIf, Plannable, startPlan, Planned, planStored, ruleStored, createdStored};
+ghost use Rattle.starts.specs.Steps.{noneSought, Seeks, SoughtFrom, Chooses, markIf, Plannable, carryingPlan, startPlan, Planned, planStored, ruleStored, createdStored};
 use model::Effect;
 use model::Flags;
 use model::Found;
@@ -118,17 +119,62 @@ fn choose(table: &[u8], s: Session, t: Task, sought: Sought, b: u8, f: Flags) ->
 
 // ---- plan
 
-// The mark of a start: none but where it finishes.
-fn mark_if(finishing: bool, effect: Effect, place: u8, same: bool) -> Mark
-    ensures { λ r. ⌜ r ≡ markIf finishing effect place same ⌝ }
+// The caller of a start closes: of a finishing one, and where it has the No-History mark, but by R7.
+fn caller_closes(finishing: bool, no_history: u8, rule: Rule) -> bool
+    ensures { λ r. ⌜ r ≡ callerCloses finishing «no_history» rule ⌝ }
 {
-    if finishing {
+    finishing | ((no_history == 1) & !rules::is_r7(rule))
+}
+
+// The No-History mark after a start, where noh is the flag: a plain one by R7 leaves it.
+fn no_history_after(finishing: bool, no_history: u8, noh: bool, rule: Rule, effect: Effect) -> u8
+    ensures { λ r. ⌜ r ≡ noHistoryAfter finishing «no_history» noh rule effect ⌝ }
+{
+    if !finishing & rules::is_r7(rule) {
+        return no_history;
+    }
+    if noh {
+        return effects::created_by(effect);
+    }
+    0
+}
+
+// The mark of a start: none but where its caller closes.
+fn mark_if(closes: bool, effect: Effect, place: u8, same: bool) -> Mark
+    ensures { λ r. ⌜ r ≡ markIf closes effect place same ⌝ }
+{
+    if closes {
         return closing::mark_of(effect, place, same);
     }
     Mark::Gone
 }
 
-// t is the task at the index of the task found.
+// The plan of the rule chosen, and of the removal where the caller closes; t is the task at the index of the task found.
+fn carrying_plan(
+    table: &[u8],
+    s: Session,
+    t: Task,
+    chosen: Chosen,
+    b: u8,
+    word: u32,
+    closes: bool,
+) -> Plan
+    requires { ⌜ Startable (now table) s b × Plannable (now table) s b (flagsOf word) t chosen ⌝ }
+    ensures { λ r. ⌜ r ≡ carryingPlan closes b s t chosen ⌝ }
+{
+    let front = s.tasks[0];
+    let effect = chosen.effect;
+    let shift = effects::shift_of(effect, chosen.place, s.n);
+    let n = effects::count_after(effect, s.n);
+    let main = effects::main_after(effect, chosen.place, s.main);
+    let mark = mark_if(closes, effect, chosen.place, b == front.top());
+    let topmost = effects::place_for(t, b, effect);
+    let next = effects::front_after(t, b, effect, topmost);
+    let closed = effects::closed_by(effect, t.height, topmost);
+    plans::closing_plan(mark, next, front.height, shift, n, main, s.edition, closed)
+}
+
+// The same, with the No-History mark that the start leaves.
 fn start_plan(
     table: &[u8],
     s: Session,
@@ -139,18 +185,15 @@ fn start_plan(
     finishing: bool,
 ) -> Plan
     requires { ⌜ Startable (now table) s b × Plannable (now table) s b (flagsOf word) t chosen ⌝ }
-    ensures { λ r. ⌜ r ≡ startPlan finishing b s t chosen ⌝ }
+    ensures { λ r. ⌜ r ≡ startPlan finishing (flagsOf word .noh) b s t chosen ⌝ }
 {
-    let front = s.tasks[0];
+    let rule = chosen.rule;
     let effect = chosen.effect;
-    let shift = effects::shift_of(effect, chosen.place, s.n);
-    let n = effects::count_after(effect, s.n);
-    let main = effects::main_after(effect, chosen.place, s.main);
-    let mark = mark_if(finishing, effect, chosen.place, b == front.top());
-    let topmost = effects::place_for(t, b, effect);
-    let next = effects::front_after(t, b, effect, topmost);
-    let closed = effects::closed_by(effect, t.height, topmost);
-    plans::closing_plan(mark, next, front.height, shift, n, main, s.edition, closed)
+    let closes = caller_closes(finishing, s.no_history, rule);
+    let f = flags::read(word);
+    let mut out = carrying_plan(table, s, t, chosen, b, word, closes);
+    out.no_history = no_history_after(finishing, s.no_history, f.noh, rule, effect);
+    out
 }
 
 // What is decided of a start: its plan, and the rule that it uses (R18 where the start was refused before one was chosen).

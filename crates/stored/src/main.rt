@@ -15,13 +15,15 @@
 //   affinity_0              each launch mode with affinity 0, beside screens of affinity 1
 //   editions                launches in each edition and in none; edition 7's R9; edition 6's searches; the edition when empty
 //   full_main_7             edition 7's R9 in a main task of 32 screens
+//   no_history              the No-History mark: set, kept and cleared, and starts from a marked front, in each edition
 // Those of all others are from the second navigator; they launch with 0, so the edition behind each accepted line is 8:
 //   empty                   an empty input
 //   no_screen, bad_n        a table whose N is 0, and one whose N is 65
 //   cut_table               a table that is cut in its last row
 //   refusal_2               a table with a mode above 3: each record is refused by 2, and by 9 where that applies
 //   unknown_kinds           records of unknown kinds between known ones
-//   bad_arguments           screens not below N and flag bits outside the six
+//   bad_arguments           screens not below N and flag bits outside the seven; two lines, of a start with No-History and of the
+//                           next start, by hand
 //   limits                  both limits reached, passed and left: 32 screens in a task, 16 tasks
 //   cut_after_1 to _5       a last record that is cut after so many bytes
 //   every_rule              each of R1 to R18, and each refusal of a start under a good table

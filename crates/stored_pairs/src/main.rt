@@ -4,6 +4,8 @@
 //   good_table, mode_above_3     the second one's table is refused with 2, and nothing is printed
 //   launched_6, launched_7       end in 0:[1,0], in editions 6 and 7: a look tells them apart
 //   launched_6, restored_6       the second one is launched in edition 8, and a restore brings it where the first one ends
+//   marked, unmarked             end in 0:[1,0], and only the first one has the No-History mark: a look tells them apart
+//   marked, restored_marked      the second one is restored with the mark
 //   emptied_6, refused_editions  both end empty: one by a Back in edition 6, one after a launch and restores that are all refused
 use libc::STDOUT_FILENO;
 

@@ -23,7 +23,8 @@ use Rattle.tally.proofs.TallyLaws.{tally-passes}
 
 -- an accepted answer of this height
 abbrev acceptedAt : ℕ → Answer
-acceptedAt h = record { refusal = 0; screen = 0; root = 0; height = h; tasks = 0; main = 0; closed = 0; edition = 0 }
+acceptedAt h =
+    record { refusal = 0; screen = 0; root = 0; height = h; tasks = 0; main = 0; closed = 0; edition = 0; «no_history» = 0 }
 
 -- n accepted answers with this sum, none above g, and then k refused ones
 filled : ℕ → ℕ → ℕ → ℕ → List Answer

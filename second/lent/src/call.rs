@@ -124,8 +124,8 @@ impl fmt::Display for Call<'_> {
 /// What a call gives by itself.
 #[derive(Clone, Copy, Debug, PartialEq)]
 pub enum Reply {
-    /// The answer's eight numbers.
-    Answer([u8; 8]),
+    /// The answer's nine numbers.
+    Answer([u8; 9]),
     /// Of save, the refusal's number, or 0, and the image's length.
     Saved(u8, usize),
     /// Of why, the reason's four numbers.
@@ -144,7 +144,7 @@ impl Reply {
     /// How many screens a call closed that was accepted and gives an answer.
     pub fn closed(&self) -> Option<u8> {
         match self {
-            Reply::Answer([0, .., closed, _]) => Some(*closed),
+            Reply::Answer([0, .., closed, _, _]) => Some(*closed),
             _ => None,
         }
     }

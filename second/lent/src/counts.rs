@@ -13,10 +13,11 @@ use second::session::{MAX_HEIGHT, MAX_TASKS};
 use second::{Reason, Session, Table};
 
 use crate::call::{Call, Kind, Reply};
+use crate::no_history::Fronts;
 use crate::stored::Stored;
 
 /// The refusals that each call can give, 0 for none.
-fn possible(kind: Kind) -> &'static [u8] {
+pub fn possible(kind: Kind) -> &'static [u8] {
     match kind {
         Kind::Launch => &[0, 1, 2, 20, 22, 30],
         Kind::Start | Kind::FinishingStart | Kind::Why => &[0, 1, 2, 20, 3, 4, 21, 23, 24],
@@ -58,8 +59,10 @@ pub struct Counts {
     launches: Launches,
     /// By kind, those of the kinds that have rules.
     rules: [Rules; 8],
-    /// Accepted calls by kind.
+    /// Accepted calls by kind; starts from a No-History front are apart.
     closings: [Closings; 8],
+    no_history_starts: Closings,
+    fronts: Fronts,
     /// Accepted starts and reasons of screens of affinity 0.
     no_affinity: NoAffinity,
     /// Sessions saved and restored; those with no task; those with no space.
@@ -80,19 +83,25 @@ impl Counts {
         if refusal == 0 {
             self.add_edition(present, call, reply);
         }
+        self.fronts.add(table, present, call, reply);
         if let Some(closed) = reply.closed() {
             let rule = choice.map_or(0, |choice| choice.rule as u8);
-            self.closings[kind].add(rule, closed);
+            let closings = match call {
+                Call::Start { .. } if present.no_history == 1 => &mut self.no_history_starts,
+                _ => &mut self.closings[kind],
+            };
+            closings.add(rule, closed);
         }
         if let (Some(choice), 0) = (choice, refusal) {
             self.add_no_affinity(table, present, call, choice);
+            self.fronts.add_start(present, call, reply, choice);
         }
     }
 
     /// Counts the edition of an accepted call.
     fn add_edition(&mut self, present: &Stored, call: Call, reply: &Reply) {
         let edition = match (call, reply) {
-            (Call::Launch { .. } | Call::Restore { .. }, Reply::Answer([.., after])) => *after,
+            (Call::Launch { .. } | Call::Restore { .. }, Reply::Answer([.., after, _])) => *after,
             _ => present.edition,
         };
         self.editions[call.kind() as usize][usize::from(edition - SIX)] += 1;
@@ -153,6 +162,13 @@ impl Counts {
         if kinds.contains(&Kind::Launch) {
             names.extend(self.launches.missing());
         }
+        if kinds.contains(&Kind::Start) {
+            names.extend(self.no_history_starts.missing(
+                "a start from a No-History front",
+                closings::by_no_history_start,
+            ));
+        }
+        names.extend(self.fronts.missing(kinds));
         if kinds.iter().any(|&kind| self.rules(kind).is_some()) {
             names.extend(self.no_affinity.missing());
         }
@@ -237,11 +253,7 @@ impl fmt::Display for Counts {
                 writeln!(f)?;
             }
         }
-        let answered = kinds.iter().filter(|kind| kind.has_answer());
-        let columns: Vec<_> = answered
-            .map(|&kind| (kind.name(), &self.closings[kind as usize]))
-            .collect();
-        closings::write(f, &columns)?;
+        self.write_closings(f, &kinds)?;
         self.write_editions(f, &kinds)?;
         self.write_rules(f, &kinds)?;
         if kinds.contains(&Kind::Why) {
@@ -250,6 +262,7 @@ impl fmt::Display for Counts {
         if kinds.contains(&Kind::Start) {
             write!(f, "{}", self.no_affinity)?;
         }
+        self.fronts.write(f, &kinds)?;
         writeln!(
             f,
             "{} sessions made, {} of them empty, {} of 16 tasks of 32",
@@ -265,6 +278,18 @@ impl Counts {
             Kind::Start | Kind::FinishingStart | Kind::Why => Some(&self.rules[kind as usize]),
             _ => None,
         }
+    }
+
+    /// What those of these kinds closed that have an answer.
+    fn write_closings(&self, f: &mut fmt::Formatter, kinds: &[Kind]) -> fmt::Result {
+        let answered = kinds.iter().filter(|kind| kind.has_answer());
+        let mut columns: Vec<_> = answered
+            .map(|&kind| (kind.name(), &self.closings[kind as usize]))
+            .collect();
+        if kinds.contains(&Kind::Start) {
+            columns.push(("from No-History", &self.no_history_starts));
+        }
+        closings::write(f, &columns)
     }
 
     /// The accepted calls of these kinds by edition.

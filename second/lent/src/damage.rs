@@ -9,12 +9,14 @@ use crate::sessions::{held, may_root_once, Listed};
 use crate::stored::{Stored, SESSION};
 
 const TRAILER: usize = 6;
+/// The bit of the m byte that is set where the front is a No-History one.
+const MARK: u8 = 0x80;
 /// L is two bytes, so no body is longer.
 const LONGEST: usize = 0xffff;
 /// Numbers at and beyond the limits.
-pub const EXTREMES: [u8; 12] = [0, 1, 2, 15, 16, 17, 31, 32, 33, 64, 254, 255];
+pub const EXTREMES: [u8; 14] = [0, 1, 2, 15, 16, 17, 31, 32, 33, 64, 127, 128, 254, 255];
 
-/// A body with the trailer that states its length, n, m and the edition.
+/// A body with the trailer that states its length, n, the m byte and the edition.
 pub fn with_trailer(mut body: Vec<u8>, [n, main, edition]: [u8; 3]) -> Vec<u8> {
     let length = body.len() as u16;
     body.extend(length.to_be_bytes());
@@ -33,7 +35,7 @@ pub fn noise(random: &mut Random, most: u64) -> Vec<u8> {
 /// a changed session.
 pub fn image(random: &mut Random, listed: &Listed, session: &Session) -> Vec<u8> {
     let image = session.image();
-    match random.below(9) {
+    match random.below(10) {
         0 => resized(random, image),
         1 => rewritten(random, image),
         2 => with_field(random, image),
@@ -45,6 +47,7 @@ pub fn image(random: &mut Random, listed: &Listed, session: &Session) -> Vec<u8>
         }
         5 => noise(random, 700),
         6 => with_edition(random, image),
+        7 => with_m_byte(random, image),
         _ => self::session(random, listed, session).image(),
     }
 }
@@ -84,9 +87,26 @@ fn rewritten(random: &mut Random, mut image: Vec<u8>) -> Vec<u8> {
     image
 }
 
-/// Any n and m up to beyond the limits, and a byte for the edition.
+/// Any n and m up to beyond the limits, with a mark or without, and a byte for the
+/// edition.
 pub fn any_fields(random: &mut Random) -> [u8; 3] {
-    [random.byte(18), random.byte(18), random.edition_byte()]
+    let mark = random.one_of(&[0, MARK]);
+    [
+        random.byte(18),
+        random.byte(18) | mark,
+        random.edition_byte(),
+    ]
+}
+
+/// The mark turned, or any m byte.
+fn with_m_byte(random: &mut Random, mut image: Vec<u8>) -> Vec<u8> {
+    let place = image.len() - 3;
+    image[place] = match random.below(3) {
+        0 => random.one_of(&[127, 128, 255]),
+        1 => random.byte(256),
+        _ => image[place] ^ MARK,
+    };
+    image
 }
 
 /// The edition set to another one, or to a byte that is none.
@@ -140,19 +160,25 @@ pub fn long_images(random: &mut Random, session: &Session) -> Vec<Vec<u8>> {
 /// A session with something changed that soundness speaks of.
 pub fn session(random: &mut Random, listed: &Listed, from: &Session) -> Session {
     let mut session = from.clone();
+    match random.below(10) {
+        0 => session.edition = random.edition_byte(),
+        1 => session.no_history = !session.no_history,
+        _ => change_stacks(random, listed, &mut session),
+    }
+    session
+}
+
+/// Changes the main place, or a task.
+fn change_stacks(random: &mut Random, listed: &Listed, session: &mut Session) {
     let number = match random.below(4) {
         0 => listed.screens,
         1 => random.byte(256),
         _ => random.byte(u16::from(listed.screens)),
     };
     let count = session.tasks.len();
-    if random.percent(10) {
-        session.edition = random.edition_byte();
-        return session;
-    }
     if count == 0 {
         session.main = usize::from(number);
-        return session;
+        return;
     }
     let at = random.below(count as u64) as usize;
     let task = &mut session.tasks[at];
@@ -171,9 +197,8 @@ pub fn session(random: &mut Random, listed: &Listed, from: &Session) -> Session 
             let again = task.clone();
             session.tasks.resize(MAX_TASKS + 1, again);
         }
-        _ => twice(random, listed, &mut session),
+        _ => twice(random, listed, session),
     }
-    session
 }
 
 /// One root, a single one if the session has any, is made the root of two
@@ -199,7 +224,7 @@ pub fn stored(random: &mut Random, listed: &Listed, from: &Session) -> Stored {
     let changes = random.one_of(&[1, 1, 1, 2, 40]);
     for _ in 0..changes {
         let place = match random.below(4) {
-            0 => SESSION - 1 - random.below(3) as usize,
+            0 => SESSION - 1 - random.below(4) as usize,
             _ => random.below(SESSION as u64) as usize,
         };
         bytes[place] = match random.below(3) {

@@ -4,8 +4,8 @@
 //! - `stored`: sessions as the static library stores them
 //! - `call`: a call with its arguments, made by either of the two
 //! - `check`: makes a call by both and compares all that they give
-//! - `counts`: how often each call was made, each refusal and rule came up, and
-//!   how many screens were closed
+//! - `counts`, `no_history`: how often each call was made, each refusal and rule came
+//!   up, how many screens were closed, and how often there was a No-History front
 //! - `sessions`, `damage`: random good and bad tables, sessions and images
 //! - `starts`: random screens and flag words
 //! - `run`: options and endings of the comparing programs
@@ -19,6 +19,7 @@ pub mod check;
 pub mod counts;
 pub mod damage;
 pub mod library;
+pub mod no_history;
 pub mod run;
 pub mod sessions;
 pub mod starts;

@@ -4,9 +4,9 @@
 use crate::stored::Stored;
 
 /// The number of the interface that is declared here.
-const ABI: u32 = 3;
+const ABI: u32 = 4;
 
-/// What a call answers: eight numbers.
+/// What a call answers: nine numbers.
 #[repr(C)]
 #[derive(Clone, Copy)]
 pub struct Answer {
@@ -18,6 +18,7 @@ pub struct Answer {
     main: u8,
     closed: u8,
     edition: u8,
+    no_history: u8,
 }
 
 /// What save gives: the refusal's number, or 0, and the image's length.
@@ -95,8 +96,8 @@ extern "C" {
 }
 
 impl Answer {
-    /// The eight numbers in their order.
-    fn numbers(self) -> [u8; 8] {
+    /// The nine numbers in their order.
+    fn numbers(self) -> [u8; 9] {
         [
             self.refusal,
             self.screen,
@@ -106,6 +107,7 @@ impl Answer {
             self.main,
             self.closed,
             self.edition,
+            self.no_history,
         ]
     }
 }
@@ -120,28 +122,28 @@ pub fn expect_abi() {
 // In each function below the pointers and lengths are those of whole slices and
 // of one session, and the library keeps none of them.
 
-pub fn launch(table: &[u8], session: &mut Stored, edition: u8) -> [u8; 8] {
+pub fn launch(table: &[u8], session: &mut Stored, edition: u8) -> [u8; 9] {
     unsafe { milchkompass_launch(table.as_ptr(), table.len(), session, edition) }.numbers()
 }
 
-pub fn start(table: &[u8], session: &mut Stored, screen: u8, flags: u32) -> [u8; 8] {
+pub fn start(table: &[u8], session: &mut Stored, screen: u8, flags: u32) -> [u8; 9] {
     unsafe { milchkompass_start(table.as_ptr(), table.len(), session, screen, flags) }.numbers()
 }
 
-pub fn finishing_start(table: &[u8], session: &mut Stored, screen: u8, flags: u32) -> [u8; 8] {
+pub fn finishing_start(table: &[u8], session: &mut Stored, screen: u8, flags: u32) -> [u8; 9] {
     unsafe { milchkompass_finish_start(table.as_ptr(), table.len(), session, screen, flags) }
         .numbers()
 }
 
-pub fn back(table: &[u8], session: &mut Stored) -> [u8; 8] {
+pub fn back(table: &[u8], session: &mut Stored) -> [u8; 9] {
     unsafe { milchkompass_back(table.as_ptr(), table.len(), session) }.numbers()
 }
 
-pub fn look(table: &[u8], session: &mut Stored) -> [u8; 8] {
+pub fn look(table: &[u8], session: &mut Stored) -> [u8; 9] {
     unsafe { milchkompass_look(table.as_ptr(), table.len(), session) }.numbers()
 }
 
-pub fn restore(table: &[u8], session: &mut Stored, image: &[u8]) -> [u8; 8] {
+pub fn restore(table: &[u8], session: &mut Stored, image: &[u8]) -> [u8; 9] {
     unsafe {
         milchkompass_restore(
             table.as_ptr(),

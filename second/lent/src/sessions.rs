@@ -16,6 +16,15 @@ pub fn held(session: &Session) -> Stored {
     Stored::hold(session).expect("a sound session can be stored")
 }
 
+/// A session that is not empty, and the same with a No-History front.
+pub fn both_fronts(session: Session) -> [Session; 2] {
+    let front = Session {
+        no_history: true,
+        ..session.clone()
+    };
+    [session, front]
+}
+
 /// A table, good, with its bytes and its number of screens.
 pub struct Listed {
     pub bytes: Vec<u8>,
@@ -62,8 +71,8 @@ pub fn sound(random: &mut Random, listed: &Listed) -> Session {
     }
 }
 
-/// A session of any edition and up to these many tasks, with heights between these two where
-/// the root is not single-instance.
+/// A session of any edition and up to these many tasks, with heights between these two
+/// where the root is not single-instance, and a No-History front or another.
 pub fn built(
     random: &mut Random,
     listed: &Listed,
@@ -96,6 +105,7 @@ pub fn built(
     session.main = random.one_of(&places);
     if !session.is_empty() {
         session.edition = random.one_of(&EDITIONS);
+        session.no_history = random.percent(50);
     }
     session
 }

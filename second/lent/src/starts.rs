@@ -27,7 +27,7 @@ pub fn screen(random: &mut Random, listed: &Listed, session: &Session) -> u8 {
     }
 }
 
-/// No flag, one of the six, any set of them, or a word with other bits.
+/// No flag, one of the seven, any set of them, or a word with other bits.
 pub fn flags(random: &mut Random) -> u32 {
     let set = random.next() as u32 & ALL_FLAGS;
     match random.below(100) {

@@ -9,7 +9,7 @@ use second::{Screen, Session, Task};
 
 /// How many bytes a stored task and a stored session are.
 pub const TASK: usize = 2 + MAX_HEIGHT;
-pub const SESSION: usize = MAX_TASKS * TASK + 3;
+pub const SESSION: usize = MAX_TASKS * TASK + 4;
 
 /// A task: its screens are stored bottom first.
 #[repr(C)]
@@ -28,6 +28,8 @@ pub struct Stored {
     pub n: u8,
     pub main: u8,
     pub edition: u8,
+    /// 1 if the front screen is a No-History one.
+    pub no_history: u8,
 }
 
 const BLANK: StoredTask = StoredTask {
@@ -42,6 +44,7 @@ impl Stored {
         n: 0,
         main: 0,
         edition: EIGHT,
+        no_history: 0,
     };
 
     /// The session with zeros in what it does not use. `None` if there is no
@@ -60,6 +63,7 @@ impl Stored {
         stored.n = session.tasks.len() as u8;
         stored.main = u8::try_from(session.main).ok()?;
         stored.edition = session.edition;
+        stored.no_history = u8::from(session.no_history);
         Some(stored)
     }
 
@@ -70,6 +74,7 @@ impl Stored {
             tasks: self.used().iter().map(StoredTask::view).collect(),
             main: usize::from(self.main),
             edition: self.edition,
+            no_history: self.no_history == 1,
         };
         if Stored::hold(&session).as_ref() == Some(self) {
             session

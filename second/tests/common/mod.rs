@@ -8,7 +8,7 @@ use second::{Session, Task};
 pub const T: [u8; 14] = [6, 0, 0, 1, 0, 1, 1, 1, 2, 2, 3, 1, 0, 2];
 
 /// The answer of a look at an empty session.
-pub const EMPTY: [u8; 8] = [0, 0, 0, 0, 0, 0, 0, 8];
+pub const EMPTY: [u8; 9] = [0, 0, 0, 0, 0, 0, 0, 8, 0];
 
 /// What a reason's task is found by.
 pub const NONE: u8 = 0;
@@ -30,6 +30,15 @@ pub fn session_in(edition: u8, main: usize, tasks: &[(u8, &[u8])]) -> Session {
         tasks,
         main,
         edition,
+        no_history: false,
+    }
+}
+
+/// The session with a No-History front.
+pub fn no_history(session: Session) -> Session {
+    Session {
+        no_history: true,
+        ..session
     }
 }
 

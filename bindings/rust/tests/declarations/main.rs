@@ -1,8 +1,8 @@
 //! The C header and this crate declare what the library's source declares:
 //! the number of the interface and its row, each function, each struct that one
-//! of them names, the limits, the editions, the launch modes, the flags, the
-//! refusals by the sentences that the definitions quote, and the rules by their
-//! own.
+//! of them names, the limits, the editions, the launch modes, the flags and
+//! their mask, the refusals by the sentences that the definitions quote, and the
+//! rules by their own.
 
 mod render;
 mod source;
@@ -149,13 +149,13 @@ fn editions() {
     assert_eq!(squeezed(&names_of("edition")), wanted);
     let fresh = Edition::default().number();
     let in_c = format!(
-        "SESSION_FRESH {{{{{{0, 0, {{0}}}}}}, 0, 0, {}}}",
+        "SESSION_FRESH {{{{{{0, 0, {{0}}}}}}, 0, 0, {}, 0}}",
         number(fresh)
     );
     has_line(&header(), &format!("#define MILCHKOMPASS_{in_c}"));
     has(
         &declared_in_rust(),
-        &format!("main: 0, edition: {fresh}, }};"),
+        &format!("main: 0, edition: {fresh}, no_history: 0, }};"),
     );
 }
 
@@ -188,6 +188,7 @@ fn launch_modes() {
 #[test]
 fn flags() {
     let flags = read("crates/flags/src/lib.rt");
+    let mut mask = Vec::new();
     for (short, name, flag) in [
         ("NTK", "NEW_TASK", Flags::NEW_TASK),
         ("STP", "SINGLE_TOP", Flags::SINGLE_TOP),
@@ -195,6 +196,7 @@ fn flags() {
         ("CTP", "CLEAR_TOP", Flags::CLEAR_TOP),
         ("RTF", "REORDER_TO_FRONT", Flags::REORDER_TO_FRONT),
         ("CTK", "CLEAR_TASK", Flags::CLEAR_TASK),
+        ("NOH", "NO_HISTORY", Flags::NO_HISTORY),
     ] {
         let bits = format!("{:#010x}", flag.bits());
         has_line(&flags, &format!("const {short}: u32 = {bits};"));
@@ -203,9 +205,14 @@ fn flags() {
             &format!("UINT32_C({bits})"),
         );
         assert_eq!(format!("{flag:?}"), format!("Flags({name})"));
+        mask.push(short);
     }
-    assert_eq!(flags.matches(": u32 = 0x").count(), 6);
-    assert_eq!(header().matches("#define FLAG_").count(), 6);
+    assert_eq!(flags.matches(": u32 = 0x").count(), mask.len());
+    assert_eq!(header().matches("#define FLAG_").count(), mask.len());
+    let mask = mask.join(" | ");
+    has_line(&flags, &format!("pub const SEVEN: u32 = {mask};"));
+    let bits = format!("UINT32_C({:#010x})", Flags::all().bits());
+    has_line(&header(), &format!("#define MILCHKOMPASS_FLAGS {bits}"));
 }
 
 #[test]

@@ -1,4 +1,4 @@
--- The word under the mask of all bits but the six.
+-- The word under the mask of all bits but the seven.
 use Rattle.flags.proofs.Masks.{other}
 use Rattle.flags.proofs.has_other_bit.Statement.{statement}
 use Rattle.flags.proofs.has_other_bit.Tie as tie

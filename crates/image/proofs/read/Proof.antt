@@ -21,23 +21,26 @@ shared-slice-read-n c = omega (arith, six (c .before .before))
 shared-slice-read-main : tie.Need-shared-slice-read-main
 shared-slice-read-main c = omega (arith, six (c .before .before .before))
 
+shared-slice-read-no-history : tie.Need-shared-slice-read-no-history
+shared-slice-read-no-history c = omega (arith, six (c .before .before .before .before))
+
 shared-slice-read-edition : tie.Need-shared-slice-read-edition
-shared-slice-read-edition c = omega (arith, six (c .before .before .before .before))
+shared-slice-read-edition c = omega (arith, six (c .before .before .before .before .before))
 
 returns : tie.Need-returns
 returns c =
-    let a = c .before .before .before .before .before .before .before .args in
+    let a = c .before .before .before .before .before .before .before .before .args in
     c .unreadable .ensures ∙ read-many (a .image .now) (omega (arith, c .before .before .wide .ensures .0))
 
 slice-aggregate-read-tasks : tie.Need-slice-aggregate-read-tasks
 slice-aggregate-read-tasks c =
-    let image = c .before .before .before .before .before .before .before .args .image .now in
+    let image = c .before .before .before .before .before .before .before .before .args .image .now in
     let l : length image - 6 ≤ length image = omega arith in
     sym (length-take-le _ _ l)
 
 returns-2 : tie.Need-returns-2
 returns-2 c =
-    let a = c .before .before .before .before .before .before .before .before .args in
+    let a = c .before .before .before .before .before .before .before .before .before .args in
     c .read-tasks .ensures ∙ read-few (a .image .now) (omega (arith, c .before .before .before .wide .ensures .0))
 
 pub read-spec : {M : Type 1} → statement M
@@ -49,6 +52,8 @@ read-spec =
     shared-slice-read-n
     (λ c. search needs)
     shared-slice-read-main
+    (λ c. search needs)
+    shared-slice-read-no-history
     (λ c. search needs)
     shared-slice-read-edition
     (λ c κs. search needs)

@@ -10,10 +10,10 @@ use Rattle.image.proofs.read_tasks.Statement.{statement}
 use Rattle.image.proofs.read_tasks.Tie as tie
 
 abbrev Inv-loop : tie.InvT-loop
-Inv-loop body n main edition s₀ at₀ i₀ s at i = (i ≤ n) × ((at ≤ length body) × Begun body n i at (s .tasks))
+Inv-loop body n main edition no-history s₀ at₀ i₀ s at i = (i ≤ n) × ((at ≤ length body) × Begun body n i at (s .tasks))
 
 abbrev μ-loop : tie.MeasureT-loop
-μ-loop body n main edition s₀ at₀ i₀ s at i = n - i
+μ-loop body n main edition no-history s₀ at₀ i₀ s at i = n - i
 
 loop-holds : tie.Need-loop-holds Inv-loop μ-loop
 loop-holds c =
@@ -24,7 +24,7 @@ returns : tie.Need-returns Inv-loop μ-loop
 returns c =
     let a = c .before .before .before .before .before .before .args in
     c .unreadable .ensures
-    ∙ begun-cut (c .before .before .before .loop .inv .1 .1) (c .before .before .loop-test .taken) (c .before .if1 .taken) (a .main) (a .edition)
+    ∙ begun-cut (c .before .before .before .loop .inv .1 .1) (c .before .before .loop-test .taken) (c .before .if1 .taken) (a .main) (a .edition) (a .no-history)
 
 returns-2 : tie.Need-returns-2 Inv-loop μ-loop
 returns-2 c =
@@ -33,7 +33,7 @@ returns-2 c =
     let w = c .before .before .wide in
     c .unreadable2 .ensures
     ∙ begun-unfit (here .inv .1 .1) (c .before .before .before .before .before .loop-test .taken) (omega arith) (w .result) (sym (w .ensures .0))
-    (not-true _ (c .before .if2 .taken)) (a .main) (a .edition)
+    (not-true _ (c .before .if2 .taken)) (a .main) (a .edition) (a .no-history)
 
 -- the task fits into what is left
 fitting : (c : tie.Else2 Inv-loop μ-loop)
@@ -67,12 +67,12 @@ returns-3 : tie.Need-returns-3 Inv-loop μ-loop
 returns-3 c =
     let a = c .before .before .before .before .before .before .args in
     c .unreadable3 .ensures
-    ∙ begun-over (c .before .before .before .loop .inv .1 .1) (c .before .before .loop-test .left) (omega arith) (a .main) (a .edition)
+    ∙ begun-over (c .before .before .before .loop .inv .1 .1) (c .before .before .loop-test .left) (omega arith) (a .main) (a .edition) (a .no-history)
 
 returns-4 : tie.Need-returns-4 Inv-loop μ-loop
 returns-4 c =
     let a = c .before .before .before .before .before .args in
-    begun-end (c .before .before .loop .inv .1 .1) (c .before .loop-test .left) (c .if3 .left) (omega arith) (a .main) (a .edition)
+    begun-end (c .before .before .loop .inv .1 .1) (c .before .loop-test .left) (c .if3 .left) (omega arith) (a .main) (a .edition) (a .no-history)
 
 pub read-tasks-spec : {M : Type 1} → statement M
 read-tasks-spec =

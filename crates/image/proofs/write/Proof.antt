@@ -25,20 +25,20 @@ abbrev μ-loop : tie.MeasureT-loop
 loop-holds : tie.Need-loop-holds Inv-loop μ-loop
 loop-holds c =
     let a = c .before .args in
-    (omega arith, (blank-few (a .t1) (c .before .pre .0), (omega arith, wrote-nil (a .out .now) 0)))
+    (omega arith, (blank-few (a .t1) (c .before .pre .0 .blank), (omega arith, wrote-nil (a .out .now) 0)))
 
 -- the task behind i others
 next : (c : tie.At-loop Inv-loop μ-loop) → c .loop .i < c .before .before .args .t1 .n
     → Next (c .before .before .args .t1) (c .loop .i)
 next c lt =
     let start = c .before .before in
-    body-next (start .args .t1) (sized (start .args .t1) _ (start .good .0)) (start .pre .0) (c .loop .i) lt
+    body-next (start .args .t1) (sized (start .args .t1) _ (start .good .0)) (start .pre .0 .blank) (c .loop .i) lt
 
 -- what is written fits, the trailer too, and the buffer keeps its length
 fits : (c : tie.At-loop Inv-loop μ-loop) → c .loop .at + 6 ≤ length (c .before .before .args .out .now)
 fits c =
     let start = c .before .before in
-    let room = start .pre .1 .0 in
+    let room = start .pre .1 in
     let at = c .loop .inv .1 .1 .1 .place in
     omega (arith, image-length (view (start .args .t1)), body-part (c .loop .i) (view (start .args .t1) .tasks))
 
@@ -62,26 +62,29 @@ loop-again c =
     let w = wrote-append (here .loop .inv .1 .1 .1) (omega arith) (wrote 34 (c .before .before .write-task .ensures)) in
     (omega arith, (omega arith, (omega arith, rw (n .bytes) w)))
 
+main-byte-requires : tie.Need-main-byte-requires Inv-loop μ-loop
+main-byte-requires c κs = let w = c .before .before .before .before .pre .0 in (w .main, w .mark)
+
 write-trailer-requires : tie.Need-write-trailer-requires Inv-loop μ-loop
 write-trailer-requires c κs =
-    let here = c .before .before in
+    let here = c .before .before .before in
     let k = kept here in
-    (omega arith, (omega (arith, fits here), here .before .before .pre .1 .1))
+    (omega arith, (omega (arith, fits here), here .before .before .pre .0 .edition))
 
 same-length : tie.Need-same-length Inv-loop μ-loop
-same-length c = c .before .before .write-trailer .kept .0 ∙ kept (c .before .before .before .before .before)
+same-length c = c .before .before .write-trailer .kept .0 ∙ kept (c .before .before .before .before .before .before)
 
 returns : tie.Need-returns Inv-loop μ-loop
 returns c =
-    let here = c .before .before .before .before .before in
+    let here = c .before .before .before .before .before .before in
     let start = here .before .before in
     let s = start .args .t1 in
     let d = start .args .out .now in
     let end = c .before .before .write-trailer in
     let all : here .loop .i ≡ s .n = omega arith in
     let w : Wrote d 0 (image (view s)) (end .last .0) (end .result) =
-    image-wrote s (sized s _ (start .good .0)) (start .pre .0) (here .loop .i) all (here .loop .inv .1 .1 .1) (omega (arith, fits here))
-    (record { place = end .ensures .0; text = end .ensures .1 }) in
+    image-wrote s (sized s _ (start .good .0)) (start .pre .0 .blank) (here .loop .i) all (here .loop .inv .1 .1 .1) (omega (arith, fits here))
+    (c .before .before .before .main-byte .ensures) (record { place = end .ensures .0; text = end .ensures .1 }) in
     (w .place ∙ zero-add (length (image (view s))), w .text ∙ written-start d (image (view s)))
 
 pub write-spec : {M : Type 1} → statement M
@@ -98,6 +101,7 @@ write-spec =
     (λ c. search needs)
     (λ c. search needs)
     loop-again
+    main-byte-requires
     write-trailer-requires
     same-length
     returns)

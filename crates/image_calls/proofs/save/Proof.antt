@@ -2,7 +2,8 @@
 use mathlib.Core.Path.{sym}
 use native.Mathlib.Omega.{arith}
 use borrow.Author.Needs.{needs}
-use Rattle.session.proofs.StoredLaws.{sound-blank, sound-edition}
+use Rattle.session.proofs.StoredLaws.{sound-blank}
+use Rattle.image.proofs.Writables.{sound-writable}
 use Rattle.image_calls.proofs.Saving.{save-short, save-fits}
 use Rattle.image_calls.proofs.save.Statement.{statement}
 use Rattle.image_calls.proofs.save.Tie as tie
@@ -20,9 +21,7 @@ returns c =
 write-requires : tie.Need-write-requires
 write-requires c κs =
     let start = c .before .before .before .before .before in
-    let tb = start .args .table .now in
-    let s = start .args .s in
-    (sound-blank tb s (start .pre .sound), (omega arith, sound-edition tb s (start .pre .sound)))
+    (sound-writable (start .args .table .now) (start .args .s) (start .pre .sound), omega arith)
 
 returns-2 : tie.Need-returns-2
 returns-2 c =

@@ -30,7 +30,7 @@ returns-2 : tie.Need-returns-2
 returns-2 c =
     let a = c .before .before .before .before .before .args in
     c .of-front .ensures
-    ∙ ap (λ (t : Task). answerOf t (a .plan .n) (a .plan .main) (a .plan .closed) (a .plan .edition)) (goes (a .plan .gone) (a .plan .front) (a .second) (c .before .if2 .taken))
+    ∙ ap (λ (t : Task). answerOf t (a .plan .n) (a .plan .main) (a .plan .closed) (a .plan .edition) (a .plan .«no_history»)) (goes (a .plan .gone) (a .plan .front) (a .second) (c .before .if2 .taken))
     ∙ answer-accepted _ (a .plan .refusal) (c .before .before .before .if1 .left)
 
 of-front-requires-2 : tie.Need-of-front-requires-2
@@ -43,7 +43,7 @@ returns-3 : tie.Need-returns-3
 returns-3 c =
     let a = c .before .before .before .before .before .before .args in
     c .of-front2 .ensures
-    ∙ ap (λ (t : Task). answerOf t (a .plan .n) (a .plan .main) (a .plan .closed) (a .plan .edition)) (stays (a .plan .gone) (a .plan .front) (a .second) (c .before .before .if2 .left))
+    ∙ ap (λ (t : Task). answerOf t (a .plan .n) (a .plan .main) (a .plan .closed) (a .plan .edition) (a .plan .«no_history»)) (stays (a .plan .gone) (a .plan .front) (a .second) (c .before .before .if2 .left))
     ∙ answer-accepted _ (a .plan .refusal) (c .before .before .before .before .if1 .left)
 
 pub answer-of-spec : {M : Type 1} → statement M

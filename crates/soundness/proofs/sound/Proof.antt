@@ -1,9 +1,9 @@
 -- The places are tested four by four, then the roots read there. Each test is a part of what the definition comes to: a
--- failed one refutes it, and the last two decide.
+-- failed one refutes it, and the last three decide.
 use Prim.Native.Nat.{ℕ}
 use mathlib.Core.Path.{_≡_, sym, _∙_}
 use mathlib.Core.Logic.{⊎-elim}
-use mathlib.Core.Bool.{true}
+use mathlib.Core.Bool.{true, _&&_}
 use mathlib.Core.List.{List}
 use native.Mathlib.Omega.{arith}
 use lib.ListN.{length}
@@ -15,7 +15,7 @@ use Rattle.session.proofs.Known.{long}
 use Rattle.places.specs.PlaceTests.{isRoot}
 use Rattle.soundness.proofs.Bytes.{sums-fit}
 use Rattle.soundness.proofs.Fits.{session-fits}
-use Rattle.soundness.proofs.Places.{Before, before-first, after-four, after-blanks, blanks-fail, roots-fail, each-sound, rest-blank, roots-read, read-known, edition-read}
+use Rattle.soundness.proofs.Places.{Before, before-first, after-four, after-blanks, blanks-fail, roots-fail, each-sound, rest-blank, roots-read, read-known, edition-read, no-history-read}
 use Rattle.soundness.proofs.sound.Statement.{statement}
 use Rattle.soundness.proofs.sound.Tie as tie
 
@@ -86,14 +86,17 @@ returns-6 c =
 
 returns-7 : tie.Need-returns-7
 returns-7 c =
-    let test = c .before .before .before .before in
+    let left = c .before .before .before in
+    let test = left .before .before in
     let b = fourth (test .before .before) in
     let y = are-roots test in
     let r = roots-read b y in
-    let p = rw r at (said-yes (c .before .before .before .roots-differ .ensures) (c .before .before .if9 .left)) in
-    let main = c .before .main-sound .result in
-    let m = rw r at (c .before .main-sound .ensures) in
-    let d = c .edition-sound .ensures ∙ sym (edition-read b) in
+    let p = rw r at (said-yes (left .before .roots-differ .ensures) (left .if9 .left)) in
+    let main = c .before .before .main-sound .result in
+    let edition = c .before .edition-sound .result in
+    let m = rw r at (c .before .before .main-sound .ensures) in
+    let d = c .before .edition-sound .ensures ∙ sym (edition-read b) in
+    let h = c .no-history-sound .ensures ∙ sym (no-history-read b) in
     same-test
     (record {
       holds = λ e.
@@ -102,10 +105,11 @@ returns-7 c =
             each = each-sound b y;
             rest = rest-blank b y;
             pairs = p;
-            place = sym m ∙ and-left main _ e;
-            edition = sym d ∙ and-right main _ e;
+            place = sym m ∙ and-left main _ (and-left (main && edition) _ e);
+            edition = sym d ∙ and-right main _ (and-left (main && edition) _ e);
+            noHistory = sym h ∙ and-right (main && edition) _ e;
           };
-      shows = λ f. rw (m ∙ f .place, d ∙ f .edition);
+      shows = λ f. rw (m ∙ f .place, d ∙ f .edition, h ∙ f .noHistory);
     })
     (session-fits _ _)
 
@@ -158,6 +162,7 @@ sound-spec =
     returns-5
     roots-differ-requires
     returns-6
+    (λ c κs. search needs)
     (λ c κs. search needs)
     (λ c κs. search needs)
     returns-7)

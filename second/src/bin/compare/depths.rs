@@ -7,6 +7,7 @@ use std::time::Instant;
 
 use second::cases::{Case, Cases};
 use second::depth::Depth;
+use second::play::Played;
 use second::random::Random;
 use second::tally::MOST_CALLS;
 
@@ -56,12 +57,47 @@ fn part(depth: &Depth) -> Option<Ordering> {
     (rest > 0).then(|| (2 * rest).cmp(&accepted))
 }
 
+/// The accepted starts of a recording from a No-History front.
+#[derive(Default)]
+struct Starts {
+    /// Whether the front is such a one now.
+    no_history: bool,
+    by_r7: u64,
+    by_others: u64,
+    finishing: u64,
+}
+
+/// What is to come up of those.
+const STARTS: [Case<Starts>; 3] = [
+    ("a No-History front that R7 keeps", |starts| {
+        starts.by_r7 > 0
+    }),
+    ("one that closes by a start", |starts| starts.by_others > 0),
+    ("one that finishes", |starts| starts.finishing > 0),
+];
+
+impl Starts {
+    fn add(&mut self, played: &Played) {
+        if played.answer.refusal != 0 {
+            return;
+        }
+        if let (true, Some(reason)) = (self.no_history, played.reason) {
+            match (played.kind, reason.rule) {
+                (2, 7) => self.by_r7 += 1,
+                (2, _) => self.by_others += 1,
+                _ => self.finishing += 1,
+            }
+        }
+        self.no_history = played.answer.no_history == 1;
+    }
+}
+
 /// How many recordings had each case.
-pub struct Depths(Cases<Depth>);
+pub struct Depths(Cases<Depth>, Cases<Starts>);
 
 impl Default for Depths {
     fn default() -> Depths {
-        Depths(Cases::new(&CASES))
+        Depths(Cases::new(&CASES), Cases::new(&STARTS))
     }
 }
 
@@ -69,8 +105,11 @@ impl Manner for Depths {
     const HEARS: bool = true;
 
     fn expected(&mut self, bytes: &[u8]) -> (Vec<u8>, u64) {
-        let depth = Depth::read(bytes).expect("bytes in memory can be read");
+        let mut starts = Starts::default();
+        let depth = Depth::read_each(bytes, |played| starts.add(played));
+        let depth = depth.expect("bytes in memory can be read");
         self.0.add(&depth);
+        self.1.add(&starts);
         let warned = if depth.untallied > 0 { WARNED } else { &[] };
         let line = format!("{depth}\n");
         ([line.as_bytes(), warned].concat(), depth.calls())
@@ -93,14 +132,15 @@ impl Manner for Depths {
     }
 
     fn missing(&self) -> Vec<String> {
-        self.0.missing()
+        [self.0.missing(), self.1.missing()].concat()
     }
 }
 
 impl fmt::Display for Depths {
     fn fmt(&self, f: &mut fmt::Formatter) -> fmt::Result {
         writeln!(f, "recordings with")?;
-        self.0.fmt(f)
+        self.0.fmt(f)?;
+        self.1.fmt(f)
     }
 }
 

@@ -1,13 +1,16 @@
 //! Calls at the limits: from sessions with a task of 31 or 32 screens, or with
-//! 15 or 16 tasks, every screen with all 64 flag words by a start and by a
-//! finishing start, and then Backs until the session is empty; in each edition.
+//! 15 or 16 tasks, every screen with all 64 words of the six flags that choose rules
+//! by a start and by a finishing start, and then Backs until the session is empty; in
+//! each edition. By turns the call has the No-History flag or not, and comes from such
+//! a front or not.
 
 use second::edition::EDITIONS;
 use second::table::{MULTIPLE_TASK, NEW_TASK};
 
 use crate::check::{Checker, Difference};
 use crate::make::{launch, record, T};
-use crate::sweep::Batch;
+use crate::no_history::with_no_history;
+use crate::sweep::{calls, Batch, SEVENTH_FLAG, SIX_FLAGS};
 
 /// The paths to the sessions, under a table like T: screens 0, 1 and 5 are
 /// standard, 2 single-top, 3 single-task, 4 single-instance.
@@ -57,14 +60,35 @@ pub fn limits(checker: &mut Checker) -> Result<u64, Box<Difference>> {
         none[3 + 2 * screen] = 0;
     }
     let mut calls = 0;
-    for table in [T, alike, none] {
+    for (turn, table) in [T, alike, none].into_iter().enumerate() {
         let mut batch = Batch::new("limits", table.to_vec());
-        for path in EDITIONS.into_iter().flat_map(paths) {
-            let session = batch.reached(&path);
-            batch.all_calls(checker, &session, &path)?;
+        for (more, edition) in EDITIONS.into_iter().enumerate() {
+            for path in paths(edition) {
+                by_turns(checker, &mut batch, &path, EDITIONS.len() * turn + more)?;
+            }
         }
         batch.finish(checker)?;
         calls += batch.calls;
     }
     Ok(calls)
+}
+
+/// Makes each call with or without the flag and from such a front or not, beginning
+/// with this turn of the four.
+fn by_turns(
+    checker: &mut Checker,
+    batch: &mut Batch,
+    path: &[u8],
+    first: usize,
+) -> Result<(), Box<Difference>> {
+    let no_history = with_no_history(path);
+    let fronts = [path, &no_history].map(|path| (batch.reached(path), path));
+    let words = calls(T[0], SIX_FLAGS).zip(calls(T[0], SEVENTH_FLAG));
+    for (number, (without, with)) in words.enumerate() {
+        let turn = first + number;
+        let (session, path) = &fronts[turn % 2];
+        let call = [without, with][turn / 2 % 2];
+        batch.call(checker, session, path, call)?;
+    }
+    Ok(())
 }

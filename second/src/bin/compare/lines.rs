@@ -10,7 +10,7 @@ use second::random::Random;
 use crate::check::{Checker, Difference, Manner};
 use crate::counts::Counts;
 use crate::outside::Output;
-use crate::{heights, limits, make, sweep, Options};
+use crate::{heights, limits, make, no_history, sweep, Options};
 
 /// Of how many records a random input is.
 const LENGTHS: (u64, u64) = (500, 20_000);
@@ -41,9 +41,9 @@ impl Manner for Lines {
         };
         let mut records = 0;
         for record in bytes.chunks(RECORD) {
-            let edition = player.session.edition;
+            let before = player.session.answer(0);
             let played = player.record(record);
-            self.counts.add(edition, &player, record, &played);
+            self.counts.add(&before, &player, record, &played);
             (self.writing)(&mut out, &played);
             records += 1;
         }
@@ -86,6 +86,10 @@ pub fn run(options: &Options, checker: &mut Checker) -> Result<(), Box<Differenc
     let begun = Instant::now();
     let calls = heights::heights(checker)?;
     checker.tell(&format!("heights ({calls} calls)"), begun);
+
+    let begun = Instant::now();
+    let calls = no_history::fronts(checker)?;
+    checker.tell(&format!("No-History fronts ({calls} calls)"), begun);
 
     let begun = Instant::now();
     let target = checker.records + options.records;

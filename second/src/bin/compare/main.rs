@@ -8,23 +8,25 @@
 //! one that writes the reason under each start. At the first difference the
 //! smallest example that can be found is printed and the exit code is 1. With
 //! `--sweep`, every call from every small session follows (see `sweep`). At the
-//! end it prints how often each rule came up in each edition, and each refusal, and
-//! how many screens were closed, and exits with 1 if an edition, a rule in an
-//! edition where it can occur, a refusal or a number that a rule can close never
-//! came up.
+//! end it prints how often each rule came up in each edition, with the No-History
+//! flag and from such a front, and each refusal, and how many screens were closed, and
+//! exits with 1 if an edition, a rule in an edition where it can occur, such a flag or
+//! front, a refusal or a number that a rule can close never came up.
 //!
 //! With `--depth` the program is one that writes the depth report of a recording,
 //! and warns on standard error where not all calls are tallied, and only there. It
-//! exits with 1 too if a way of rounding, an extreme of the report or a recording
-//! with too many calls never came up (see `depths`).
+//! exits with 1 too if a way of rounding, an extreme of the report, a recording with
+//! too many calls or one with a No-History front never came up (see `depths`).
 
 mod check;
 mod counts;
 mod depths;
+mod fronts;
 mod heights;
 mod limits;
 mod lines;
 mod make;
+mod no_history;
 mod outside;
 mod recordings;
 mod shrink;

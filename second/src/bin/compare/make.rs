@@ -4,9 +4,10 @@
 use second::edition::EDITIONS;
 use second::play::{Player, RECORD};
 use second::random::Random;
-use second::table::{flag_word, ALL_FLAGS, FLAGS, MULTIPLE_TASK, NEW_TASK};
+use second::table::{flag_word, ALL_FLAGS, FLAGS, MULTIPLE_TASK, NEW_TASK, NO_HISTORY};
 
 use crate::check::Input;
+use crate::no_history;
 
 /// The table of the paper's examples.
 pub const T: [u8; 14] = [6, 0, 0, 1, 0, 1, 1, 1, 2, 2, 3, 1, 0, 2];
@@ -31,6 +32,8 @@ pub fn fixed() -> Vec<Input> {
     inputs.add_cut_records();
     inputs.add("every kind, screen and flag bit", &T, &every_byte());
     inputs.add("every edition byte", &T, &editions());
+    let kept = no_history::kept();
+    inputs.add("what keeps a No-History front", &T, &kept);
     inputs.0
 }
 
@@ -161,9 +164,11 @@ fn editions() -> Vec<u8> {
 struct Mood {
     /// Weights of launch, start, finishing start, Back and look.
     kinds: [u64; 5],
-    /// Weights of no flag, one flag, any set, a set with NTK and without MTK,
-    /// and NTK with MTK.
+    /// Weights of no flag, one of the seven, any set of the other six, a set with NTK
+    /// and without MTK, and NTK with MTK.
     flags: [u64; 5],
+    /// So many in a hundred starts have the No-History flag besides.
+    no_history: u64,
     /// So many in a hundred starts take one of a few screens.
     favourite: u64,
     favourites: Vec<u8>,
@@ -198,6 +203,7 @@ fn mood(random: &mut Random, style: usize, n: u8) -> Mood {
     let mood = Mood {
         kinds,
         flags,
+        no_history: random.one_of(&[0, 0, 5, 30, 80]),
         favourite: random.one_of(&[0, 50, 90, 99]),
         favourites,
         bad: if style == 4 {
@@ -222,6 +228,7 @@ fn deep_mood(random: &mut Random, mut mood: Mood) -> Mood {
             // Fill a task with one screen.
             mood.kinds = GROWING;
             mood.flags = [98, 0, 1, 1, 0];
+            mood.no_history = random.one_of(&[0, 0, 5]);
             mood.favourites.truncate(1);
             mood.favourite = 99;
             mood.length = random.between(30, 60);
@@ -230,6 +237,7 @@ fn deep_mood(random: &mut Random, mut mood: Mood) -> Mood {
             // Fill the session with tasks.
             mood.kinds = GROWING;
             mood.flags = [20, 1, 1, 1, 77];
+            mood.no_history = random.one_of(&[0, 0, 5]);
             mood.length = random.between(15, 50);
         }
         3 | 4 => {
@@ -258,15 +266,7 @@ fn any_record(random: &mut Random, mood: &Mood, n: u8, empty: bool) -> [u8; RECO
     } else {
         random.byte(u16::from(n))
     };
-    let any = flag_word(random.below(64) as u32);
-    let flags = match random.weighted(&mood.flags) {
-        0 => 0,
-        1 => random.one_of(&FLAGS),
-        2 => any,
-        3 => any & !MULTIPLE_TASK | NEW_TASK,
-        _ => NEW_TASK | MULTIPLE_TASK,
-    };
-    let mut made = record(kind, screen, flags);
+    let mut made = record(kind, screen, any_flags(random, mood));
     if random.percent(mood.bad) {
         match random.below(6) {
             0 => made[0] = random.byte(256),
@@ -278,6 +278,21 @@ fn any_record(random: &mut Random, mood: &Mood, n: u8, empty: bool) -> [u8; RECO
         }
     }
     made
+}
+
+fn any_flags(random: &mut Random, mood: &Mood) -> u32 {
+    let any = flag_word(random.below(64) as u32);
+    let flags = match random.weighted(&mood.flags) {
+        0 => 0,
+        1 => random.one_of(&FLAGS),
+        2 => any,
+        3 => any & !MULTIPLE_TASK | NEW_TASK,
+        _ => NEW_TASK | MULTIPLE_TASK,
+    };
+    match random.percent(mood.no_history) {
+        true => flags | NO_HISTORY,
+        false => flags,
+    }
 }
 
 const STYLES: [&str; 5] = [

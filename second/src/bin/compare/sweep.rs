@@ -1,10 +1,12 @@
 //! The sweep: under every table of two or three screens and in each edition, every
 //! session of a few tasks of height up to 2 that plain starts (no flag set) and
-//! Backs reach from launch; from each of them every screen with all 64 flag words
-//! by a start and by a finishing start. Under tables of two screens the starts that
-//! reach a session may have any flags; with three screens those sessions are about
-//! three million. A few tasks are up to 3 in edition 8 and, with three screens, in
-//! 6; else up to 2, which keeps the sweep short.
+//! Backs reach from launch; from each of them every screen with all 64 words of the
+//! six flags that choose rules by a start and by a finishing start, by turns with the
+//! No-History flag and without it; and again from the same session with a No-History
+//! front, where the last start to it makes one with the flag. Under tables of two
+//! screens the starts that reach a session may have any of the six; with three
+//! screens those sessions are about three million. A few tasks are up to 3 in edition
+//! 8 and, with three screens, in 6; else up to 2, which keeps the sweep short.
 //!
 //! A player knows only a fresh session, so each session is reached by its path
 //! of records; after the call come Backs until the session is empty, so that
@@ -12,14 +14,16 @@
 
 use std::collections::HashSet;
 use std::fmt;
+use std::ops::Range;
 
 use second::edition::{EDITIONS, EIGHT, SIX};
 use second::play::{Player, RECORD};
-use second::table::flag_word;
+use second::table::{flag_word, FLAG_WORDS};
 use second::{Session, Table};
 
 use crate::check::{Checker, Difference, Input};
 use crate::make::{launch, record};
+use crate::no_history::with_no_history;
 
 /// The height of the largest tasks from which calls are made.
 const HEIGHT: usize = 2;
@@ -65,7 +69,8 @@ fn reach(table: &Table, screens: u8, edition: u8) -> Vec<(Session, Vec<u8>)> {
     while next < reached.len() {
         let (from, path) = reached[next].clone();
         next += 1;
-        let starts = calls(screens).filter(|call| call[0] == 2 && (screens == 2 || is_plain(call)));
+        let starts = calls(screens, SIX_FLAGS)
+            .filter(|call| call[0] == 2 && (screens == 2 || is_plain(call)));
         for step in starts.chain([record(4, 0, 0)]) {
             let session = session_after(table, &from, &step);
             if is_small(&session, tasks) && seen.insert(session.clone()) {
@@ -151,11 +156,9 @@ pub fn sweep(checker: &mut Checker) -> Result<Swept, Box<Difference>> {
         let screens = bytes[0];
         let mut batch = Batch::new("sweep", bytes);
         for edition in EDITIONS {
-            let sessions = reach(&table, screens, edition);
-            for (session, path) in &sessions {
-                batch.all_calls(checker, session, path)?;
+            for (_, path) in reach(&table, screens, edition) {
+                swept.sessions += batch.by_turns(checker, &path)?;
             }
-            swept.sessions += sessions.len() as u64;
         }
         batch.finish(checker)?;
         swept.tables += 1;
@@ -194,10 +197,28 @@ impl Batch {
         session: &Session,
         path: &[u8],
     ) -> Result<(), Box<Difference>> {
-        for call in calls(self.screens) {
+        for call in calls(self.screens, SEVEN_FLAGS) {
             self.call(checker, session, path, call)?;
         }
         Ok(())
+    }
+
+    /// Makes every call from the session to which the path leads, and from the same
+    /// with a No-History front if the path can make one, by turns without and with
+    /// the No-History flag; gives how many sessions these are.
+    fn by_turns(&mut self, checker: &mut Checker, path: &[u8]) -> Result<u64, Box<Difference>> {
+        let mut fronts = vec![path.to_vec(), with_no_history(path)];
+        fronts.retain(|front| front == path || self.reached(front).no_history);
+        for (first, path) in (0..).zip(&fronts) {
+            let session = self.reached(path);
+            let words = calls(self.screens, SIX_FLAGS).zip(calls(self.screens, SEVENTH_FLAG));
+            for (number, (without, with)) in (0u32..).zip(words) {
+                // By the ones, so that no other flag goes with it always or never.
+                let turn = first + number.count_ones() as usize;
+                self.call(checker, &session, path, [without, with][turn % 2])?;
+            }
+        }
+        Ok(fronts.len() as u64)
     }
 
     /// Makes one call from a session, to which the path leads.
@@ -235,11 +256,24 @@ impl Batch {
     }
 }
 
-/// Every screen with all 64 flag words, by a start and by a finishing start.
-fn calls(screens: u8) -> impl Iterator<Item = [u8; RECORD]> {
-    [2, 3].into_iter().flat_map(move |kind| {
-        (0..screens).flat_map(move |b| (0..64).map(move |word| record(kind, b, flag_word(word))))
-    })
+/// The numbers of the words without the No-History flag, of those with it, and of
+/// all.
+pub const SIX_FLAGS: Range<u32> = 0..FLAG_WORDS / 2;
+pub const SEVENTH_FLAG: Range<u32> = FLAG_WORDS / 2..FLAG_WORDS;
+const SEVEN_FLAGS: Range<u32> = 0..FLAG_WORDS;
+
+/// Every screen with the flag words of these numbers, by a start and by a finishing
+/// start.
+pub fn calls(screens: u8, words: Range<u32>) -> impl Iterator<Item = [u8; RECORD]> {
+    let starts = move |kind, b| {
+        words
+            .clone()
+            .map(move |word| record(kind, b, flag_word(word)))
+    };
+    let kinds = move |b| [(2, b), (3, b)];
+    (0..screens)
+        .flat_map(kinds)
+        .flat_map(move |(kind, b)| starts(kind, b))
 }
 
 /// The session that one record's call leaves.

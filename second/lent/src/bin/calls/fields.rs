@@ -15,10 +15,11 @@ pub enum Field {
     Count,
     Main,
     Edition,
+    NoHistory,
 }
 
 impl Field {
-    const NAMES: [&'static str; 8] = [
+    const NAMES: [&'static str; 9] = [
         "root",
         "height",
         "screen",
@@ -27,17 +28,20 @@ impl Field {
         "n",
         "m",
         "edition",
+        "No-History",
     ];
 
     /// The field that a byte of a sound session belongs to.
     pub fn at(session: &Stored, place: usize) -> Field {
         let (task, byte) = (place / TASK, place % TASK);
-        if place == SESSION - 3 {
+        if place == SESSION - 4 {
             Field::Count
-        } else if place == SESSION - 2 {
+        } else if place == SESSION - 3 {
             Field::Main
-        } else if place == SESSION - 1 {
+        } else if place == SESSION - 2 {
             Field::Edition
+        } else if place == SESSION - 1 {
+            Field::NoHistory
         } else if task >= usize::from(session.n) {
             Field::BeyondTasks
         } else if byte == 0 {
@@ -54,7 +58,7 @@ impl Field {
 
 /// Calls refused by 20, by field and kind of call.
 #[derive(Default)]
-pub struct Refused([[u64; 8]; 8]);
+pub struct Refused([[u64; 8]; 9]);
 
 impl Refused {
     pub fn add(&mut self, field: Field, kind: Kind) {

@@ -2,13 +2,15 @@
 
 use second::edition::{EDITIONS, EIGHT, SEVEN, SIX};
 use second::session::{MAX_HEIGHT, MAX_TASKS};
-use second::table::{flag_word, ALL_FLAGS, CLEAR_TASK, CLEAR_TOP, NEW_TASK, REORDER_TO_FRONT};
+use second::table::{
+    flag_word, ALL_FLAGS, CLEAR_TASK, CLEAR_TOP, FLAG_WORDS, NEW_TASK, NO_HISTORY, REORDER_TO_FRONT,
+};
 use second::{Session, Task};
 
 use lent_calls::call::Call;
 use lent_calls::check::{Checked, Checker};
 use lent_calls::damage::EXTREMES;
-use lent_calls::sessions::{held, Listed, T};
+use lent_calls::sessions::{both_fronts, held, Listed, T};
 use lent_calls::stored::{Stored, SESSION};
 
 use crate::fields::{Field, Refused};
@@ -19,6 +21,7 @@ fn sized(edition: u8) -> [Session; 3] {
         tasks: vec![Task::new(3, &[3]), Task::new(0, &[1, 0])],
         main: 2,
         edition,
+        no_history: false,
     };
     let typical = Session {
         tasks: vec![
@@ -29,26 +32,30 @@ fn sized(edition: u8) -> [Session; 3] {
         ],
         main: 4,
         edition,
+        no_history: false,
     };
     let screens: Vec<u8> = (0..MAX_HEIGHT).map(|at| at as u8 % 3).collect();
     let full = Session {
         tasks: vec![Task::new(0, &screens); MAX_TASKS],
         main: MAX_TASKS,
         edition,
+        no_history: false,
     };
     [small, typical, full]
 }
 
-/// The empty session, and one of each size, each of another edition.
+/// The empty session, and one of each size, each of another edition; one of them has
+/// a No-History front.
 fn sound() -> [Session; 4] {
     let ([small, ..], [_, typical, _], [.., full]) = (sized(SIX), sized(SEVEN), sized(EIGHT));
+    let [_, typical] = both_fronts(typical);
     [Session::fresh(), small, typical, full]
 }
 
-/// The empty session, and one of each size and edition.
+/// The empty session, and one of each size, edition and front.
 fn all_sound() -> Vec<Session> {
     let mut sessions = vec![Session::fresh()];
-    sessions.extend(EDITIONS.into_iter().flat_map(sized));
+    sessions.extend(EDITIONS.into_iter().flat_map(sized).flat_map(both_fronts));
     sessions
 }
 
@@ -141,7 +148,7 @@ pub fn no_affinities() -> [u8; 14] {
 }
 
 /// Starts and finishing starts of every screen, with every flag bit and with
-/// every set of the six flags, and why of each, under a table with T's modes.
+/// every set of the seven flags, and why of each, under a table with T's modes.
 pub fn starts(checker: &mut Checker, table: &[u8]) -> Checked {
     for session in all_sound() {
         let present = held(&session);
@@ -163,7 +170,7 @@ pub fn starts(checker: &mut Checker, table: &[u8]) -> Checked {
                 check("every flag bit", screen, 1 << bit)?;
                 check("every flag bit", screen, ALL_FLAGS | 1 << bit)?;
             }
-            for set in 0..64 {
+            for set in 0..FLAG_WORDS {
                 check("every set of flags", screen, flag_word(set))?;
             }
         }
@@ -189,9 +196,79 @@ pub fn editions(checker: &mut Checker) -> Checked {
     Ok(())
 }
 
+/// Sessions with every byte for the mark of a No-History front, and every call on
+/// them; and every m byte for their images, over them.
+pub fn marks(checker: &mut Checker) -> Checked {
+    for session in all_sound() {
+        let mut image = session.image();
+        let m = image.len() - 3;
+        for byte in 0..=255 {
+            let mut held = held(&session);
+            image[m] = byte;
+            let restore = Call::Restore { image: &image };
+            checker.check("every m byte", &T, &held, restore)?;
+            held.no_history = byte;
+            for call in one_of_each(&session.image()) {
+                checker.check("every mark held", &T, &held, call)?;
+            }
+        }
+    }
+    Ok(())
+}
+
+/// Small sessions of an edition, alone in front or before the main task, so that a
+/// start of the front screen itself can leave a task or none.
+fn small(edition: u8) -> Vec<Session> {
+    let stacks: [(u8, &[u8]); 8] = [
+        (0, &[0]),
+        (0, &[1, 0]),
+        (1, &[1]),
+        (3, &[3]),
+        (3, &[3, 1]),
+        (4, &[4]),
+        (5, &[5]),
+        (5, &[5, 1, 5]),
+    ];
+    let mut sessions = Vec::new();
+    for (root, screens) in stacks {
+        let front = Task::new(root, screens);
+        let session = |tasks, main| Session {
+            tasks,
+            main,
+            edition,
+            no_history: false,
+        };
+        let main = usize::from(root == T[1]);
+        sessions.push(session(vec![front.clone()], main));
+        sessions.push(session(vec![front, Task::new(0, &[0])], 2));
+    }
+    sessions
+}
+
+/// Starts and finishing starts of every screen with every set of flags, and why of
+/// each, from small sessions with a No-History front and with another.
+pub fn fronts(checker: &mut Checker) -> Checked {
+    let sessions = EDITIONS.into_iter().flat_map(small).flat_map(both_fronts);
+    for present in sessions.map(|session| held(&session)) {
+        for screen in 0..T[0] {
+            for flags in (0..FLAG_WORDS).map(flag_word) {
+                for call in [
+                    Call::Start { screen, flags },
+                    Call::FinishingStart { screen, flags },
+                    Call::Why { screen, flags },
+                ] {
+                    checker.check("small sessions", &T, &present, call)?;
+                }
+            }
+        }
+    }
+    Ok(())
+}
+
 /// Sessions with a task of this height whose root, at the bottom, is this screen,
-/// in front and behind another; it is the main task if that is the main screen.
-fn high(edition: u8, screen: u8, height: usize) -> [Session; 2] {
+/// in front and behind another; it is the main task if that is the main screen. Of
+/// each there is one with a No-History front.
+fn high(edition: u8, screen: u8, height: usize) -> impl Iterator<Item = Session> {
     // 0 is the main screen; 3, single-task, and 5 have another affinity.
     let is_main = screen == T[1];
     let root = if is_main { 5 } else { T[1] };
@@ -203,11 +280,13 @@ fn high(edition: u8, screen: u8, height: usize) -> [Session; 2] {
         tasks,
         main: if is_main { place } else { 0 },
         edition,
+        no_history: false,
     };
-    [
+    let sessions = [
         session(vec![high.clone(), other.clone()], 1),
         session(vec![other, high], 2),
-    ]
+    ];
+    sessions.into_iter().flat_map(both_fronts)
 }
 
 /// Tasks of each height, cleared, emptied and reordered by starts of their root
@@ -227,7 +306,7 @@ pub fn heights(checker: &mut Checker) -> Checked {
         for screen in [0, 3, 5] {
             for session in high(edition, screen, height) {
                 let present = held(&session);
-                for flags in words {
+                for flags in words.into_iter().flat_map(|word| [word, word | NO_HISTORY]) {
                     let start = Call::Start { screen, flags };
                     let finishing = Call::FinishingStart { screen, flags };
                     checker.check("tasks of each height", &T, &present, start)?;

@@ -4,15 +4,19 @@
 //! as the library's do. Only here to be measured; `lot` holds it against the
 //! library first.
 
+mod changes;
+
 use lent_calls::stored::{Stored, StoredTask};
 use second::edition::{EDITIONS, EIGHT, SEVEN, SIX};
 use second::session::{MAX_HEIGHT, MAX_TASKS};
 use second::table::{
     ALL_FLAGS, CLEAR_TASK, CLEAR_TOP, MAX_SCREENS, MULTIPLE_TASK, NEW_TASK, NO_AFFINITY,
-    REORDER_TO_FRONT, SINGLE_TOP,
+    NO_HISTORY, REORDER_TO_FRONT, SINGLE_TOP,
 };
 
-type Answer = [u8; 8];
+use changes::{carry_out, close, close_mark, top, topmost, Change, Plan};
+
+type Answer = [u8; 9];
 
 struct Reply {
     session: Stored,
@@ -60,6 +64,7 @@ fn backed(table: &[u8], mut session: Stored) -> Reply {
     let mut closed = 0;
     if number == 0 {
         closed = close(&mut session, 0, 0);
+        session.no_history = 0;
     }
     told(number, session, closed)
 }
@@ -69,9 +74,14 @@ fn started(table: &[u8], mut session: Stored, b: u8, flags: u32, finishing: bool
         Err(number) => return told(number, session, 0),
         Ok(plan) => plan,
     };
+    if matches!(plan, Plan::Stay) && !finishing {
+        return told(0, session, 0);
+    }
     let front = top(&session.tasks[0]);
+    let closes = finishing || session.no_history == 1;
     let mut closed = carry_out(&mut session, b, plan);
-    if finishing {
+    session.no_history = u8::from(flags & NO_HISTORY != 0 && plan.creates());
+    if closes {
         closed += close_mark(&mut session, plan, front == b);
     }
     told(0, session, closed)
@@ -79,11 +89,15 @@ fn started(table: &[u8], mut session: Stored, b: u8, flags: u32, finishing: bool
 
 fn told(number: u8, session: Stored, closed: u8) -> Reply {
     let Stored {
-        n, main, edition, ..
+        n,
+        main,
+        edition,
+        no_history,
+        ..
     } = session;
     let front = &session.tasks[0];
     let answer = match (number, n) {
-        (0, 0) => [0, 0, 0, 0, 0, main, closed, edition],
+        (0, 0) => [0, 0, 0, 0, 0, main, closed, edition, no_history],
         (0, _) => [
             0,
             top(front),
@@ -93,8 +107,9 @@ fn told(number: u8, session: Stored, closed: u8) -> Reply {
             main,
             closed,
             edition,
+            no_history,
         ],
-        _ => [number, 0, 0, 0, 0, 0, 0, 0],
+        _ => [number, 0, 0, 0, 0, 0, 0, 0, 0],
     };
     Reply { session, answer }
 }
@@ -142,11 +157,12 @@ fn is_sound(table: &[u8], session: &Stored) -> bool {
         }
         && EDITIONS.contains(&session.edition)
         && (n > 0 || session.edition == EIGHT)
+        && session.no_history <= u8::from(n > 0)
 }
 
 fn is_task_sound(table: &[u8], task: &StoredTask) -> bool {
     let height = usize::from(task.height);
-    if task.root >= table[0] || height < 1 || height > MAX_HEIGHT {
+    if task.root >= table[0] || !(1..=MAX_HEIGHT).contains(&height) {
         return false;
     }
     let (screens, rest) = task.screens.split_at(height);
@@ -163,31 +179,6 @@ fn is_blank(task: &StoredTask) -> bool {
 }
 
 // ---- a start
-
-#[derive(Clone, Copy, PartialEq)]
-enum Change {
-    Keep,
-    Renew,
-    Clear,
-    Lift,
-    Push,
-}
-
-#[derive(Clone, Copy)]
-enum Plan {
-    New,
-    /// The task at this index comes to the front and changes.
-    Move(usize, Change),
-}
-
-fn top(task: &StoredTask) -> u8 {
-    task.screens[usize::from(task.height) - 1]
-}
-
-fn topmost(task: &StoredTask, b: u8) -> Option<usize> {
-    let screens = &task.screens[..usize::from(task.height)];
-    screens.iter().rposition(|&x| x == b)
-}
 
 fn plan(table: &[u8], session: &Stored, b: u8, flags: u32) -> Result<Plan, u8> {
     let number = shared_refusal(table, session);
@@ -253,9 +244,7 @@ fn rule(table: &[u8], session: &Stored, b: u8, flags: u32) -> Plan {
             Some((i, _)) if topmost(&session.tasks[i], b).is_some() => Plan::Move(i, Change::Clear),
             Some((i, _)) => Plan::Move(i, Change::Push),
         },
-        _ if !set(NEW_TASK) && mode(table, front) != 3 => {
-            Plan::Move(0, not_apart(session, b, flags, single))
-        }
+        _ if !set(NEW_TASK) && mode(table, front) != 3 => not_apart(session, b, flags, single),
         _ if set(MULTIPLE_TASK) => Plan::New,
         _ => sought(table, session, b).map_or(Plan::New, |(i, rooted)| {
             Plan::Move(i, apart(session, b, flags, single, (i, rooted)))
@@ -263,17 +252,18 @@ fn rule(table: &[u8], session: &Stored, b: u8, flags: u32) -> Plan {
     }
 }
 
-fn not_apart(session: &Stored, b: u8, flags: u32, single: bool) -> Change {
+fn not_apart(session: &Stored, b: u8, flags: u32, single: bool) -> Plan {
     let front = &session.tasks[0];
     let (clear, reorder) = (flags & CLEAR_TOP != 0, flags & REORDER_TO_FRONT != 0);
     let held = || topmost(front, b).is_some();
-    match (session.edition, session.main) {
-        _ if top(front) == b && (single || reorder || clear) => Change::Keep,
+    let change = match (session.edition, session.main) {
+        _ if top(front) == b && (single || reorder || clear) => return Plan::Stay,
         _ if clear && held() => Change::Clear,
         (SEVEN, 1) if reorder && held() => Change::Renew,
         _ if reorder && held() => Change::Lift,
         _ => Change::Push,
-    }
+    };
+    Plan::Move(0, change)
 }
 
 fn apart(session: &Stored, b: u8, flags: u32, single: bool, (i, rooted): (usize, bool)) -> Change {
@@ -286,106 +276,4 @@ fn apart(session: &Stored, b: u8, flags: u32, single: bool, (i, rooted): (usize,
         false if not_main || (single && top(task) == b) => Change::Keep,
         false => Change::Push,
     }
-}
-
-/// Carries out a plan; gives how many screens close.
-fn carry_out(session: &mut Stored, b: u8, plan: Plan) -> u8 {
-    let n = usize::from(session.n);
-    match plan {
-        Plan::New => {
-            session.tasks.copy_within(..n, 1);
-            session.tasks[0] = renewed(b, b);
-            session.n += 1;
-            session.main += u8::from(session.main != 0);
-            0
-        }
-        Plan::Move(i, change) => {
-            let task = session.tasks[i];
-            session.tasks.copy_within(..i, 1);
-            session.tasks[0] = task;
-            session.main = match usize::from(session.main) {
-                main if main == i + 1 => 1,
-                main if main != 0 && main <= i => session.main + 1,
-                _ => session.main,
-            };
-            change_screens(&mut session.tasks[0], b, change)
-        }
-    }
-}
-
-fn renewed(root: u8, b: u8) -> StoredTask {
-    let mut screens = [0; MAX_HEIGHT];
-    screens[0] = b;
-    StoredTask {
-        root,
-        height: 1,
-        screens,
-    }
-}
-
-/// Changes the screens of a task; gives how many close.
-fn change_screens(task: &mut StoredTask, b: u8, change: Change) -> u8 {
-    let height = usize::from(task.height);
-    match (change, topmost(task, b)) {
-        (Change::Renew, _) => {
-            *task = renewed(task.root, b);
-            return height as u8;
-        }
-        (Change::Push, _) => {
-            task.screens[height] = b;
-            task.height += 1;
-        }
-        (Change::Clear, Some(at)) => {
-            task.screens[at + 1..height].fill(0);
-            task.height = at as u8 + 1;
-            return (height - 1 - at) as u8;
-        }
-        (Change::Lift, Some(at)) => {
-            task.screens.copy_within(at + 1..height, at);
-            task.screens[height - 1] = b;
-        }
-        _ => {}
-    }
-    0
-}
-
-// ---- closing
-
-/// The screen that was in front closes where it stands after the plan; gives
-/// how many close.
-fn close_mark(session: &mut Stored, plan: Plan, same: bool) -> u8 {
-    match plan {
-        Plan::Move(0, Change::Keep) => close(session, 0, 0),
-        Plan::Move(0, Change::Clear | Change::Lift) if same => close(session, 0, 0),
-        Plan::Move(0, Change::Lift | Change::Push) => close(session, 0, 1),
-        Plan::Move(0, _) => 0,
-        _ => close(session, 1, 0),
-    }
-}
-
-/// The screen below so many others of the task at i goes, and a task left empty;
-/// gives that one closes.
-fn close(session: &mut Stored, i: usize, below: usize) -> u8 {
-    let task = &mut session.tasks[i];
-    let height = usize::from(task.height);
-    if height > 1 {
-        let at = height - 1 - below;
-        task.screens.copy_within(at + 1..height, at);
-        task.screens[height - 1] = 0;
-        task.height -= 1;
-        return 1;
-    }
-    let n = usize::from(session.n);
-    session.tasks.copy_within(i + 1..n, i);
-    session.tasks[n - 1] = Stored::FRESH.tasks[0];
-    session.n -= 1;
-    if session.n == 0 {
-        session.edition = EIGHT;
-    }
-    session.main = match usize::from(session.main) {
-        main if main == i + 1 => 0,
-        main if main > i + 1 => session.main - 1,
-        _ => session.main,
-    };
-    1
 }

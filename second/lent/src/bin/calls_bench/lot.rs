@@ -103,7 +103,8 @@ impl Lot {
     }
 }
 
-/// Of each screen with each set of the six flags, those that are accepted.
+/// Of each screen with each set of the six flags that choose rules, those that are
+/// accepted.
 fn accepted_starts(session: &Session) -> Vec<(u8, u32)> {
     let sets = (0..64).map(flag_word);
     sets.flat_map(|flags| (0..T[0]).map(move |screen| (screen, flags)))
@@ -129,7 +130,7 @@ pub fn measured_second(lot: &Lot, sessions: &mut [Session]) {
     black_box(buffer);
 }
 
-fn made_by_value(call: Call, session: &mut Stored) -> [u8; 8] {
+fn made_by_value(call: Call, session: &mut Stored) -> [u8; 9] {
     match call {
         Call::Start { screen, flags } => by_value::start(&T, session, screen, flags),
         Call::FinishingStart { screen, flags } => {

@@ -2,6 +2,8 @@
 
 use std::time::Instant;
 
+use lent_calls::stored::SESSION;
+
 use crate::lot::{
     self, measured_by_value, measured_copy, measured_lent, measured_second, Lot, CALLS,
 };
@@ -62,7 +64,7 @@ pub fn print_table() {
     }
     let copy = copies();
     println!(
-        "copying a session of 547 bytes: {:.1} ({:.1})",
+        "copying a session of {SESSION} bytes: {:.1} ({:.1})",
         copy.best(),
         copy.middle()
     );

@@ -105,7 +105,7 @@ impl Base {
     }
 }
 
-/// Any word, any set of the six flags, or such a set and any one bit.
+/// Any word, any set of the seven flags, or such a set and any one bit.
 fn flags(random: &mut Random) -> u32 {
     let word = random.next() as u32;
     match random.below(10) {

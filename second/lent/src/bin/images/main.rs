@@ -6,8 +6,8 @@
 //! Sessions, images, buffers and tables, good and bad, are made from a seed;
 //! each call is made by the static library and by the second navigator. At the
 //! first difference it is printed, and the exit code is 1. At the end the
-//! program prints how often each refusal came up, and exits with 1 if one, or an
-//! edition, never did.
+//! program prints how often each refusal came up, and exits with 1 if one, an
+//! edition, or a mark of a No-History front, good or bad, never did.
 
 mod rounds;
 

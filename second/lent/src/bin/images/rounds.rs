@@ -21,11 +21,13 @@ fn paper(edition: u8) -> Session {
         tasks: vec![Task::new(3, &[3]), Task::new(0, &[1, 0])],
         main: 2,
         edition,
+        no_history: false,
     }
 }
 
 /// What is done for every seed: the paper's image in each edition, an empty session
-/// and a full one, each with every one-byte change, and bytes of every length.
+/// and a full one, with a No-History front and another where there is one, each with
+/// every one-byte change, and bytes of every length.
 pub fn fixed(checker: &mut Checker, random: &mut Random) -> Checked {
     let listed = Listed::new(T.to_vec());
     let screens: Vec<u8> = (0..MAX_HEIGHT).map(|at| at as u8 % 3).collect();
@@ -35,9 +37,10 @@ pub fn fixed(checker: &mut Checker, random: &mut Random) -> Checked {
         ..Session::fresh()
     };
     let present = held(&paper(EIGHT));
-    for session in [Session::fresh(), full]
-        .into_iter()
-        .chain(EDITIONS.map(paper))
+    let others = [full].into_iter().chain(EDITIONS.map(paper));
+    for session in others
+        .flat_map(sessions::both_fronts)
+        .chain([Session::fresh()])
     {
         there_and_back(checker, random, &listed, &session)?;
         every_change(checker, &listed, &present, &session)?;

@@ -4,7 +4,7 @@
 //!     reasons [--seed N] [--reasons N]
 //!
 //! Sessions and tables, good and bad, are made from a seed; under them why is
-//! asked with all 64 sets of flags, in each edition, and with other words, and the
+//! asked with all 128 sets of flags, in each edition, and with other words, and the
 //! start is made, by the static library and by the second navigator, until there
 //! are as many reasons as asked for. At the first difference it is printed, and the
 //! exit code is 1. At the end the program prints how often each refusal and rule

@@ -2,7 +2,7 @@
 
 use second::edition::EDITIONS;
 use second::random::Random;
-use second::table::flag_word;
+use second::table::{flag_word, FLAG_WORDS};
 
 use lent_calls::call::Call;
 use lent_calls::check::{Checked, Checker};
@@ -24,7 +24,7 @@ pub fn round(checker: &mut Checker, random: &mut Random) -> Checked {
     for edition in EDITIONS {
         // An empty session is refused in 6 and 7.
         let present = Stored { edition, ..present };
-        for set in 0..64 {
+        for set in 0..FLAG_WORDS {
             let start = (screen, flag_word(set));
             ask(
                 checker,

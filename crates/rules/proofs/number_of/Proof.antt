@@ -1,9 +1,9 @@
--- `reasons::number_of` meets its contract: each rule is told by its own arm.
+-- `rules::number_of` meets its contract: each rule is told by its own arm.
 use mathlib.Core.Path.{sym, ap}
 use borrow.Author.Needs.{needs}
-use Rattle.model.specs.Reasons.{numberOf}
-use Rattle.reasons.proofs.number_of.Statement.{statement}
-use Rattle.reasons.proofs.number_of.Tie as tie
+use Rattle.model.specs.Rules.{numberOf}
+use Rattle.rules.proofs.number_of.Statement.{statement}
+use Rattle.rules.proofs.number_of.Tie as tie
 
 pub number-of-spec : {M : Type 1} → statement M
 number-of-spec =
