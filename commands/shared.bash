@@ -3,7 +3,7 @@
 #   arguments N "$@"    there are N names, or with N.. at least N; else the usage
 #   readable NAME       for each file that the program opens: a message where it cannot be read
 #   take_input NAME     for one that it gets as its standard input: the same, and opens it
-#   build PROGRAM       proves and builds the program, unless it was built from these sources by this kit
+#   build PROGRAM ..    proves and builds the program, unless it was built from these sources by this kit
 #   run ARGUMENT..      runs it
 #
 # A command ends with status 0 where all is done. Anything else is a message on standard error and status 2.
@@ -106,15 +106,18 @@ crates_of() { # PROGRAM
         }' "$here/crates.txt"
 }
 
-# What a program is built from, as one number: the kit, and of each crate its line and its files, whatever their times.
-sources_of() { # PROGRAM
+# What a program is built from, as one number: the kit, of each crate its line and its files, and FILEs beside them, whatever
+# their times.
+sources_of() { # CRATE [FILE..]
     (
         cd "$here" || exit
         mapfile -t crates < <(crates_of "$1" | sort)
+        shift
         {
             printf '%s\n' "$kit"
             for crate in "${crates[@]}"; do grep "^$crate:" crates.txt; done
-            find "${crates[@]/#/crates/}" -type f ! -path '*/must-fail/*' -print0 | LC_ALL=C sort -z | xargs -0 sha256sum
+            find "${crates[@]/#/crates/}" "$@" -type f ! -path '*/must-fail/*' ! -path '*/target/*' -print0 |
+                LC_ALL=C sort -z | xargs -0 sha256sum
         } | sha256sum | cut -d ' ' -f 1
     )
 }
@@ -127,7 +130,14 @@ progress() { # PROGRAM DONE ALL
         "$command" "$1" "$2" "$3" >&2
 }
 
-# Proves and builds a program. The copy is kept under its sources' number, so that it is there whole or not at all.
+# Keeps a copy of what was built, under its sources' number, so that it is there whole or not at all.
+keep() { # PROGRAM FILE
+    [ "$built" = "$here/.built/$1-$(sources_of "${sources[@]}")" ] || fail 'the sources changed while they were proved: try again'
+    rm -f "$here/.built/$1-"*
+    cp "$2" "$here/.built/$1.new" && mv "$here/.built/$1.new" "$built" || fail "'$1' could not be kept in .built"
+}
+
+# Proves and builds a program. A command whose program is made in another way has a function of its own in its place.
 prove() { # PROGRAM
     local program=$1 log=$here/.built/$1.log all done=0 line
     all=$(crates_of "$program" | wc -l)
@@ -144,17 +154,17 @@ prove() { # PROGRAM
         grep -E '^rt: .*(NOT PROVED|FAILED)' "$log" >&2
         fail "'$program' could not be proved and built; what rt said stands in .built/$program.log"
     fi
-    [ "$built" = "$here/.built/$program-$(sources_of "$program")" ] || fail 'the sources changed while they were proved: try again'
-    rm -f "$here/.built/$program-"*
-    cp "$here/target/bin/$program" "$here/.built/$program.new" && mv "$here/.built/$program.new" "$built" ||
-        fail "'$program' could not be kept in .built"
+    keep "$program" "$here/target/bin/$program"
 }
 
-# Sets `built` to the program. One build goes on at a time, under a lock which stands outside of target/, and the others wait.
-build() { # PROGRAM
+# Sets `built` to the program, which is made of the crate of its name or of CRATE, and of FILEs. One build goes on at a time,
+# under a lock which stands outside of target/, and the others wait.
+build() { # PROGRAM [CRATE FILE..]
     local program=$1 kit lock
+    local -a sources=("${@:2}")
+    [ $# -gt 1 ] || sources=("$program")
     kit=$(rt version 2>/dev/null </dev/null) || fail "the kit's command 'rt' cannot be run: README.md names the kit"
-    built=$here/.built/$program-$(sources_of "$program")
+    built=$here/.built/$program-$(sources_of "${sources[@]}")
     [ ! -x "$built" ] || return 0
     if ! { mkdir -p "$here/.built" "$here/target" && [ -w "$here/.built" ] && [ -w "$here/target" ] &&
         exec {lock}>>"$here/.built/lock"; } 2>/dev/null; then
@@ -164,7 +174,7 @@ build() { # PROGRAM
         say 'waiting for another build'
         flock "$lock" || fail 'the lock .built/lock cannot be had'
     fi
-    built=$here/.built/$program-$(sources_of "$program")
+    built=$here/.built/$program-$(sources_of "${sources[@]}")
     [ -x "$built" ] || prove "$program"
     exec {lock}>&-
 }

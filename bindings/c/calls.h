@@ -52,7 +52,7 @@ static bool same(session s, session t) {
     } while (0)
 
 /* The save answers this refusal, and the buffer keeps its bytes. */
-static void save_refused(uint8_t number, const uint8_t *table, size_t length, session s, size_t room) {
+static inline void save_refused(uint8_t number, const uint8_t *table, size_t length, session s, size_t room) {
     uint8_t out[MILCHKOMPASS_IMAGE_MAX], before[sizeof out];
     memset(out, 0xee, sizeof out);
     memcpy(before, out, sizeof out);
@@ -62,7 +62,7 @@ static void save_refused(uint8_t number, const uint8_t *table, size_t length, se
 }
 
 /* Every call is refused by this number, whatever else it is given. */
-static void all_refused(uint8_t number, const uint8_t *table, size_t length, session before) {
+static inline void all_refused(uint8_t number, const uint8_t *table, size_t length, session before) {
     REFUSED(number, before, milchkompass_launch(table, length, &s, 5));
     REFUSED(number, before, milchkompass_start(table, length, &s, 255, 1));
     REFUSED(number, before, milchkompass_finish_start(table, length, &s, 255, 1));
@@ -84,7 +84,7 @@ typedef struct stack {
 } stack;
 
 /* Of each stack what is told, and then the start. */
-static void play_stacks(const stack *p, const milchkompass_reason *wanted, size_t count) {
+static inline void play_stacks(const stack *p, const milchkompass_reason *wanted, size_t count) {
     for (; count > 0; count--, p++, wanted++) {
         session s = p->before;
         milchkompass_reason got = milchkompass_why(T, s, p->b, p->word);

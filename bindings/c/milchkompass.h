@@ -21,6 +21,7 @@
 #ifndef MILCHKOMPASS_H
 #define MILCHKOMPASS_H
 
+#include <stdbool.h>
 #include <stddef.h>
 #include <stdint.h>
 
@@ -77,6 +78,7 @@ enum milchkompass_refusal {
     MILCHKOMPASS_IMAGE_TASKS = 6,
     MILCHKOMPASS_IMAGE_UNSOUND = 7,
     MILCHKOMPASS_BUFFER_SHORT = 8,
+    MILCHKOMPASS_BAD_RECORD = 9,
     MILCHKOMPASS_SESSION_UNSOUND = 20,
     MILCHKOMPASS_EMPTY = 21,
     MILCHKOMPASS_NOT_EMPTY = 22,
@@ -98,6 +100,7 @@ static inline const char *milchkompass_refusal_text(uint8_t refusal) {
     case MILCHKOMPASS_IMAGE_TASKS: return "restore: n above 16, or the L bytes are not exactly n tasks of height 1 to 32";
     case MILCHKOMPASS_IMAGE_UNSOUND: return "restore: the session read from the image is not sound under the table";
     case MILCHKOMPASS_BUFFER_SHORT: return "save: buffer shorter than the image";
+    case MILCHKOMPASS_BAD_RECORD: return "player only: unknown kind, or a cut record";
     case MILCHKOMPASS_SESSION_UNSOUND: return "the session is not sound under the table";
     case MILCHKOMPASS_EMPTY: return "start, Back: empty";
     case MILCHKOMPASS_NOT_EMPTY: return "launch: not empty";
@@ -171,6 +174,12 @@ typedef struct milchkompass_reason {
     uint8_t found;
 } milchkompass_reason;
 
+/* What two lists of calls are to each other: the refusal of the table (0 if none), and whether they end alike. */
+typedef struct milchkompass_ending {
+    uint8_t refusal;
+    bool alike;
+} milchkompass_ending;
+
 /* A tally of answers: the sum of the front heights of the accepted ones, how many were accepted and how many refused,
  * and the greatest front height of the accepted ones. It belongs to its caller. */
 typedef struct milchkompass_tally {
@@ -234,6 +243,29 @@ milchkompass_save_reply milchkompass_save(const uint8_t *table, size_t table_len
  * is, and the answer is that of a look at it. Its own checks: 5, 6, 7. */
 milchkompass_answer milchkompass_restore(const uint8_t *table, size_t table_length, milchkompass_session *s,
                                          const uint8_t *image, size_t image_length);
+
+/* How many bytes the first record of a recording takes: six, or fewer where it is cut. The bytes are those behind the
+ * table, from the record on. */
+size_t milchkompass_record_length(const uint8_t *calls, size_t calls_length);
+
+/* Play. The record at the start of the bytes is decoded and its call is made, as the player does. One of an unknown kind,
+ * 6 too, and one that is cut are refused with 9, before all other checks. */
+milchkompass_answer milchkompass_play(const uint8_t *table, size_t table_length, milchkompass_session *s,
+                                      const uint8_t *calls, size_t calls_length);
+
+/* How many bytes the first record of a list of calls takes. There a record of kind 6 is a restore, its word is the
+ * length of an image, and the image follows it and is part of it. A record that is cut takes all bytes. */
+size_t milchkompass_call_length(const uint8_t *calls, size_t calls_length);
+
+/* Play of such a record. One of another unknown kind, and one that is cut, are refused with 9. */
+milchkompass_answer milchkompass_play_call(const uint8_t *table, size_t table_length, milchkompass_session *s,
+                                           const uint8_t *calls, size_t calls_length);
+
+/* Whether two lists of calls, made from a fresh session, end in sessions that no later list of launches, starts,
+ * finishing starts, Backs and looks tells apart. Records of unknown kinds, and a cut one at the end, are no calls. Its
+ * checks: 1, 2. */
+milchkompass_ending milchkompass_same_ending(const uint8_t *table, size_t table_length, const uint8_t *first,
+                                             size_t first_length, const uint8_t *second, size_t second_length);
 
 /* Add. An answer, by its refusal and its front height, joins the tally, and 0 is given; the height of a refused answer
  * is not looked at. Otherwise 31, and the tally keeps its numbers: where it has MILCHKOMPASS_TALLY_MAX answers already,

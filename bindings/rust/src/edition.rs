@@ -35,6 +35,7 @@ impl Edition {
 impl TryFrom<u8> for Edition {
     type Error = UnknownNumber;
 
+    #[inline]
     fn try_from(number: u8) -> Result<Edition, UnknownNumber> {
         let known = Edition::ALL.iter().find(|e| e.number() == number);
         known.copied().ok_or(UnknownNumber {

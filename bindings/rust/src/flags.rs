@@ -67,6 +67,28 @@ impl Flags {
         Flags(word)
     }
 
+    /// The flag of this name, such as `NEW_TASK`.
+    pub fn from_name(name: &str) -> Option<Flags> {
+        let named = Flags::NAMED.iter().find(|(known, _)| *known == name);
+        named.map(|(_, flag)| *flag)
+    }
+
+    /// The flags that are set, by name. Bits outside the seven have none.
+    ///
+    /// ```
+    /// use milchkompass::Flags;
+    ///
+    /// let flags = Flags::CLEAR_TASK | Flags::NEW_TASK;
+    /// let names: Vec<&str> = flags.iter_names().map(|(name, _)| name).collect();
+    /// assert_eq!(names, ["NEW_TASK", "CLEAR_TASK"]);
+    /// assert_eq!(Flags::from_name("CLEAR_TASK"), Some(Flags::CLEAR_TASK));
+    /// assert_eq!(Flags::from_name("CLEAR"), None);
+    /// ```
+    pub fn iter_names(self) -> impl Iterator<Item = (&'static str, Flags)> {
+        let named = Flags::NAMED.into_iter();
+        named.filter(move |(_, flag)| self.contains(*flag))
+    }
+
     /// The whole word.
     pub const fn bits(self) -> u32 {
         self.0
@@ -114,8 +136,7 @@ impl BitAndAssign for Flags {
 /// The names of the flags, and the other bits as a number.
 impl fmt::Debug for Flags {
     fn fmt(&self, f: &mut fmt::Formatter) -> fmt::Result {
-        let set = |(_, flag): &&(&str, Flags)| self.contains(*flag);
-        let names = Flags::NAMED.iter().filter(set);
+        let names = self.iter_names();
         let mut parts: Vec<String> = names.map(|(name, _)| name.to_string()).collect();
         let other = self.0 & !Flags::all().0;
         if other != 0 || parts.is_empty() {

@@ -49,6 +49,7 @@ impl Session {
 
 /// An answer: nine numbers.
 #[repr(C)]
+#[derive(Clone, Copy)]
 pub struct Answer {
     pub refusal: u8,
     pub screen: u8,
@@ -97,6 +98,13 @@ pub struct Report {
     pub greatest: u8,
 }
 
+/// Whether two lists of calls end alike.
+#[repr(C)]
+pub struct Ending {
+    pub refusal: u8,
+    pub alike: bool,
+}
+
 extern "C" {
     fn milchkompass_abi() -> u32;
     fn milchkompass_launch(
@@ -142,6 +150,30 @@ extern "C" {
         image: *const u8,
         image_length: usize,
     ) -> Answer;
+    fn milchkompass_record_length(calls: *const u8, calls_length: usize) -> usize;
+    fn milchkompass_play(
+        table: *const u8,
+        table_length: usize,
+        s: *mut Session,
+        calls: *const u8,
+        calls_length: usize,
+    ) -> Answer;
+    fn milchkompass_call_length(calls: *const u8, calls_length: usize) -> usize;
+    fn milchkompass_play_call(
+        table: *const u8,
+        table_length: usize,
+        s: *mut Session,
+        calls: *const u8,
+        calls_length: usize,
+    ) -> Answer;
+    fn milchkompass_same_ending(
+        table: *const u8,
+        table_length: usize,
+        first: *const u8,
+        first_length: usize,
+        second: *const u8,
+        second_length: usize,
+    ) -> Ending;
     fn milchkompass_tally_add(t: *mut Tally, refusal: u8, height: u8) -> u8;
     fn milchkompass_tally_report(t: Tally) -> Report;
 }
@@ -173,6 +205,7 @@ pub fn finish_start(table: &[u8], s: &mut Session, b: u8, word: u32) -> Answer {
     unsafe { milchkompass_finish_start(table.as_ptr(), table.len(), s, b, word) }
 }
 
+#[inline]
 pub fn why(table: &[u8], s: &Session, b: u8, word: u32) -> Reason {
     unsafe { milchkompass_why(table.as_ptr(), table.len(), *s, b, word) }
 }
@@ -195,6 +228,43 @@ pub fn save(table: &[u8], s: &Session, out: &mut [u8]) -> SaveReply {
 pub fn restore(table: &[u8], s: &mut Session, image: &[u8]) -> Answer {
     let (bytes, length) = (image.as_ptr(), image.len());
     unsafe { milchkompass_restore(table.as_ptr(), table.len(), s, bytes, length) }
+}
+
+#[inline]
+pub fn record_length(calls: &[u8]) -> usize {
+    unsafe { milchkompass_record_length(calls.as_ptr(), calls.len()) }
+}
+
+#[inline]
+pub fn play(table: &[u8], s: &mut Session, calls: &[u8]) -> Answer {
+    let (bytes, length) = (calls.as_ptr(), calls.len());
+    unsafe { milchkompass_play(table.as_ptr(), table.len(), s, bytes, length) }
+}
+
+#[inline]
+pub fn call_length(calls: &[u8]) -> usize {
+    unsafe { milchkompass_call_length(calls.as_ptr(), calls.len()) }
+}
+
+#[inline]
+pub fn play_call(table: &[u8], s: &mut Session, calls: &[u8]) -> Answer {
+    let (bytes, length) = (calls.as_ptr(), calls.len());
+    unsafe { milchkompass_play_call(table.as_ptr(), table.len(), s, bytes, length) }
+}
+
+/// The interface is compared here: the table may be any bytes.
+pub fn same_ending(table: &[u8], first: &[u8], second: &[u8]) -> Ending {
+    check_abi();
+    unsafe {
+        milchkompass_same_ending(
+            table.as_ptr(),
+            table.len(),
+            first.as_ptr(),
+            first.len(),
+            second.as_ptr(),
+            second.len(),
+        )
+    }
 }
 
 /// No table is made for a tally, so the interface is compared here.

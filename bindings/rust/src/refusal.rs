@@ -39,6 +39,7 @@ refusals! {
     6 ImageTasks "restore: n above 16, or the L bytes are not exactly n tasks of height 1 to 32"
     7 ImageUnsound "restore: the session read from the image is not sound under the table"
     8 BufferShort "save: buffer shorter than the image"
+    9 BadRecord "player only: unknown kind, or a cut record"
     20 SessionUnsound "the session is not sound under the table"
     21 Empty "start, Back: empty"
     22 NotEmpty "launch: not empty"
@@ -55,6 +56,7 @@ impl Refusal {
     }
 
     /// Accepted (0), or the refusal of this number.
+    #[inline]
     pub(crate) fn check(number: u8) -> Result<(), Refusal> {
         if number == 0 {
             return Ok(());
@@ -64,7 +66,7 @@ impl Refusal {
 }
 
 /// The refusal of this number, as the player prints it. 0 is none: the call is
-/// accepted. 9 is the player's alone, and 31 a tally's.
+/// accepted. 9 is that of a record, played or in a replay, and 31 a tally's.
 impl TryFrom<u8> for Refusal {
     type Error = UnknownNumber;
 

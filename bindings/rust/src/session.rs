@@ -72,12 +72,8 @@ impl Session {
     }
 
     /// The tasks, front first.
-    pub fn tasks(&self) -> impl DoubleEndedIterator<Item = Task<'_>> + ExactSizeIterator {
-        let stored = &self.stored.tasks[..usize::from(self.stored.n)];
-        stored.iter().map(|task| Task {
-            root: task.root,
-            screens: &task.screens[..usize::from(task.height)],
-        })
+    pub fn tasks(&self) -> impl DoubleEndedIterator<Item = Task<'_>> + ExactSizeIterator + Clone {
+        tasks_of(&self.stored)
     }
 
     /// The place (from 1) of the task made by launch, 0 if it is gone.
@@ -209,11 +205,24 @@ impl Session {
 /// The table is good, the session was fresh, and calls keep it sound.
 const NEVER: &str = "refused only where table or session are bad";
 
-fn edition_of(number: u8) -> Edition {
+/// The tasks that are stored, front first.
+#[inline]
+pub(crate) fn tasks_of(
+    stored: &raw::Session,
+) -> impl DoubleEndedIterator<Item = Task<'_>> + ExactSizeIterator + Clone {
+    let tasks = &stored.tasks[..usize::from(stored.n)];
+    tasks.iter().map(|task| Task {
+        root: task.root,
+        screens: &task.screens[..usize::from(task.height)],
+    })
+}
+
+#[inline]
+pub(crate) fn edition_of(number: u8) -> Edition {
     Edition::try_from(number).expect("the library gives no other number")
 }
 
-fn outcome(answer: raw::Answer) -> Result<Answer, Refusal> {
+pub(crate) fn outcome(answer: raw::Answer) -> Result<Answer, Refusal> {
     Refusal::check(answer.refusal)?;
     Ok(Answer {
         screen: answer.screen,

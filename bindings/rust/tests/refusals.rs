@@ -1,5 +1,6 @@
 //! Every refusal that a caller can provoke, and that it changes nothing. 20
-//! cannot be: a session's storage is its own. 31 stands with the tally.
+//! cannot be: a session's storage is its own. 9 stands with the replay, and 31
+//! with the tally.
 
 mod common;
 
@@ -109,7 +110,7 @@ fn errors() {
     let error: Box<dyn std::error::Error> = Box::new(Refusal::NotEmpty);
     assert_eq!(error.to_string(), "refusal 22: launch: not empty");
     let numbers: Vec<u8> = Refusal::ALL.iter().map(|r| r.number()).collect();
-    let known = [1, 2, 3, 4, 5, 6, 7, 8, 20, 21, 22, 23, 24, 30, 31];
+    let known = [1, 2, 3, 4, 5, 6, 7, 8, 9, 20, 21, 22, 23, 24, 30, 31];
     assert_eq!(numbers, known);
     for number in 0..=255 {
         match Refusal::try_from(number) {
@@ -117,6 +118,6 @@ fn errors() {
             Err(_) => assert!(!numbers.contains(&number)),
         }
     }
-    let error = Refusal::try_from(9).unwrap_err();
-    assert_eq!(error.to_string(), "9 is the number of no refusal");
+    let error = Refusal::try_from(10).unwrap_err();
+    assert_eq!(error.to_string(), "10 is the number of no refusal");
 }

@@ -1,3 +1,4 @@
 pub mod Settling
 pub mod PlanSettling
 pub mod HistoryLaws
+pub mod Requests

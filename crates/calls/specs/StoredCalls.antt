@@ -6,8 +6,9 @@ use mathlib.Core.List.{List, []}
 use Rattle.model.specs.declared.Answer.{Answer}
 use Rattle.model.specs.Refusals.{refusal}
 use Rattle.model.specs.Table.{tableRefusal}
-use Rattle.model.specs.Answers.{settle}
+use Rattle.model.specs.Answers.{refused, settle}
 use Rattle.model.specs.Calls.{Call, start, finishingStart, checksIn, ownChecks, done, answerTo}
+use Rattle.model.specs.Player.{Request, unplayable, asks}
 use Rattle.model.specs.Histories.{Machine}
 use Rattle.session.specs.declared.Session.{Session}
 use Rattle.session.specs.Stored.{view, hold, soundStored}
@@ -30,6 +31,11 @@ givenBy tb c k n = settle reply n c (hold (done tb (view c) k)) (answerTo tb (vi
 
 unfoldable pub callStored : List ℕ → Session → Call → Reply
 callStored tb c k = givenBy tb c k (refusalStored tb c k)
+
+-- what a record gives on a stored session: "Refusal 9 comes before all checks of the call"
+abbrev pub replyStored : List ℕ → Session → Request → Reply
+replyStored tb c unplayable = reply c (refused 9)
+replyStored tb c (asks k) = callStored tb c k
 
 -- the program's calls under the table tb, one after the other (document 01, "Lists in demand 3")
 abbrev pub byProgram : List ℕ → Machine Session Call Answer

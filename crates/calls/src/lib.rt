@@ -10,7 +10,8 @@ ghost use Rattle.model.specs.Table.{tableRefusal};
 ghost use Rattle.session.specs.Stored.{taskBehind};
 ghost use Rattle.plans.specs.Plans.{Opens};
 ghost use Rattle.starts.specs.Steps.{orElse};
-ghost use Rattle.calls.specs.StoredCalls.{reply, sharedRefusal, callStored};
+ghost use Rattle.model.specs.Player.{requestOf};
+ghost use Rattle.calls.specs.StoredCalls.{reply, sharedRefusal, callStored, replyStored};
 ghost use Rattle.calls.specs.CallPlans.{launchRefusal, launchPlan, backRefusal, backMark, backPlan};
 use model::Answer;
 use model::Effect;
@@ -203,5 +204,22 @@ pub fn finish_start(table: &[u8], s: Session, b: u8, word: u32, shared: u8) -> R
     Reply {
         session: plans::put(out, plan),
         answer: answer,
+    }
+}
+
+// ---- records
+
+// What a whole record gives; shared is the refusal of the checks that all calls share.
+pub fn reply_to(table: &[u8], s: Session, kind: u8, b: u8, word: u32, shared: u8) -> Reply
+    requires { ⌜ shared ≡ sharedRefusal (now table) s ⌝ }
+    ensures { λ r. ⌜ r ≡ replyStored (now (table .entry)) s (requestOf kind b word) ⌝ }
+{
+    match kind {
+        1 => launch(table, s, b, shared),
+        2 => start(table, s, b, word, shared),
+        3 => finish_start(table, s, b, word, shared),
+        4 => back(table, s, shared),
+        5 => look(table, s, shared),
+        _ => refuse(s, 9),
     }
 }

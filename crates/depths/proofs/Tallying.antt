@@ -15,7 +15,8 @@ use Rattle.session.specs.Stored.{view, hold}
 use Rattle.session.proofs.Known.{Sized}
 use Rattle.session.proofs.StoredLaws.{held}
 use Rattle.calls.specs.declared.Reply.{Reply}
-use Rattle.play.specs.Steps.{Playable, replyStored}
+use Rattle.calls.specs.StoredCalls.{replyStored}
+use Rattle.play.specs.Steps.{Playable}
 use Rattle.play.proofs.Replies.{reply-session, reply-answer, reply-playable}
 use Rattle.play.proofs.Records.{recordAt, cutAt, records-step, records-cut}
 use Rattle.tally.specs.declared.Tally.{Tally}

@@ -4,35 +4,16 @@ ghost use Prim.Native.Nat.{_+_, _-_, _%_, _≤_};
 ghost use mathlib.Core.Path.{_≡_};
 ghost use mathlib.Core.List.{[], _∷_, _++_};
 ghost use lib.ListN.{length};
-ghost use Rattle.model.specs.Player.{digit, requestOf, recordsIn, sessionAfter};
+ghost use Rattle.model.specs.Player.{digit, recordsIn, sessionAfter};
 ghost use Rattle.model.specs.Written.{written};
 ghost use Rattle.session.specs.Stored.{view, hold};
-ghost use Rattle.calls.specs.StoredCalls.{sharedRefusal};
-ghost use Rattle.play.specs.Steps.{Playable, replyStored};
+ghost use Rattle.play.specs.Steps.{Playable};
 ghost use Rattle.tally.specs.Tallies.{addedAll};
 ghost use Rattle.depths.specs.Depths.{answersTo};
 ghost use Rattle.depths.specs.Reports.{figures, reportText, longestReport};
-use calls::Reply;
 use session::Session;
 use tally::Report;
 use tally::Tally;
-
-// ---- one record
-
-// What a whole record gives; shared is the refusal of the checks that all calls share.
-fn reply_to(table: &[u8], s: Session, kind: u8, b: u8, word: u32, shared: u8) -> Reply
-    requires { ⌜ shared ≡ sharedRefusal (now table) s ⌝ }
-    ensures { λ r. ⌜ r ≡ replyStored (now (table .entry)) s (requestOf kind b word) ⌝ }
-{
-    match kind {
-        1 => calls::launch(table, s, b, shared),
-        2 => calls::start(table, s, b, word, shared),
-        3 => calls::finish_start(table, s, b, word, shared),
-        4 => calls::back(table, s, shared),
-        5 => calls::look(table, s, shared),
-        _ => calls::refuse(s, 9),
-    }
-}
 
 // ---- records
 
@@ -56,7 +37,7 @@ pub fn tally_records(table: &[u8], from: Session, tally: Tally, input: &[u8]) ->
     let mut p: usize = 0;
     while input.len() - p >= 6 {
         let word = flags::word_at(input, p);
-        let reply = reply_to(table, s, input[p], input[p + 1], word, number);
+        let reply = calls::reply_to(table, s, input[p], input[p + 1], word, number);
         let answer = reply.answer;
         let added = t.add(answer.refusal, answer.height);
         s = reply.session;

@@ -18,7 +18,7 @@ use Rattle.session.specs.Stored.{view, storageBlank, soundStored}
 use Rattle.flags.specs.Words.{wordAt}
 use Rattle.calls.specs.StoredCalls.{refusalStored}
 use Rattle.reasons.specs.StoredReasons.{whyStored}
-use Rattle.play.proofs.Requests.{Kind, launches, starts, finishes, backs, looks, unknown, kind-of, request-2, request-3}
+use Rattle.calls.proofs.Requests.{Kind, launches, starts, finishes, backs, looks, unknown, kind-of, request-2, request-3}
 use Rattle.play.proofs.Records.{records-step, records-cut}
 use Rattle.explained.specs.Explains.{reasonOfBytes}
 

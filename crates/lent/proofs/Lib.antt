@@ -6,3 +6,4 @@ pub mod LendingFacts
 pub mod LendingNumbers
 pub mod LendingTable
 pub mod LendingWalk
+pub mod LendingSlices

@@ -1,9 +1,12 @@
 // The calls for programs in C and Rust. A slice is a pointer and a length there; a session or a tally that a call may change
-// is lent, and the call writes the new one there. Nothing is decided here: each call is the one of `navigator` or of `tally`,
-// by value, and its session or its tally is stored.
+// is lent, and the call writes the new one there. Nothing is decided here: each call is the one of `navigator`, of `recording` or
+// of `tally`, by value, and its session or its tally is stored.
 
 ghost use mathlib.Core.Path.{_≡_};
+ghost use mathlib.Core.Logic.{_↔_};
+ghost use mathlib.Core.Bool.{true, false};
 ghost use lib.ListN.{take};
+ghost use Rattle.model.specs.Table.{tableRefusal};
 ghost use Rattle.model.specs.Calls.{Call};
 ghost use Rattle.calls.specs.StoredCalls.{reply, callStored};
 ghost use Rattle.image_calls.specs.Restores.{AcceptsImages, BringsBack, SavesAgain};
@@ -15,12 +18,16 @@ ghost use Rattle.model.specs.NoHistory.{MarksBy, withoutNoHistory};
 ghost use Rattle.session.specs.Stored.{view};
 ghost use Rattle.reasons.specs.StoredReasons.{whyStored, CarriesOut};
 ghost use Rattle.navigator.specs.Promise3.{KeepsPromise3};
+ghost use Rattle.navigator.specs.Records.{playedStored};
+ghost use Rattle.recording.specs.Steps.{recordLength, callLength, calledStored};
+ghost use Rattle.recording.specs.Replay.{EndAlike, TellsImages};
 ghost use Rattle.tally.specs.Tallies.{added, reported, KnowsTallies, TalliesJoin, ReportsLists};
 ghost use Rattle.tally.specs.Tallied.{RoundsToNearest};
 ghost use Rattle.lent.specs.Abi.{abiNumber};
 use image_calls::SaveReply;
 use model::Answer;
 use model::Reason;
+use recording::Ending;
 use session::Session;
 use tally::Report;
 use tally::Tally;
@@ -144,6 +151,62 @@ pub extern "C" fn milchkompass_save(table: &[u8], s: Session, out: &mut [u8]) ->
 {
     navigator::save(table, s, out)
 }
+
+// ---- recordings
+
+// How many bytes the first record of some bytes takes, as the player reads it: six, or fewer where it is cut.
+#[no_mangle]
+pub extern "C" fn milchkompass_record_length(calls: &[u8]) -> usize
+    ensures { λ r. ⌜ r ≡ recordLength (now (calls .entry)) ⌝ }
+{
+    recording::record_length(calls)
+}
+
+// Plays that record: a record of an unknown kind, or one that is cut, is refused with 9.
+#[no_mangle]
+pub extern "C" fn milchkompass_play(table: &[u8], s: &mut Session, calls: &[u8]) -> Answer
+    ensures answers { λ r. ⌜ r ≡ playedStored (now (table .entry)) (now (s .entry)) (now (calls .entry)) .answer ⌝ }
+    ensures stores { λ _. ⌜ now (s .exit) ≡ playedStored (now (table .entry)) (now (s .entry)) (now (calls .entry)) .session ⌝ }
+    ensures promise { λ _. ⌜ KeepsPromise3 (now (table .entry)) ⌝ }
+{
+    let reply = navigator::play(table, *s, calls);
+    *s = reply.session;
+    reply.answer
+}
+
+// How many bytes the first record of a list of calls takes: the image of a restore is part of it, and a cut one takes all.
+#[no_mangle]
+pub extern "C" fn milchkompass_call_length(calls: &[u8]) -> usize
+    ensures { λ r. ⌜ r ≡ callLength (now (calls .entry)) ⌝ }
+{
+    recording::call_length(calls)
+}
+
+// Makes its call: kind 6 is a restore.
+#[no_mangle]
+pub extern "C" fn milchkompass_play_call(table: &[u8], s: &mut Session, calls: &[u8]) -> Answer
+    ensures answers { λ r. ⌜ r ≡ calledStored (now (table .entry)) (now (s .entry)) (now (calls .entry)) .answer ⌝ }
+    ensures stores { λ _. ⌜ now (s .exit) ≡ calledStored (now (table .entry)) (now (s .entry)) (now (calls .entry)) .session ⌝ }
+    ensures promise { λ _. ⌜ KeepsPromise3 (now (table .entry)) ⌝ }
+{
+    let reply = recording::play_call(table, *s, calls);
+    *s = reply.session;
+    reply.answer
+}
+
+// Do two lists of calls end in sessions that no later list of calls tells apart?
+#[no_mangle]
+pub extern "C" fn milchkompass_same_ending(table: &[u8], first: &[u8], second: &[u8]) -> Ending
+    ensures refusal { λ r. ⌜ r .refusal ≡ tableRefusal (now (table .entry)) ⌝ }
+    ensures images { λ r. ⌜ (tableRefusal (now (table .entry)) ≡ 0 → TellsImages (now (table .entry)) (now (first .entry)) (now (second .entry)) (r .alike)) ⌝ }
+    ensures alike { λ r. ⌜ (tableRefusal (now (table .entry)) ≡ 0 → ((r .alike ≡ true) ↔ EndAlike (now (table .entry)) (now (first .entry)) (now (second .entry)))) ⌝ }
+    ensures refused { λ r. ⌜ ((tableRefusal (now (table .entry)) ≡ 0 → ⊥) → r .alike ≡ false) ⌝ }
+    ensures promise { λ _. ⌜ KeepsPromise3 (now (table .entry)) ⌝ }
+{
+    recording::same_ending(table, first, second)
+}
+
+// ---- tallies
 
 // Adds the answer of a call, by its refusal and its front height, to the tally that is lent: 0, or 31, which leaves it.
 #[no_mangle]

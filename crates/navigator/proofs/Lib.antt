@@ -1,2 +1,3 @@
 pub mod Promise3Laws
 pub mod Promised
+pub mod FirstRecord

@@ -1,1 +1,2 @@
 pub mod Promise3
+pub mod Records

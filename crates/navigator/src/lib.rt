@@ -15,6 +15,7 @@ ghost use Rattle.model.specs.NoHistory.{MarksBy, withoutNoHistory};
 ghost use Rattle.session.specs.Stored.{view};
 ghost use Rattle.reasons.specs.StoredReasons.{whyStored, CarriesOut};
 ghost use Rattle.navigator.specs.Promise3.{KeepsPromise3};
+ghost use Rattle.navigator.specs.Records.{playedStored};
 use calls::Reply;
 use image_calls::SaveReply;
 use model::Reason;
@@ -127,4 +128,23 @@ pub fn save(table: &[u8], s: Session, out: &mut [u8]) -> SaveReply
         return image_calls::refuse_save(number);
     }
     image_calls::save(table, s, out)
+}
+
+// ---- records
+
+// Plays the record at the start of the bytes, as the player reads it: six bytes. An unknown kind, or fewer bytes, is refused with
+// 9.
+pub fn play(table: &[u8], s: Session, calls: &[u8]) -> Reply
+    ensures gives { λ r. ⌜ r ≡ playedStored (now (table .entry)) s (now (calls .entry)) ⌝ }
+    ensures keeps { λ r. ⌜ KeepsSound (now (table .entry)) s (r .session) ⌝ }
+    ensures promise { λ _. ⌜ KeepsPromise3 (now (table .entry)) ⌝ }
+{
+    if calls.len() < 6 {
+        return calls::refuse(s, 9);
+    }
+    let kind = calls[0];
+    let b = calls[1];
+    let word = flags::word_at(calls, 0);
+    let number = shared_refusal(table, s);
+    calls::reply_to(table, s, kind, b, word, number)
 }

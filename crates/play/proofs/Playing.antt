@@ -16,7 +16,8 @@ use Rattle.session.proofs.Known.{Sized}
 use Rattle.session.proofs.StoredLaws.{held}
 use Rattle.calls.specs.declared.Reply.{Reply}
 use Rattle.play.specs.declared.Played.{Played}
-use Rattle.play.specs.Steps.{Playable, replyStored}
+use Rattle.calls.specs.StoredCalls.{replyStored}
+use Rattle.play.specs.Steps.{Playable}
 use Rattle.play.specs.Fitting.{fitting, bytesTaken, Plays}
 use Rattle.play.proofs.Replies.{reply-session, reply-answer, reply-playable}
 

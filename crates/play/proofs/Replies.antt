@@ -21,12 +21,12 @@ use Rattle.session.proofs.StoredLaws.{fresh-held, held, view-hold, hold-sound, 
 use Rattle.starts.specs.declared.Sought.{Sought}
 use Rattle.starts.proofs.Seeking.{sought-inside, sought-planned}
 use Rattle.calls.specs.declared.Reply.{Reply}
-use Rattle.calls.specs.StoredCalls.{reply, sharedRefusal}
+use Rattle.calls.specs.StoredCalls.{reply, sharedRefusal, replyStored}
 use Rattle.calls.proofs.Settling.{shared-bad-table, shared-passed, call-refused}
 use Rattle.calls.proofs.PlanSettling.{Gives, still-gives, look-gives, launch-gives, back-gives, start-gives}
 use Rattle.calls.proofs.HistoryLaws.{storedOutcome, call-held}
-use Rattle.play.specs.Steps.{Playable, replyStored, SoughtFor, PlannedFor, planFor}
-use Rattle.play.proofs.Requests.{Kind, launches, starts, finishes, backs, looks, unknown, kind-of, request-1, request-2, request-3, request-4, request-5}
+use Rattle.play.specs.Steps.{Playable, SoughtFor, PlannedFor, planFor}
+use Rattle.calls.proofs.Requests.{Kind, launches, starts, finishes, backs, looks, unknown, kind-of, request-1, request-2, request-3, request-4, request-5}
 
 -- ---- sessions that can be played on
 

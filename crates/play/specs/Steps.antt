@@ -4,7 +4,6 @@ use mathlib.Core.Path.{_≡_}
 use mathlib.Core.Bool.{Bool, true, false}
 use mathlib.Core.List.{List}
 use Rattle.model.specs.Table.{tableRefusal}
-use Rattle.model.specs.Answers.{refused}
 use Rattle.model.specs.Calls.{launch, start, finishingStart, back, look, restore}
 use Rattle.model.specs.Player.{Request, unplayable, asks}
 use Rattle.session.specs.declared.Session.{Session}
@@ -14,19 +13,12 @@ use Rattle.plans.specs.declared.Plan.{Plan}
 use Rattle.plans.specs.Plans.{stillOf}
 use Rattle.starts.specs.declared.Sought.{Sought}
 use Rattle.starts.specs.Steps.{noneSought, SoughtFrom, Planned, planStored}
-use Rattle.calls.specs.declared.Reply.{Reply}
-use Rattle.calls.specs.StoredCalls.{reply, callStored}
 use Rattle.calls.specs.CallPlans.{launchPlan, backPlan}
 
 -- storage beyond what stands in it holds 0; and under a table that is not refused the session is sound
 pub record Playable (tb : List ℕ) (c : Session) : Type 0 where
   pub blank : storageBlank c ≡ true
   pub sound : tableRefusal tb ≡ 0 → soundStored tb c ≡ true
-
--- what a record gives on a stored session: "Refusal 9 comes before all checks of the call"
-abbrev pub replyStored : List ℕ → Session → Request → Reply
-replyStored tb c unplayable = reply c (refused 9)
-replyStored tb c (asks k) = callStored tb c k
 
 -- ---- its plan
 

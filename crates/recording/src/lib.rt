@@ -15,11 +15,13 @@ ghost use Rattle.model.specs.Balance.{ScreensBalance};
 ghost use Rattle.model.specs.Promises.{Lifelong};
 ghost use Rattle.session.specs.Stored.{view, storageBlank, soundStored, Ready};
 ghost use Rattle.image.specs.Writable.{Writable};
+ghost use Rattle.calls.specs.StoredCalls.{KeepsSound};
 ghost use Rattle.navigator.specs.Promise3.{reached, KeepsPromise3};
 ghost use Rattle.notes.specs.Places.{Tells};
 ghost use Rattle.recording.specs.CallBytes.{imageLength, callOf, callsIn};
 ghost use Rattle.recording.specs.Counts.{replyTo, CreatesFor, Counts, CountsScreens};
 ghost use Rattle.recording.specs.Ignored.{ignoredFrom};
+ghost use Rattle.recording.specs.Steps.{recordLength, callLength, calledStored};
 ghost use Rattle.recording.specs.Replay.{replayed, EveryList, EndAlike, TellsImages};
 use calls::Reply;
 use notes::Notes;
@@ -43,15 +45,57 @@ fn reply_to(table: &[u8], s: Session, kind: u8, b: u8, word: u32, image: &[u8]) 
     requires { ⌜ Ready (now table) s ⌝ }
     ensures { λ r. ⌜ r ≡ replyTo (now (table .entry)) s (callOf kind b word (now (image .entry))) ⌝ }
 {
-    match kind {
-        1 => calls::launch(table, s, b, 0),
-        2 => calls::start(table, s, b, word, 0),
-        3 => calls::finish_start(table, s, b, word, 0),
-        4 => calls::back(table, s, 0),
-        5 => calls::look(table, s, 0),
-        6 => image_calls::restore(table, s, image, 0),
-        _ => calls::refuse(s, 9),
+    if kind == 6 {
+        return image_calls::restore(table, s, image, 0);
     }
+    calls::reply_to(table, s, kind, b, word, 0)
+}
+
+// ---- one call
+
+// How many bytes the first record takes, as the player reads it: six, or fewer where it is cut.
+pub fn record_length(calls: &[u8]) -> usize
+    ensures { λ r. ⌜ r ≡ recordLength (now (calls .entry)) ⌝ }
+{
+    if calls.len() < 6 {
+        return calls.len();
+    }
+    6
+}
+
+// The same in a list of calls: a restore's image is part of its record, and a record that is cut takes all that is left.
+pub fn call_length(calls: &[u8]) -> usize
+    ensures { λ r. ⌜ r ≡ callLength (now (calls .entry)) ⌝ }
+{
+    if calls.len() < 6 {
+        return calls.len();
+    }
+    let n = image_length(calls[0], flags::word_at(calls, 0));
+    if n > calls.len() - 6 {
+        return calls.len();
+    }
+    6 + n
+}
+
+// Makes the call of the first record of a list of calls, on any session: kind 6 is a restore. A record that is cut, or of an
+// unknown kind, is refused with 9.
+pub fn play_call(table: &[u8], s: Session, calls: &[u8]) -> Reply
+    ensures gives { λ r. ⌜ r ≡ calledStored (now (table .entry)) s (now (calls .entry)) ⌝ }
+    ensures keeps { λ r. ⌜ KeepsSound (now (table .entry)) s (r .session) ⌝ }
+    ensures promise { λ _. ⌜ KeepsPromise3 (now (table .entry)) ⌝ }
+{
+    if calls.len() < 6 {
+        return calls::refuse(s, 9);
+    }
+    let n = image_length(calls[0], flags::word_at(calls, 0));
+    if n > calls.len() - 6 {
+        return calls::refuse(s, 9);
+    }
+    let end = 6 + n;
+    if calls[0] == 6 {
+        return navigator::restore(table, s, &calls[6..end]);
+    }
+    navigator::play(table, s, calls)
 }
 
 // How many screens the call of a record creates.

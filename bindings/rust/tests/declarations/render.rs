@@ -20,6 +20,7 @@ fn type_in_c(kind: &str) -> String {
         "u16" => "uint16_t".to_string(),
         "u32" => "uint32_t".to_string(),
         "usize" => "size_t".to_string(),
+        "bool" => "bool".to_string(),
         name => format!("milchkompass_{}", snake(name)),
     }
 }
@@ -50,7 +51,7 @@ pub fn struct_in_rust(declared: &Struct) -> String {
 /// The size and the alignment of a type.
 fn layout(structs: &[Struct], kind: &str) -> (usize, usize) {
     let (size, alignment) = match inner(kind) {
-        "u8" => (1, 1),
+        "u8" | "bool" => (1, 1),
         "u16" => (2, 2),
         "u32" => (4, 4),
         "usize" => (8, 8),

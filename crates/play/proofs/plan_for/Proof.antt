@@ -4,7 +4,7 @@ use borrow.Author.Needs.{needs}
 use Rattle.session.proofs.Known.{sized}
 use Rattle.plans.proofs.Closes.{back-opens}
 use Rattle.play.specs.Steps.{planFor}
-use Rattle.play.proofs.Requests.{request-1, request-2, request-3, request-4, request-5, request-none}
+use Rattle.calls.proofs.Requests.{request-1, request-2, request-3, request-4, request-5, request-none}
 use Rattle.play.proofs.plan_for.Statement.{statement}
 use Rattle.play.proofs.plan_for.Tie as tie
 

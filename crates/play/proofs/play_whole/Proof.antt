@@ -14,10 +14,10 @@ use Rattle.session.specs.Stored.{view, Ready}
 use Rattle.session.proofs.Known.{Sized, sized}
 use Rattle.plans.specs.Puts.{putOf}
 use Rattle.plans.proofs.Rows.{front-put}
-use Rattle.calls.specs.StoredCalls.{reply}
+use Rattle.calls.specs.StoredCalls.{reply, replyStored}
 use Rattle.calls.proofs.PlanSettling.{Gives}
 use Rattle.play.specs.declared.Fields.{Fields}
-use Rattle.play.specs.Steps.{Playable, replyStored}
+use Rattle.play.specs.Steps.{Playable}
 use Rattle.play.proofs.Replies.{playable-ready, sought-in, sought-for, plan-gives}
 use Rattle.play.proofs.Records.{recordAt, wholes, wholes-length, firsts}
 use Rattle.play.proofs.Playing.{Reached, reached-none, reached-more, reached-plays}

@@ -1,8 +1,8 @@
 -- What a whole record gives, by its kind.
 use borrow.Author.Needs.{needs}
-use Rattle.play.proofs.Requests.{request-1, request-2, request-3, request-4, request-5, request-none}
-use Rattle.depths.proofs.reply_to.Statement.{statement}
-use Rattle.depths.proofs.reply_to.Tie as tie
+use Rattle.calls.proofs.Requests.{request-1, request-2, request-3, request-4, request-5, request-none}
+use Rattle.calls.proofs.reply_to.Statement.{statement}
+use Rattle.calls.proofs.reply_to.Tie as tie
 
 returns : tie.Need-returns
 returns c = let a = c .before .before .before .args in rw (request-1 (a .kind) (a .b) (a .word) (c .before .match .keys1)) (c .launch .ensures)

@@ -1,0 +1,28 @@
+//! Why a command ends without having done all.
+
+use std::io;
+
+/// What a command comes to.
+pub type Outcome<T = ()> = Result<T, Failure>;
+
+#[derive(Debug, PartialEq, Eq)]
+pub enum Failure {
+    /// A message for standard error.
+    Said(String),
+    /// Nobody reads standard output any more.
+    Gone,
+}
+
+/// A failure with this message.
+pub fn said<T>(message: impl Into<String>) -> Outcome<T> {
+    Err(Failure::Said(message.into()))
+}
+
+/// What the system says of an error, without its number.
+pub fn reason(error: &io::Error) -> String {
+    let text = error.to_string();
+    match text.split_once(" (os error") {
+        Some((words, _)) => words.to_string(),
+        None => text,
+    }
+}

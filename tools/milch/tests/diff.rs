@@ -1,0 +1,149 @@
+//! `diff`: the pairs of `same`, and others, by hand.
+
+mod common;
+
+use common::{failed, file, in_repository, recording, run, wrote, Ran, TWO};
+
+fn pair(first: &str, second: &str) -> Ran {
+    let data = |name: &str| in_repository(&format!("crates/stored_pairs/data/{name}"));
+    run(&["diff", &data(first), &data(second)])
+}
+
+/// Two recordings under one table.
+fn both(test: &str, first: &[u8], second: &[u8]) -> Ran {
+    let (one, other) = (
+        file(&format!("{test}_1"), first),
+        file(&format!("{test}_2"), second),
+    );
+    let ran = run(&["diff", &one, &other]);
+    let out = ran.out.replace(&one, "FIRST").replace(&other, "SECOND");
+    Ran { out, ..ran }
+}
+
+/// The status, the first line and the last.
+fn verdict(ran: Ran, status: i32, first: &str, last: &str) {
+    assert_eq!((ran.status, ran.said.as_str()), (status, ""));
+    assert_eq!(ran.out.lines().next(), Some(first));
+    assert_eq!(ran.out.lines().last(), Some(last));
+}
+
+const ALIKE: &str = "the endings are alike";
+const APART: &str = "the endings are apart";
+
+/// As `same` has them; that their records differ is another thing.
+#[test]
+fn stored_pairs() {
+    let at = |number: u32| format!("the first difference is at record {number}");
+    verdict(pair("apart_first", "apart_second"), 1, &at(2), APART);
+    verdict(pair("launched_6", "launched_7"), 1, &at(1), APART);
+    verdict(pair("launched_6", "restored_6"), 1, &at(1), ALIKE);
+    verdict(pair("marked", "unmarked"), 1, &at(2), APART);
+    let ran = pair("emptied_6", "refused_editions");
+    assert_eq!((ran.status, ran.out.ends_with("alike\n")), (1, true));
+    let ran = pair("marked", "restored_marked");
+    assert_eq!((ran.status, ran.out.ends_with("alike\n")), (1, true));
+}
+
+#[test]
+fn nothing_differs() {
+    let sample = in_repository("sample.recording");
+    let text = "no record differs, of 8\nthe endings are alike\n";
+    wrote(run(&["diff", &sample, &sample]), text);
+    let bytes = recording(TWO, &[(4, 0, 0)]);
+    let ignored = recording(TWO, &[(4, 9, 9)]);
+    let text = "no record differs, of 1\nthe endings are alike\n";
+    wrote(both("ignored", &bytes, &ignored), text);
+}
+
+#[test]
+fn side_by_side() {
+    let first = recording(TWO, &[(1, 0, 0), (2, 0, 0)]);
+    let second = recording(TWO, &[(1, 0, 0), (2, 1, 0)]);
+    let ran = both("sides", &first, &second);
+    let text = "\
+the first difference is at record 2
+  FIRST
+  RECORD 2: start 0                               | RECORD 2: start 1
+    R10                                           |   R6
+    closed 0                                          closed 0
+    line 2 0 0 0 2 1 1 0 8 0                      |   line 2 0 1 1 1 2 2 0 8 0
+  STACKS: tasks=1 edition=8 mark=none             | STACKS: tasks=2 edition=8 mark=none
+    Task #1: root=0 affinity=1 main=yes screens=2 |   Task #1: root=1 affinity=2 main=no screens=1
+      Hist #1: 0 mode=standard                    |     Hist #0: 1 mode=single-task
+      Hist #0: 0 mode=standard                    |   Task #2: root=0 affinity=1 main=yes screens=1
+                                                  |     Hist #0: 0 mode=standard
+the endings are apart
+";
+    let lines = |text: &str| -> Vec<String> {
+        let heading = |line: &str| !line.starts_with("  FIRST");
+        text.lines().filter(|l| heading(l)).map(squeezed).collect()
+    };
+    assert_eq!(ran.status, 1);
+    assert_eq!(lines(&ran.out), lines(text));
+}
+
+/// A column is as wide as the name of the file, which differs by machine.
+fn squeezed(line: &str) -> String {
+    line.split_whitespace().collect::<Vec<_>>().join(" ")
+}
+
+/// Restores are read as `same` reads them, and marked.
+#[test]
+fn restores() {
+    let image = [0, 1, 0, 0, 3, 1, 1, 8, 0x42];
+    let restored = [&recording(TWO, &[(6, 0, 9)])[..], &image].concat();
+    let launched = recording(TWO, &[(1, 0, 0)]);
+    let ran = both("restores", &launched, &restored);
+    let out: Vec<String> = ran.out.lines().map(squeezed).collect();
+    assert_eq!(ran.status, 1);
+    assert_eq!(
+        out[2],
+        "RECORD 1: launch | RECORD 1: restore of 9 bytes <- kind 6"
+    );
+    assert_eq!(out[out.len() - 2], "SECOND: restores at records 1");
+    assert_eq!(out[out.len() - 1], ALIKE);
+}
+
+#[test]
+fn one_is_longer() {
+    let first = recording(TWO, &[(1, 0, 0)]);
+    let second = recording(TWO, &[(1, 0, 0), (5, 0, 0)]);
+    let ran = both("longer", &first, &second);
+    let out: Vec<String> = ran.out.lines().map(squeezed).collect();
+    assert_eq!(out[0], "the first difference is at record 2");
+    assert_eq!(out[2], "it has ended | RECORD 2: look");
+    assert_eq!((ran.status, out[out.len() - 1].as_str()), (1, ALIKE));
+}
+
+#[test]
+fn what_cannot_be_told() {
+    let two = file("diff_two", TWO);
+    let one = file("diff_one", &[1, 0, 0, 1]);
+    let other = file("diff_other", &[2, 0, 0, 1, 2, 3]);
+    let bad = file("diff_bad", &[2, 2, 0, 1, 2, 2]);
+    let none = file("diff_none", &[]);
+    let screens = "milch: the tables differ in the number of screens\n";
+    failed(run(&["diff", &two, &one]), screens);
+    failed(
+        run(&["diff", &two, &other]),
+        "milch: the tables differ, first in screen 1\n",
+    );
+    failed(
+        run(&["diff", &two, &bad]),
+        "milch: the tables differ in the main screen\n",
+    );
+    let content = "refusal 2: main screen not below N, or a mode above 3";
+    failed(
+        run(&["diff", &bad, &bad]),
+        &format!("milch: {bad}: {content}\n"),
+    );
+    let length = "refusal 1: table length wrong, or N not 1 to 64";
+    failed(
+        run(&["diff", &two, &none]),
+        &format!("milch: {none}: {length}\n"),
+    );
+    failed(
+        run(&["diff", &two, "nothing-here"]),
+        "milch: nothing-here: no such file\n",
+    );
+}
