@@ -225,9 +225,17 @@ pub fn save(table: &[u8], s: &Session, out: &mut [u8]) -> SaveReply {
     unsafe { milchkompass_save(table.as_ptr(), table.len(), *s, bytes, length) }
 }
 
+/// A call that takes bytes behind the session.
+type OnBytes = unsafe extern "C" fn(*const u8, usize, *mut Session, *const u8, usize) -> Answer;
+
+#[inline]
+fn on_bytes(call: OnBytes, table: &[u8], s: &mut Session, bytes: &[u8]) -> Answer {
+    let (rest, length) = (bytes.as_ptr(), bytes.len());
+    unsafe { call(table.as_ptr(), table.len(), s, rest, length) }
+}
+
 pub fn restore(table: &[u8], s: &mut Session, image: &[u8]) -> Answer {
-    let (bytes, length) = (image.as_ptr(), image.len());
-    unsafe { milchkompass_restore(table.as_ptr(), table.len(), s, bytes, length) }
+    on_bytes(milchkompass_restore, table, s, image)
 }
 
 #[inline]
@@ -237,8 +245,7 @@ pub fn record_length(calls: &[u8]) -> usize {
 
 #[inline]
 pub fn play(table: &[u8], s: &mut Session, calls: &[u8]) -> Answer {
-    let (bytes, length) = (calls.as_ptr(), calls.len());
-    unsafe { milchkompass_play(table.as_ptr(), table.len(), s, bytes, length) }
+    on_bytes(milchkompass_play, table, s, calls)
 }
 
 #[inline]
@@ -248,8 +255,7 @@ pub fn call_length(calls: &[u8]) -> usize {
 
 #[inline]
 pub fn play_call(table: &[u8], s: &mut Session, calls: &[u8]) -> Answer {
-    let (bytes, length) = (calls.as_ptr(), calls.len());
-    unsafe { milchkompass_play_call(table.as_ptr(), table.len(), s, bytes, length) }
+    on_bytes(milchkompass_play_call, table, s, calls)
 }
 
 /// The interface is compared here: the table may be any bytes.

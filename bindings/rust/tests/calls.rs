@@ -5,16 +5,9 @@ mod common;
 use std::collections::HashSet;
 use std::thread;
 
+use common::flags::{CTK, CTP, MTK, NOH, NTK, RTF, STP};
 use common::{image, session, table_t};
 use milchkompass::{Answer, Edition, Flags, LaunchMode, Refusal, Screen, Session, Table, Task};
-
-const NTK: Flags = Flags::NEW_TASK;
-const STP: Flags = Flags::SINGLE_TOP;
-const MTK: Flags = Flags::MULTIPLE_TASK;
-const CTP: Flags = Flags::CLEAR_TOP;
-const RTF: Flags = Flags::REORDER_TO_FRONT;
-const CTK: Flags = Flags::CLEAR_TASK;
-const NOH: Flags = Flags::NO_HISTORY;
 
 /// An answer in edition 8, without a mark.
 fn answer(screen: u8, root: u8, height: u8, tasks: u8, main: u8, closed: u8) -> Answer {

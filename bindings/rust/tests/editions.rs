@@ -3,15 +3,10 @@
 
 mod common;
 
+use common::flags::{CTP, NONE, NTK, RTF, STP};
 use common::{image_in, session, table_t};
 use milchkompass::Edition::{self, Android6, Android7, Android8};
 use milchkompass::{Answer, Flags, Found, Refusal, Session, Table};
-
-const NONE: Flags = Flags::NONE;
-const NTK: Flags = Flags::NEW_TASK;
-const STP: Flags = Flags::SINGLE_TOP;
-const CTP: Flags = Flags::CLEAR_TOP;
-const RTF: Flags = Flags::REORDER_TO_FRONT;
 
 type Tasks<'a> = &'a [(u8, &'a [u8])];
 

@@ -5,17 +5,9 @@ mod common;
 
 use std::collections::HashSet;
 
+use common::flags::{CTK, CTP, MTK, NOH, NONE, NTK, RTF, STP};
 use common::{image, image_in, session, table_t};
 use milchkompass::{Answer, Edition, Flags, Refusal, Rule, Session};
-
-const NONE: Flags = Flags::NONE;
-const NTK: Flags = Flags::NEW_TASK;
-const STP: Flags = Flags::SINGLE_TOP;
-const MTK: Flags = Flags::MULTIPLE_TASK;
-const CTP: Flags = Flags::CLEAR_TOP;
-const RTF: Flags = Flags::REORDER_TO_FRONT;
-const CTK: Flags = Flags::CLEAR_TASK;
-const NOH: Flags = Flags::NO_HISTORY;
 
 /// The mark in the m byte of an image.
 const MARK: u8 = 0x80;

@@ -3,16 +3,9 @@
 
 mod common;
 
+use common::flags::{CTK, CTP, MTK, NONE, NTK, RTF, STP};
 use common::{session, table_t};
 use milchkompass::{Flags, Found, FoundBy, Reason, Refusal, Rule, Session};
-
-const NONE: Flags = Flags::NONE;
-const NTK: Flags = Flags::NEW_TASK;
-const STP: Flags = Flags::SINGLE_TOP;
-const MTK: Flags = Flags::MULTIPLE_TASK;
-const CTP: Flags = Flags::CLEAR_TOP;
-const RTF: Flags = Flags::REORDER_TO_FRONT;
-const CTK: Flags = Flags::CLEAR_TASK;
 
 const ROOT: FoundBy = FoundBy::Root;
 const AFFINITY: FoundBy = FoundBy::Affinity;

@@ -4,13 +4,9 @@
 #[allow(dead_code)]
 mod common;
 
+use common::flags::{MTK, NONE, NTK, RTF};
 use common::image_in;
 use milchkompass::{Flags, Found, FoundBy, Reason, Rule, Session, Table};
-
-const NONE: Flags = Flags::NONE;
-const NTK: Flags = Flags::NEW_TASK;
-const MTK: Flags = Flags::MULTIPLE_TASK;
-const RTF: Flags = Flags::REORDER_TO_FRONT;
 
 const ROOT: FoundBy = FoundBy::Root;
 const AFFINITY: FoundBy = FoundBy::Affinity;

@@ -1,5 +1,7 @@
 //! Table T, and sessions from their stacks.
 
+pub mod flags;
+
 use milchkompass::{LaunchMode, Screen, Session, Table};
 
 /// Table T of document 01.
