@@ -30,7 +30,7 @@ extern "C" {
 #endif
 
 /* The number of this interface, which is raised with each change of a struct or of a signature. */
-#define MILCHKOMPASS_ABI 4
+#define MILCHKOMPASS_ABI 5
 
 /* The library's own number. Where it is not MILCHKOMPASS_ABI, header and library do not fit: make no other call. */
 uint32_t milchkompass_abi(void);
@@ -112,11 +112,11 @@ static inline const char *milchkompass_refusal_text(uint8_t refusal) {
     }
 }
 
-/* A task: the screen that created it, how many screens it has, and the screens, bottom first, then zeros. */
+/* A task: its screens, bottom first, then zeros, the screen that created it, and how many screens it has. */
 typedef struct milchkompass_task {
+    uint8_t screens[MILCHKOMPASS_SCREENS];
     uint8_t root;
     uint8_t height;
-    uint8_t screens[MILCHKOMPASS_SCREENS];
 } milchkompass_task;
 
 /* A session: n tasks, front first, then zeros; the place (from 1) of the task made by launch, 0 if it is gone; the

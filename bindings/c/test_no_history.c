@@ -119,7 +119,7 @@ _Static_assert(sizeof marked_told / sizeof *marked_told == sizeof marked / sizeo
 /* 23 and 24 are decided before anything closes. */
 static void full(void) {
     session tasks = {.n = MILCHKOMPASS_TASKS, .main = 1, .edition = E8, .no_history = 1}, screens = notice;
-    for (int i = 0; i < MILCHKOMPASS_TASKS; i++) tasks.tasks[i] = (milchkompass_task){0, 1, {0}};
+    for (int i = 0; i < MILCHKOMPASS_TASKS; i++) tasks.tasks[i] = (milchkompass_task){.height = 1};
     REFUSED(MILCHKOMPASS_TASKS_FULL, tasks, milchkompass_start(T, &s, 0, NTK | MTK));
     screens.tasks[0].height = MILCHKOMPASS_SCREENS;
     REFUSED(MILCHKOMPASS_TASK_FULL, screens, milchkompass_start(T, &s, 1, 0));

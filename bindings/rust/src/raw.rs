@@ -2,7 +2,7 @@
 //! length.
 
 /// The number of the interface that this file declares.
-const ABI: u32 = 4;
+const ABI: u32 = 5;
 
 /// The limits of a session: its tasks, and the screens of a task.
 const TASKS: usize = 16;
@@ -15,9 +15,9 @@ pub const IMAGE_MAX: usize = TASKS * (2 + SCREENS) + 6;
 #[repr(C)]
 #[derive(Clone, Copy, PartialEq, Eq, Hash)]
 pub struct Task {
+    pub screens: [u8; SCREENS],
     pub root: u8,
     pub height: u8,
-    pub screens: [u8; SCREENS],
 }
 
 /// A session: n tasks, front first, the main place, the edition, and the
@@ -36,9 +36,9 @@ impl Session {
     /// No task, edition 8, and no mark.
     pub const FRESH: Session = Session {
         tasks: [Task {
+            screens: [0; SCREENS],
             root: 0,
             height: 0,
-            screens: [0; SCREENS],
         }; TASKS],
         n: 0,
         main: 0,

@@ -66,13 +66,13 @@ fn lowered(t: Task, h: u8) -> Task
     requires { ⌜ (blankAbove t ≡ true) × (h ≤ t .height) ⌝ }
     ensures { λ r. ⌜ r ≡ lowest h t ⌝ }
 {
-    let mut i = t.height;
     let mut out = t;
     out.height = h;
-    while i > h {
-        i -= 1;
-        let top = i as usize;
-        out.screens[top] = 0;
+    let mut i: u8 = 0;
+    while i < Session::HEIGHT {
+        let k = i as usize;
+        out.screens[k] = session::pick(i < h, out.screens[k], 0);
+        i += 1;
     }
     out
 }
@@ -89,9 +89,7 @@ pub fn closed_up(t: Task, m: u8, k: u8, b: u8) -> Task
         out.screens[i] = out.screens[i + 1];
         j += 1;
     }
-    let last = (m + k) as usize;
-    out.screens[last] = b;
-    out
+    out.with_screen(m + k, b)
 }
 
 // The place of the topmost b, which clear and lift rely on; 0 where there is none, and for any other change.

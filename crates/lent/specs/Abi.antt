@@ -3,4 +3,4 @@
 use Prim.Native.Nat.{ℕ}
 
 abbrev pub abiNumber : ℕ
-abiNumber = 4
+abiNumber = 5

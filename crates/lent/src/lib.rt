@@ -33,7 +33,7 @@ use tally::Report;
 use tally::Tally;
 
 // The number of this interface; bindings/abi has its structs and signatures.
-const ABI: u32 = 4;
+const ABI: u32 = 5;
 
 // The library's own number, for callers who compare it with that of their header.
 #[no_mangle]

@@ -1,23 +1,21 @@
 -- A task of the row that pops, and one that goes: what the code leaves of any row, by the tests that it makes.
 use Prim.Native.Nat.{ℕ, zero, suc, _+_, _-_, _≤_, _<_}
 use mathlib.Core.Path.{_≡_, refl, sym, _∙_, ap}
-use mathlib.Core.Bool.{Bool, true, false, not, _&&_}
+use mathlib.Core.Bool.{Bool, true, false}
 use mathlib.Core.List.{List, [], _∷_, _++_}
 use native.Mathlib.Omega.{arith}
-use lib.Dec.{eqb, leb, ltb}
+use lib.Dec.{ltb}
 use lib.ListN.{length, getD, set, take, drop, drop-of-length-le, length-set}
 use lib.Seq.{take-all}
-use borrow.Author.Tests.{eqb-true, leb-true, not-true, lt-ltb, le-ltb}
+use borrow.Author.Tests.{lt-ltb, le-ltb}
 use Rattle.model.specs.Lists.{omit}
-use Rattle.model.proofs.Logic.{and-left, and-right}
 use Rattle.model.specs.Session.{mostTasks}
 use Rattle.session.specs.declared.Session.{Session}
 use Rattle.session.specs.declared.Task.{Task}
-use Rattle.session.specs.Stored.{noTask, blankTask, withTasks, withCount, withMain, withEdition, withNoHistory, popped}
+use Rattle.session.specs.Stored.{noTask, blankTask, withTasks, popped}
 use Rattle.effects.specs.Rows.{shifted, closedUp}
 use Rattle.closing.proofs.Gaps.{closingIn, closes-begin, closes-end}
-use Rattle.plans.specs.declared.Plan.{Plan}
-use Rattle.plans.specs.Puts.{poppedIf, goneIf, putOf, frontAlone}
+use Rattle.plans.specs.Puts.{poppedIf, goneIf}
 
 -- all behind the one that goes come nearer
 closed-all : {A : Type 0} (m k : ℕ) (x : A) (xs : List A) → m + suc k ≡ length xs → closedUp m k x xs ≡ omit m xs ++ x ∷ []
@@ -61,19 +59,3 @@ shifted-length t (suc k) (x ∷ xs) h = ap suc (shifted-length x k xs (omega ari
 pub popped-length : (b : Bool) (t : Task) (k : ℕ) (ts : List Task) → k < length ts → length (poppedIf b (shifted t k ts)) ≡ length ts
 popped-length true t k ts h = length-set (shifted t k ts) 1 _ ∙ shifted-length t k ts h
 popped-length false t k ts h = shifted-length t k ts h
-
--- ---- a plan that changes the front task alone
-
-pub front-put : (s : Session) → length (s .tasks) ≡ mostTasks → (p : Plan) → frontAlone p ≡ true
-    → withTasks (withNoHistory (withEdition (withMain (withCount s (p .n)) (p .main)) (p .edition)) (p .«no_history»)) (set (s .tasks) 0 (p .front)) ≡ putOf s p
-front-put s z p e =
-    let tests = and-left (eqb (p .shift) 0 && leb mostTasks (p .gone)) (not (p .pops)) e in
-    let shift = eqb-true (p .shift) 0 (and-left (eqb (p .shift) 0) (leb mostTasks (p .gone)) tests) in
-    let gone = leb-true mostTasks (p .gone) (and-right (eqb (p .shift) 0) (leb mostTasks (p .gone)) tests) in
-    let pops = not-true (p .pops) (and-right (eqb (p .shift) 0 && leb mostTasks (p .gone)) (not (p .pops)) e) in
-    rw (shift, le-ltb (p .gone) mostTasks gone, pops)
-    (ap (withTasks (withNoHistory (withEdition (withMain (withCount s (p .n)) (p .main)) (p .edition)) (p .«no_history»))) (set-first (s .tasks) (omega arith)))
-  where
-    set-first : (ts : List Task) → 1 ≤ length ts → set ts 0 (p .front) ≡ shifted (p .front) 0 ts
-    set-first [] l = absurd (omega arith)
-    set-first (t ∷ ts) l = refl

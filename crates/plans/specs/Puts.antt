@@ -1,9 +1,9 @@
 -- What a plan puts into a session, row by row.
 use Prim.Native.Nat.{ℕ, _≤_, _<_}
 use mathlib.Core.Path.{_≡_}
-use mathlib.Core.Bool.{Bool, true, false, not, _&&_}
+use mathlib.Core.Bool.{Bool, true, false}
 use mathlib.Core.List.{List, [], _∷_, _++_}
-use lib.Dec.{eqb, leb, ltb}
+use lib.Dec.{ltb}
 use lib.ListN.{getD, set}
 use Rattle.model.specs.Lists.{omit}
 use Rattle.model.specs.Session.{mostTasks, mostHeight}
@@ -30,10 +30,6 @@ rowOf p ts = goneIf (ltb (p .gone) mostTasks) (p .gone) (poppedIf (p .pops) (shi
 abbrev pub putOf : Session → Plan → Session
 putOf s p =
     withNoHistory (withEdition (withMain (withCount (withTasks s (rowOf p (s .tasks))) (p .n)) (p .main)) (p .edition)) (p .«no_history»)
-
--- no task goes back, pops or goes
-abbrev pub frontAlone : Plan → Bool
-frontAlone p = (eqb (p .shift) 0 && leb mostTasks (p .gone)) && not (p .pops)
 
 -- ---- what putting relies on
 

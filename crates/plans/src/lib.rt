@@ -6,7 +6,7 @@ ghost use lib.Dec.{leb};
 ghost use Rattle.model.specs.Session.{mostHeight, editionKept};
 ghost use Rattle.model.specs.Marks.{closedAt};
 ghost use Rattle.session.specs.Stored.{withTasks};
-ghost use Rattle.plans.specs.Puts.{Puttable, rowOf, frontAlone};
+ghost use Rattle.plans.specs.Puts.{Puttable, rowOf};
 ghost use Rattle.plans.specs.Plans.{stillOf, closesWith, goneBy, frontBy, popsBy, countBy, mainBy, Opens};
 ghost use Rattle.plans.specs.Shown.{answerFor, Showable};
 use model::Answer;
@@ -31,13 +31,14 @@ pub struct Plan {
 }
 
 // What stands for no task among the indices of tasks, and the last of these.
-const NO_TASK: u8 = Session::TASKS as u8;
+pub const NO_TASK: u8 = Session::TASKS as u8;
 
-const LAST: usize = Session::TASKS - 1;
+pub const LAST: usize = Session::TASKS - 1;
 
 // ---- put
 
-// The tasks; the numbers are the caller's to store. One function, so that the compiler keeps one session.
+// The tasks; the numbers are the caller's to store. One function, so that the compiler keeps one session. `play::run` has these
+// statements too, on a session of its own.
 pub fn put(s: Session, plan: Plan) -> Session
     requires { ⌜ Puttable s plan ⌝ }
     ensures { λ r. ⌜ r ≡ withTasks s (rowOf plan (s .tasks)) ⌝ }
@@ -63,20 +64,13 @@ pub fn put(s: Session, plan: Plan) -> Session
     }
     if plan.gone < NO_TASK {
         let blank = Task {
+            screens: [0; Session::SCREENS],
             root: 0,
             height: 0,
-            screens: [0; Session::SCREENS],
         };
         out.tasks[LAST] = blank;
     }
     out
-}
-
-// The plan changes no task but the front one.
-pub fn front_alone(plan: Plan) -> bool
-    ensures { λ r. ⌜ r ≡ frontAlone plan ⌝ }
-{
-    (plan.shift == 0) & (plan.gone >= NO_TASK) & !plan.pops
 }
 
 // ---- the answer

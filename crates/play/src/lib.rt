@@ -1,35 +1,54 @@
 // Calls as records of six bytes, played from a session into lines of text.
 // The table is checked once and the session not at all: each record leaves it sound.
 
-ghost use Prim.Native.Nat.{_+_, _*_, _≤_};
+ghost use Prim.Native.Nat.{_+_, _*_, _/_, _<_, _≤_, min};
 ghost use mathlib.Core.Path.{_≡_};
+ghost use mathlib.Core.Bool.{true};
 ghost use lib.ListN.{length, take};
+ghost use Rattle.model.specs.declared.Rule.{Rule};
 ghost use Rattle.model.specs.Player.{isStart, requestOf, recordsIn, textOf, sessionAfter, longestLine};
+ghost use Rattle.model.specs.Explained.{longestExplained};
 ghost use Rattle.model.specs.Written.{written as writtenInto};
 ghost use Rattle.session.specs.Stored.{view, hold, Ready};
+ghost use Rattle.starts.specs.Steps.{ruleStored};
+ghost use Rattle.reasons.specs.StoredReasons.{reasonMade};
 ghost use Rattle.play.specs.Steps.{Playable, SoughtFor, PlannedFor, planFor};
-ghost use Rattle.play.specs.Fitting.{fitting, bytesTaken, fieldsAt, Plays};
+ghost use Rattle.play.specs.Fitting.{fitting, bytesTaken, fieldsAt};
+ghost use Rattle.play.specs.Manners.{inWords, recordSaid, said, longestSaid, talliedIn, Runs};
+use model::Answer;
+use model::Rule;
 use plans::Plan;
 use session::Session;
 use session::Task;
+use starts::Decided;
 use starts::Sought;
+use tally::Tally;
 
-// The fields of a record.
+// The fields of a record, and the kind of call that it asks for: 0, which is none, where it is cut.
 struct Fields {
     kind: u8,
+    asked: u8,
     screen: u8,
     word: u32,
 }
 
-// Those of the record behind i others.
-fn fields_at(input: &[u8], i: usize) -> Fields
-    requires { ⌜ 6 * i + 6 ≤ length (now input) ⌝ }
-    ensures { λ r. ⌜ r ≡ fieldsAt (now (input .entry)) (6 * i) ⌝ }
+// Those of the record at a place, where the input ends behind it.
+fn fields_at(input: &[u8], p: usize) -> Fields
+    requires { ⌜ p < length (now input) ⌝ }
+    ensures { λ r. ⌜ r ≡ fieldsAt (now (input .entry)) p ⌝ }
 {
-    let p = 6 * i;
+    if input.len() - p < 6 {
+        return Fields {
+            kind: input[p],
+            asked: 0,
+            screen: 0,
+            word: 0,
+        };
+    }
     let word = flags::word_at(input, p);
     Fields {
         kind: input[p],
+        asked: input[p],
         screen: input[p + 1],
         word: word,
     }
@@ -40,77 +59,237 @@ fn fields_at(input: &[u8], i: usize) -> Fields
 // What a record seeks, under a table with the refusal `number`: only a start seeks a task.
 fn seek_for(table: &[u8], s: Session, r: Fields, number: u8) -> Sought
     requires { ⌜ (number ≡ 0 → Ready (now table) s) ⌝ }
-    ensures { λ x. ⌜ SoughtFor (isStart (r .kind)) (now (table .entry)) s (r .screen) (r .word) number x ⌝ }
+    ensures { λ x. ⌜ SoughtFor (isStart (r .asked)) (now (table .entry)) s (r .screen) (r .word) number x ⌝ }
 {
-    if (r.kind == 2) | (r.kind == 3) {
+    if (r.asked == 2) | (r.asked == 3) {
         return starts::seek(table, s, r.screen, r.word, number);
     }
     starts::none_sought(number)
 }
 
-// Its plan; t is the task at the index that was sought.
-fn plan_for(table: &[u8], s: Session, t: Task, sought: Sought, r: Fields) -> Plan
-    requires { ⌜ PlannedFor (isStart (r .kind)) (now table) s (r .screen) (r .word) t sought ⌝ }
-    ensures { λ p. ⌜ p ≡ planFor (sought .number) (now (table .entry)) s (requestOf (r .kind) (r .screen) (r .word)) ⌝ }
+// A plan that no rule made: R18 stands for none, as where a start is refused.
+fn without_rule(plan: Plan) -> Decided
+    ensures { λ d. ⌜ (d .plan ≡ plan) × (d .rule ≡ Rule.R18) ⌝ }
 {
-    let kind = r.kind;
+    Decided {
+        plan: plan,
+        rule: Rule::R18,
+    }
+}
+
+// What is decided of it; t is the task at the index that was sought.
+fn decide_for(table: &[u8], s: Session, t: Task, sought: Sought, r: Fields) -> Decided
+    requires { ⌜ PlannedFor (isStart (r .asked)) (now table) s (r .screen) (r .word) t sought ⌝ }
+    ensures plan { λ d. ⌜ d .plan ≡ planFor (sought .number) (now (table .entry)) s (requestOf (r .asked) (r .screen) (r .word)) ⌝ }
+    ensures rule { λ d. ⌜ (isStart (r .asked) ≡ true → d .rule ≡ ruleStored (sought .number) (now (table .entry)) s (r .screen) (r .word)) ⌝ }
+{
+    if (r.asked == 2) | (r.asked == 3) {
+        return starts::decide(table, s, t, sought, r.screen, r.word, r.asked == 3);
+    }
+    let kind = r.asked;
     match kind {
-        1 => calls::launch_plan(table, s, r.screen, sought.number),
-        2 => starts::plan(table, s, t, sought, r.screen, r.word, false),
-        3 => starts::plan(table, s, t, sought, r.screen, r.word, true),
-        4 => calls::back_plan(s, sought.number),
-        5 => plans::still(s, sought.number),
-        _ => plans::still(s, 9),
+        1 => without_rule(calls::launch_plan(table, s, r.screen, sought.number)),
+        4 => without_rule(calls::back_plan(s, sought.number)),
+        5 => without_rule(plans::still(s, sought.number)),
+        _ => without_rule(plans::still(s, 9)),
     }
 }
 
 // ---- records
 
-// What a run of records gives: the session after them, the bytes of input that they took, the bytes of text.
-pub struct Played {
+// What is said of each record: nothing, and its answer is tallied; the player's line; the reason too, under that of a start; or that
+// with its sentence.
+pub enum Manner {
+    Heights,
+    Lines,
+    Reasons,
+    Sentences,
+}
+
+// The reasons are told in words too.
+fn in_words(manner: Manner) -> bool
+    ensures { λ r. ⌜ r ≡ inWords manner ⌝ }
+{
+    match manner {
+        Manner::Heights => false,
+        Manner::Lines => false,
+        Manner::Reasons => false,
+        Manner::Sentences => true,
+    }
+}
+
+// The place behind the text that was said, and the tally.
+struct Spoken {
+    at: usize,
+    tally: Tally,
+}
+
+// Writes the line of a record, and the reason of a start under it.
+fn write_record(
+    out: &mut [u8],
+    at: usize,
+    kind: u8,
+    answer: Answer,
+    decided: Decided,
+    sought: Sought,
+    words: bool,
+) -> usize
+    requires { ⌜ at + longestExplained ≤ length (now out) ⌝ }
+    ensures place { λ p. ⌜ p ≡ at + length (recordSaid words kind answer (reasonMade decided sought)) ⌝ }
+    ensures text { λ p. ⌜ now (out .exit) ≡ writtenInto (now (out .entry)) at (recordSaid words kind answer (reasonMade decided sought)) ⌝ }
+    ensures bound { λ p. ⌜ p ≤ at + longestExplained ⌝ }
+{
+    let end = line::write_line(out, at, kind, answer);
+    if (kind == 2) | (kind == 3) {
+        return under::write_reason(out, end, reasons::of(decided, sought), words);
+    }
+    end
+}
+
+// Says a record in this manner.
+fn speak(
+    out: &mut [u8],
+    at: usize,
+    tally: Tally,
+    manner: Manner,
+    kind: u8,
+    answer: Answer,
+    decided: Decided,
+    sought: Sought,
+) -> Spoken
+    requires { ⌜ at + longestSaid manner ≤ length (now out) ⌝ }
+    ensures place { λ r. ⌜ r .at ≡ at + length (said manner kind answer (reasonMade decided sought)) ⌝ }
+    ensures text { λ r. ⌜ now (out .exit) ≡ writtenInto (now (out .entry)) at (said manner kind answer (reasonMade decided sought)) ⌝ }
+    ensures bound { λ r. ⌜ r .at ≤ at + longestSaid manner ⌝ }
+    ensures tally { λ r. ⌜ r .tally ≡ talliedIn manner tally answer ⌝ }
+{
+    match manner {
+        Manner::Heights => {
+            let added = tally.add(answer.refusal, answer.height);
+            let t = added.tally;
+            Spoken { at: at, tally: t }
+        }
+        Manner::Lines => {
+            let end = line::write_line(out, at, kind, answer);
+            Spoken {
+                at: end,
+                tally: tally,
+            }
+        }
+        Manner::Reasons | Manner::Sentences => {
+            let end = write_record(out, at, kind, answer, decided, sought, in_words(manner));
+            Spoken {
+                at: end,
+                tally: tally,
+            }
+        }
+    }
+}
+
+// What a run of records gives: the session after them, the tally with their answers, the bytes of text.
+pub struct Ran {
     pub session: Session,
-    pub used: usize,
+    pub tally: Tally,
     pub written: usize,
 }
 
-// Plays the first `count` records, each of them whole. A plan that changes the front task alone is put where the session
-// stands, since to pass a session to `put` and back is to copy it twice.
-fn play_whole(table: &[u8], from: Session, input: &[u8], count: usize, out: &mut [u8]) -> Played
+// The place behind the record at a place: six bytes on, or where the input ends.
+fn next_place(input: &[u8], p: usize) -> usize
+    requires { ⌜ p < length (now input) ⌝ }
+    ensures { λ r. ⌜ r ≡ min (length (now (input .entry))) (p + 6) ⌝ }
+{
+    if input.len() - p <= 6 {
+        return input.len();
+    }
+    p + 6
+}
+
+// Plays the records in the input from a session, and says them at the start of `out`. A last record of fewer than six bytes is cut.
+// Each plan is put where the session stands: to pass the session to `plans::put` and back is to copy it twice.
+pub fn run(
+    table: &[u8],
+    from: Session,
+    tally: Tally,
+    input: &[u8],
+    manner: Manner,
+    out: &mut [u8],
+) -> Ran
     requires { ⌜ Playable (now table) from ⌝ }
-    requires { ⌜ (6 * count ≤ length (now input)) × (longestLine * count ≤ length (now out)) ⌝ }
-    ensures { λ r. ⌜ Plays (now (table .entry)) from (take count (recordsIn (now (input .entry)))) (now (out .entry)) (now (out .exit)) r ⌝ }
-    ensures { λ r. ⌜ r .used ≡ 6 * count ⌝ }
+    requires { ⌜ longestSaid manner * length (recordsIn (now input)) ≤ length (now out) ⌝ }
+    ensures { λ r. ⌜ Runs manner (now (table .entry)) from tally (recordsIn (now (input .entry))) (now (out .entry)) (now (out .exit)) r ⌝ }
 {
     let number = table::refusal(table);
     let mut s = from;
+    let mut told = tally;
     let mut at: usize = 0;
-    let mut i: usize = 0;
-    while i < count {
-        let r = fields_at(input, i);
-        i += 1;
+    let mut p: usize = 0;
+    while p < input.len() {
+        let r = fields_at(input, p);
+        p = next_place(input, p);
         let sought = seek_for(table, s, r, number);
         let k = sought.index;
         let t = s.tasks[k];
-        let plan = plan_for(table, s, t, sought, r);
+        let decided = decide_for(table, s, t, sought, r);
+        let plan = decided.plan;
         let second = s.tasks[1];
         let answer = plans::answer_of(plan, second);
         s.n = plan.n;
         s.main = plan.main;
         s.edition = plan.edition;
         s.no_history = plan.no_history;
-        if plans::front_alone(plan) {
-            let front = plan.front;
-            s.tasks[0] = front;
-        } else {
-            s = plans::put(s, plan);
+        let front = plan.front;
+        let mut j = plan.shift as usize;
+        while j > 0 {
+            let x = s.tasks[j - 1];
+            s.tasks[j] = x;
+            j -= 1;
         }
-        at = line::write_line(out, at, r.kind, answer);
+        s.tasks[0] = front;
+        if plan.pops {
+            let x = s.tasks[1];
+            s.tasks[1] = x.pop();
+        }
+        let mut g = plan.gone as usize;
+        while g < plans::LAST {
+            let x = s.tasks[g + 1];
+            s.tasks[g] = x;
+            g += 1;
+        }
+        if plan.gone < plans::NO_TASK {
+            let blank = Task {
+                screens: [0; Session::SCREENS],
+                root: 0,
+                height: 0,
+            };
+            s.tasks[plans::LAST] = blank;
+        }
+        let spoken = speak(out, at, told, manner, r.kind, answer, decided, sought);
+        at = spoken.at;
+        told = spoken.tally;
     }
-    Played {
+    Ran {
         session: s,
-        used: 6 * count,
+        tally: told,
         written: at,
     }
+}
+
+// What the player gives: the session after some records, the bytes of input that they took, the bytes of text.
+pub struct Played {
+    pub session: Session,
+    pub used: usize,
+    pub written: usize,
+}
+
+// How many bytes of so long an input hold the records for whose lines so long a buffer has room.
+fn part_for(input: usize, out: usize) -> usize
+    ensures { λ r. ⌜ r ≡ min input (6 * (out / longestLine)) ⌝ }
+{
+    let room = out / line::LONGEST;
+    if room <= input / 6 {
+        return 6 * room;
+    }
+    input
 }
 
 // Plays the records in the input from a session, one line of text each at the start of `out`. A last record of fewer
@@ -124,22 +303,19 @@ pub fn play(table: &[u8], from: Session, input: &[u8], out: &mut [u8]) -> Played
     ensures keeps { λ r. ⌜ Playable (now (table .entry)) (r .session) ⌝ }
     ensures bound { λ r. ⌜ r .written ≤ length (now (out .entry)) ⌝ }
 {
-    let room = out.len() / line::LONGEST;
-    let whole = input.len() / 6;
-    if room <= whole {
-        return play_whole(table, from, input, room, out);
-    }
-    let done = play_whole(table, from, input, whole, out);
-    let rest = 6 * whole;
-    if rest == input.len() {
-        return done;
-    }
-    let kind = input[rest];
-    let written = line::write_line(out, done.written, kind, answer::refused(9));
-    let s = done.session;
+    let part = part_for(input.len(), out.len());
+    let ran = run(
+        table,
+        from,
+        Tally::none(),
+        &input[..part],
+        Manner::Lines,
+        out,
+    );
+    let s = ran.session;
     Played {
         session: s,
-        used: input.len(),
-        written: written,
+        used: part,
+        written: ran.written,
     }
 }

@@ -15,6 +15,8 @@ ghost use Rattle.model.specs.Rules.{numberOf, isR7, groupOf, soughtBy, choose a
 ghost use Rattle.model.specs.Effects.{reordered as reorderedBy, effectOf};
 ghost use Rattle.model.specs.Calls.{effectIn, isPush, roomChecks};
 ghost use Rattle.session.specs.Stored.{view, viewTask};
+ghost use Rattle.search.specs.Numbers.{foundOf};
+ghost use Rattle.rules.specs.Seeks.{isInstance, seeksIn};
 ghost use Rattle.rules.specs.Startable.{Startable};
 ghost use Rattle.rules.specs.Shows.{indexOf, Shows, Filled};
 ghost use Rattle.rules.specs.Groups.{ruleOf};
@@ -184,22 +186,52 @@ pub fn group_of(table: &[u8], a: u8, b: u8, f: Flags) -> Group
     }
 }
 
+// The group of single-instance screens.
+fn is_instance(group: Group) -> bool
+    ensures { λ r. ⌜ r ≡ isInstance group ⌝ }
+{
+    match group {
+        Group::Instance => true,
+        Group::Task => false,
+        Group::NotApart => false,
+        Group::Apart => false,
+    }
+}
+
+// The group seeks a task.
+fn seeks(group: Group, mtk: bool) -> bool
+    ensures { λ r. ⌜ r ≡ seeksIn group mtk ⌝ }
+{
+    match group {
+        Group::Instance => true,
+        Group::Task => true,
+        Group::NotApart => false,
+        Group::Apart => !mtk,
+    }
+}
+
+// What a number of `search::seek` stands for.
+fn found_of(number: u8) -> Found
+    ensures { λ r. ⌜ r ≡ foundOf number ⌝ }
+{
+    if number == 0 {
+        return Found::Nowhere;
+    }
+    if number <= search::BY_AFFINITY {
+        return Found::ByRoot(number);
+    }
+    Found::ByAffinity(number - search::BY_AFFINITY)
+}
+
 // The task that a group of rules seeks: where the start is apart, none if MTK asks for a new one.
 pub fn sought_by(table: &[u8], s: Session, b: u8, f: Flags, group: Group) -> Found
     requires { ⌜ Startable (now table) s b ⌝ }
     ensures { λ r. ⌜ r ≡ soughtBy (now (table .entry)) (view s) b f group ⌝ }
 {
-    match group {
-        Group::Instance => search::seek_root(s, b),
-        Group::Task => search::seek(table, s, b),
-        Group::NotApart => Found::Nowhere,
-        Group::Apart => {
-            if f.mtk {
-                return Found::Nowhere;
-            }
-            search::seek(table, s, b)
-        }
+    if !seeks(group, f.mtk) {
+        return Found::Nowhere;
     }
+    found_of(search::seek(table, s, b, is_instance(group)))
 }
 
 // R1 and R2: b is single-instance.

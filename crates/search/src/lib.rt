@@ -2,15 +2,16 @@
 
 ghost use Prim.Native.Nat.{_+_, _*_, _<_, _≤_};
 ghost use mathlib.Core.Path.{_≡_};
+ghost use mathlib.Core.Bool.{_||_};
 ghost use lib.Dec.{eqb};
 ghost use lib.ListN.{length, take};
 ghost use Rattle.model.specs.Session.{mostTasks, mostHeight};
 ghost use Rattle.model.specs.Lists.{if_then_else_, find};
-ghost use Rattle.model.specs.Search.{akin, seekRoot, seeksByRoot, seek as seekTask};
+ghost use Rattle.model.specs.Search.{akin, seeksByRoot};
 ghost use Rattle.session.specs.Stored.{view, viewTask, rootsOf};
+ghost use Rattle.search.specs.Numbers.{foundOf, soughtIn};
 ghost use Rattle.search.specs.Ready.{ReadyFor};
 ghost use Rattle.search.specs.Roots.{RootsFor};
-use model::Found;
 use session::Session;
 use session::Task;
 
@@ -69,18 +70,6 @@ pub fn by_affinity(table: &[u8], roots: [u8; Session::TASKS], n: u8, b: u8) -> u
     }
 }
 
-// The task sought by root alone.
-pub fn seek_root(s: Session, b: u8) -> Found
-    requires { ⌜ s .n ≤ mostTasks ⌝ }
-    ensures { λ r. ⌜ r ≡ seekRoot b (view s .tasks) ⌝ }
-{
-    let place = by_root(roots_of(s), s.n, b);
-    if place == 0 {
-        return Found::Nowhere;
-    }
-    Found::ByRoot(place)
-}
-
 // Whether an edition seeks a task for b by root. Edition 6 seeks by affinity only, but for a single-instance screen and for a
 // single-task screen of affinity 0.
 fn seeks_by_root(table: &[u8], edition: u8, b: u8) -> bool
@@ -94,32 +83,43 @@ fn seeks_by_root(table: &[u8], edition: u8, b: u8) -> bool
     (mode == 3) | ((mode == 2) & (table::affinity(table, b) == 0))
 }
 
-// By root, where the edition seeks so: the place of the first of n roots that is b, or 0.
-fn by_root_in(table: &[u8], edition: u8, roots: [u8; Session::TASKS], n: u8, b: u8) -> u8
+// By root, where it is sought by root alone or the edition seeks so: the place of the first of n roots that is b, or 0.
+fn by_root_in(
+    table: &[u8],
+    edition: u8,
+    roots: [u8; Session::TASKS],
+    n: u8,
+    b: u8,
+    alone: bool,
+) -> u8
     requires { ⌜ RootsFor (now table) roots n b ⌝ }
-    ensures { λ r. ⌜ r ≡ (if seeksByRoot (now (table .entry)) edition b then find (λ x. eqb x b) (take n roots) else 0) ⌝ }
+    ensures { λ r. ⌜ r ≡ (if alone || seeksByRoot (now (table .entry)) edition b then find (λ x. eqb x b) (take n roots) else 0) ⌝ }
 {
-    if seeks_by_root(table, edition, b) {
+    if alone | seeks_by_root(table, edition, b) {
         return by_root(roots, n, b);
     }
     0
 }
 
-// The task sought by root, where the edition seeks so, then by affinity.
-pub fn seek(table: &[u8], s: Session, b: u8) -> Found
+// What is added to the place of a task that was found by affinity.
+pub const BY_AFFINITY: u8 = Session::TASKS as u8;
+
+// The task sought by root, where the edition seeks so, then, unless it is sought by root alone, by affinity: its place, with
+// BY_AFFINITY more where it was found so, or 0. A number, since an enum comes back through memory.
+pub fn seek(table: &[u8], s: Session, b: u8, alone: bool) -> u8
     requires { ⌜ ReadyFor (now table) s b ⌝ }
-    ensures { λ r. ⌜ r ≡ seekTask (now (table .entry)) (s .edition) b (view s .tasks) ⌝ }
+    ensures { λ r. ⌜ foundOf r ≡ soughtIn alone (now (table .entry)) (s .edition) b (view s .tasks) ⌝ }
 {
     let roots = roots_of(s);
-    let root = by_root_in(table, s.edition, roots, s.n, b);
-    if root != 0 {
-        return Found::ByRoot(root);
+    let root = by_root_in(table, s.edition, roots, s.n, b, alone);
+    if (root != 0) | alone {
+        return root;
     }
     let kin = by_affinity(table, roots, s.n, b);
     if kin == 0 {
-        return Found::Nowhere;
+        return 0;
     }
-    Found::ByAffinity(kin)
+    BY_AFFINITY + kin
 }
 
 // The place, from the top, of the topmost b in a task, or 0.

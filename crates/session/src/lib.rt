@@ -3,14 +3,16 @@
 ghost use Prim.Native.Nat.{_<_, _≤_};
 ghost use mathlib.Core.Path.{_≡_};
 ghost use Rattle.model.specs.Session.{top as topOf, mostHeight, isEdition};
-ghost use Rattle.session.specs.Stored.{freshSession, viewTask, pushed, popped};
+ghost use lib.ListN.{set};
+ghost use Rattle.model.specs.Lists.{if_then_else_};
+ghost use Rattle.session.specs.Stored.{freshSession, viewTask, withScreens, pushed, popped};
 
 // A task: the screen that created it, and its screens, bottom first.
 #[repr(C)]
 pub struct Task {
+    pub screens: [u8; Session::SCREENS],
     pub root: u8,
     pub height: u8,
-    pub screens: [u8; Session::SCREENS],
 }
 
 // A session: n tasks, front first, the main place, the edition (6, 7 or 8, and 8 where no task stands), and the No-History mark: 1
@@ -29,6 +31,9 @@ impl Session {
     pub const TASKS: usize = 16;
 
     pub const SCREENS: usize = 32;
+
+    // The second limit, to compare a height with.
+    pub const HEIGHT: u8 = Session::SCREENS as u8;
 
     // A session in which no task stands.
     pub fn fresh() -> Session
@@ -66,14 +71,27 @@ impl Task {
         self.screens[h]
     }
 
+    // The task with b at a place of its storage. Every place is stored, and not one byte, for which a copy of the task would have
+    // to wait.
+    pub fn with_screen(self, at: u8, b: u8) -> Task
+        ensures { λ r. ⌜ r ≡ withScreens self (set (self .screens) at b) ⌝ }
+    {
+        let mut out = self;
+        let mut i: u8 = 0;
+        while i < Session::HEIGHT {
+            let k = i as usize;
+            out.screens[k] = pick(i == at, b, out.screens[k]);
+            i += 1;
+        }
+        out
+    }
+
     // The task with one screen more on top.
     pub fn push(self, b: u8) -> Task
         requires { ⌜ self .height < mostHeight ⌝ }
         ensures { λ r. ⌜ r ≡ pushed self b ⌝ }
     {
-        let h = self.height as usize;
-        let mut out = self;
-        out.screens[h] = b;
+        let mut out = self.with_screen(self.height, b);
         out.height = self.height + 1;
         out
     }
@@ -89,4 +107,14 @@ impl Task {
         out.height = self.height - 1;
         out
     }
+}
+
+// x where c, else y.
+pub fn pick(c: bool, x: u8, y: u8) -> u8
+    ensures { λ r. ⌜ r ≡ (if c then x else y) ⌝ }
+{
+    if c {
+        return x;
+    }
+    y
 }

@@ -4,7 +4,7 @@
 use crate::stored::Stored;
 
 /// The number of the interface that is declared here.
-const ABI: u32 = 4;
+const ABI: u32 = 5;
 
 /// What a call answers: nine numbers.
 #[repr(C)]

@@ -15,9 +15,9 @@ pub const SESSION: usize = MAX_TASKS * TASK + 4;
 #[repr(C)]
 #[derive(Clone, Copy, PartialEq)]
 pub struct StoredTask {
+    pub screens: [u8; MAX_HEIGHT],
     pub root: u8,
     pub height: u8,
-    pub screens: [u8; MAX_HEIGHT],
 }
 
 /// A session: tasks, front first.
@@ -33,9 +33,9 @@ pub struct Stored {
 }
 
 const BLANK: StoredTask = StoredTask {
+    screens: [0; MAX_HEIGHT],
     root: 0,
     height: 0,
-    screens: [0; MAX_HEIGHT],
 };
 
 impl Stored {

@@ -44,11 +44,11 @@ impl Field {
             Field::NoHistory
         } else if task >= usize::from(session.n) {
             Field::BeyondTasks
-        } else if byte == 0 {
+        } else if byte == TASK - 2 {
             Field::Root
-        } else if byte == 1 {
+        } else if byte == TASK - 1 {
             Field::Height
-        } else if byte - 2 < usize::from(session.tasks[task].height) {
+        } else if byte < usize::from(session.tasks[task].height) {
             Field::Screen
         } else {
             Field::BeyondHeight
