@@ -15,6 +15,7 @@
 //! - `calls`: every call with all its checks, from bytes to an answer
 //! - `play`: the player, from standard input's format to lines, with or without
 //!   the reasons under starts
+//! - `lists`: lists of calls as bytes, with restores, and whether two end alike
 //! - `tally`: what is kept of a list of answers, and the report of it
 //! - `depth`: the depth report of a recording in the player's format
 //! - `random`, `hex`, `closings`: random numbers and tables, bytes as text, counts
@@ -35,6 +36,7 @@ pub mod depth;
 pub mod edition;
 pub mod hex;
 pub mod image;
+pub mod lists;
 pub mod no_affinity;
 pub mod no_history;
 pub mod play;

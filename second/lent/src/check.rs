@@ -36,10 +36,24 @@ pub struct Checker {
 
 /// A session with bytes around it that nobody may write.
 #[repr(C)]
-struct Guarded {
+pub struct Guarded {
     before: [u8; GUARD],
-    session: Stored,
+    pub session: Stored,
     after: [u8; GUARD],
+}
+
+impl Guarded {
+    pub fn new(session: Stored) -> Guarded {
+        Guarded {
+            before: GUARDS,
+            session,
+            after: GUARDS,
+        }
+    }
+
+    pub fn stands(&self) -> bool {
+        self.before == GUARDS && self.after == GUARDS
+    }
 }
 
 impl Checker {
@@ -96,11 +110,7 @@ pub fn buffer_before(call: Call) -> Vec<u8> {
 
 /// What the library gives, and whether it wrote outside of what it may write.
 fn outcome_by_library(table: &[u8], present: &Stored, call: Call) -> (Outcome, bool) {
-    let mut lent = Guarded {
-        before: GUARDS,
-        session: *present,
-        after: GUARDS,
-    };
+    let mut lent = Guarded::new(*present);
     let listed = guarded(table);
     let mut buffer = guarded(&buffer_before(call));
     let room = inside(&buffer);
@@ -115,8 +125,7 @@ fn outcome_by_library(table: &[u8], present: &Stored, call: Call) -> (Outcome, b
     let kept = guards_stand(&buffer)
         && guards_stand(listed)
         && listed[inside(listed)] == *table
-        && lent.before == GUARDS
-        && lent.after == GUARDS;
+        && lent.stands();
     let given = Outcome {
         reply,
         session: lent.session,
@@ -126,16 +135,16 @@ fn outcome_by_library(table: &[u8], present: &Stored, call: Call) -> (Outcome, b
 }
 
 /// Bytes with bytes around them that nobody may write.
-fn guarded(bytes: &[u8]) -> Vec<u8> {
+pub fn guarded(bytes: &[u8]) -> Vec<u8> {
     [&GUARDS, bytes, &GUARDS].concat()
 }
 
 /// Where the bytes within the guards are.
-fn inside(guarded: &[u8]) -> Range<usize> {
+pub fn inside(guarded: &[u8]) -> Range<usize> {
     GUARD..guarded.len() - GUARD
 }
 
-fn guards_stand(guarded: &[u8]) -> bool {
+pub fn guards_stand(guarded: &[u8]) -> bool {
     guarded.starts_with(&GUARDS) && guarded.ends_with(&GUARDS)
 }
 
