@@ -3,8 +3,8 @@
 use Prim.Native.Nat.{ℕ, zero, suc}
 use mathlib.Core.Path.{_≡_, refl, sym, _∙_, ap}
 use mathlib.Core.Logic.{_↔_}
-use mathlib.Core.List.{List, [], _∷_}
-use Rattle.model.specs.declared.Answer.{Answer}
+use mathlib.Core.Bool.{true}
+use mathlib.Core.List.{List}
 use Rattle.model.specs.Refusals.{refusal}
 use Rattle.model.specs.Table.{tableRefusal}
 use Rattle.model.specs.Session.{State, fresh}
@@ -12,9 +12,10 @@ use Rattle.model.specs.Answers.{Outcome, outcome, settle}
 use Rattle.model.specs.Calls.{Call, ownChecks, done, answerTo, call}
 use Rattle.model.specs.Histories.{after, answers, AnswerAlike, byRules}
 use Rattle.model.proofs.Sound.{Sound}
+use Rattle.model.proofs.MachineLaws.{after-kept, run-same}
 use Rattle.model.proofs.Keeps.{settled, fresh-sound, call-sound}
 use Rattle.session.specs.declared.Session.{Session}
-use Rattle.session.specs.Stored.{freshSession, hold}
+use Rattle.session.specs.Stored.{freshSession, hold, soundStored}
 use Rattle.session.proofs.StoredLaws.{fresh-held, view-hold, hold-sound}
 use Rattle.calls.specs.declared.Reply.{Reply}
 use Rattle.calls.specs.StoredCalls.{reply, callStored, byProgram, KeepsSound}
@@ -29,9 +30,7 @@ storedOutcome o = reply (hold (o .session)) (o .answer)
 module _ (tb : List ℕ) where
   -- a sound session stays sound
   pub after-keeps : (ks : List Call) (c : Session) → KeepsSound tb c (after (byProgram tb) c ks)
-  unfolding after
-  after-keeps [] c g e = e
-  after-keeps (k ∷ ks) c g e = after-keeps ks (callStored tb c k .session) g (call-keeps tb c k g e)
+  after-keeps ks c g e = after-kept (byProgram tb) (λ c. soundStored tb c ≡ true) (λ c e k. call-keeps tb c k g e) c e ks
 
 -- ---- by document 01's rules
 
@@ -48,19 +47,21 @@ module _ (tb : List ℕ) (ok : tableRefusal tb ≡ 0) where
       go zero = refl
       go (suc n) = refl
 
-  -- and a list
-  pub after-held : (v : State ℕ) → Sound tb v → (ks : List Call) → after (byProgram tb) (hold v) ks ≡ hold (after (byRules tb) v ks)
-  unfolding after
-  after-held v h [] = refl
-  after-held v h (k ∷ ks) =
-      ap (λ (r : Reply). after (byProgram tb) (r .session) ks) (call-held v h k) ∙ after-held (call tb v k .session) (call-sound tb ok v h k) ks
+  -- and a list: the program's machine goes along with that of the rules
+  module _ (v : State ℕ) (h : Sound tb v) (ks : List Call) where
+    run-held : ((after (byProgram tb) (hold v) ks ≡ hold (after (byRules tb) v ks)) × Sound tb (after (byRules tb) v ks))
+        × (answers (byProgram tb) (hold v) ks ≡ answers (byRules tb) v ks)
+    run-held =
+        run-same (byRules tb) (byProgram tb) (λ v c. (c ≡ hold v) × Sound tb v)
+        (λ v c l k. (ap (λ (d : Session). callStored tb d k .session) (l .0) ∙ ap (λ (r : Reply). r .session) (call-held v (l .1) k), call-sound tb ok v (l .1) k))
+        (λ v c l k. ap (λ (d : Session). callStored tb d k .answer) (l .0) ∙ ap (λ (r : Reply). r .answer) (call-held v (l .1) k))
+        v (hold v) (refl, h) ks
 
-  pub answers-held : (v : State ℕ) → Sound tb v → (ks : List Call) → answers (byProgram tb) (hold v) ks ≡ answers (byRules tb) v ks
-  unfolding answers
-  answers-held v h [] = refl
-  answers-held v h (k ∷ ks) =
-      ap (λ (r : Reply). r .answer ∷ answers (byProgram tb) (r .session) ks) (call-held v h k)
-      ∙ ap (λ (l : List Answer). call tb v k .answer ∷ l) (answers-held (call tb v k .session) (call-sound tb ok v h k) ks)
+    pub after-held : after (byProgram tb) (hold v) ks ≡ hold (after (byRules tb) v ks)
+    after-held = run-held .0 .0
+
+    pub answers-held : answers (byProgram tb) (hold v) ks ≡ answers (byRules tb) v ks
+    answers-held = run-held .1
 
   -- two sessions that are held answer alike exactly where what they hold does
   pub alike-held : (v w : State ℕ) → Sound tb v → Sound tb w → AnswerAlike (byRules tb) v w ↔ AnswerAlike (byProgram tb) (hold v) (hold w)

@@ -1,9 +1,10 @@
 pub mod Lending
+pub mod LendingFacts
 pub mod LendingCalls
 pub mod LendingWays
-pub mod LendingReply
-pub mod LendingFacts
-pub mod LendingNumbers
-pub mod LendingTable
+pub mod LendingLifetimes
+pub mod LendingParams
+pub mod LendingLocals
+pub mod LendingForm
 pub mod LendingWalk
-pub mod LendingSlices
+pub mod LendingStructs

@@ -2,7 +2,7 @@
 use Prim.Native.Nat.{ℕ, zero, suc, _<_, zero-le}
 use mathlib.Core.Path.{_≡_, refl, ap}
 use mathlib.Core.Bool.{true, false, not}
-use mathlib.Core.List.{List, [], _∷_}
+use mathlib.Core.List.{List, []}
 use native.Mathlib.Omega.{arith}
 use borrow.Author.Tests.{ltb-true, not-false}
 use Rattle.model.specs.Lists.{isEmpty}
@@ -19,6 +19,7 @@ use Rattle.model.proofs.Sound.{Sound, sound-decides}
 use Rattle.model.proofs.Close.{no-main, no-mark, backed-sound}
 use Rattle.model.proofs.Effects.{new-task-sound}
 use Rattle.model.proofs.Finish.{started-sound}
+use Rattle.model.proofs.MachineLaws.{after-kept}
 
 -- ---- what is known of a good table and of an accepted image
 
@@ -95,6 +96,4 @@ module _ (tb : List ℕ) (ok : tableRefusal tb ≡ 0) where
 
   -- and every list of calls does
   pub after-sound : (s : State ℕ) → Sound tb s → (cs : List Call) → Sound tb (after (byRules tb) s cs)
-  unfolding after
-  after-sound s h [] = h
-  after-sound s h (c ∷ cs) = after-sound (call tb s c .session) (call-sound s h c) cs
+  after-sound = after-kept (byRules tb) (Sound tb) call-sound

@@ -19,8 +19,9 @@ pub mod Marks
 pub mod MarkStands
 pub mod Start
 pub mod Finish
-pub mod Keeps
 pub mod HistoryLaws
+pub mod MachineLaws
+pub mod Keeps
 pub mod Balance
 pub mod Backs
 pub mod ImageLaws
