@@ -1,9 +1,10 @@
--- What a block leaves. No contract can name the bytes that were read; but there are bytes, all of them tallied.
-use Prim.Native.Nat.{ℕ, _%_, _≤_}
+-- What a block leaves: of the buffer it is lent to, the first bytes, as many as were counted, are the block, and all of it is
+-- tallied. That those bytes are what the file has, no contract can say.
+use Prim.Native.Nat.{ℕ, _*_, _≤_}
 use mathlib.Core.Path.{_≡_}
-use mathlib.Core.Bool.{true}
 use mathlib.Core.List.{List}
-use lib.ListN.{length}
+use lib.Dec.{eqb}
+use lib.ListN.{length, take}
 use Rattle.model.specs.Player.{recordsIn, sessionAfter}
 use Rattle.session.specs.declared.Session.{Session}
 use Rattle.session.specs.Stored.{view, hold}
@@ -14,12 +15,12 @@ use Rattle.depths.specs.Depths.{answersTo}
 use Rattle.reading.specs.Blocks.{mostRecords}
 use Rattle.measuring.specs.declared.Turned.{Turned}
 
--- where the input goes on behind it, the block holds whole records (`WholeBlocks` in `play/specs/Blocks.antt`)
-pub record Turns (tb : List ℕ) (c : Session) (t : Tally) (r : Turned) : Type 0 where
-  pub block : List ℕ
-  pub played : r .session ≡ hold (sessionAfter tb (view c) (recordsIn block))
-  pub tallied : r .tally ≡ addedAll t (answersTo tb (view c) (recordsIn block))
-  pub counted : r .records ≡ length (recordsIn block)
+-- where the input goes on behind it, the block is full, and so holds whole records (`WholeBlocks` in `play/specs/Blocks.antt`)
+pub record Turns (tb : List ℕ) (c : Session) (t : Tally) (input : List ℕ) (r : Turned) : Type 0 where
+  pub read : r .count ≤ length input
+  pub played : r .session ≡ hold (sessionAfter tb (view c) (recordsIn (take (r .count) input)))
+  pub tallied : r .tally ≡ addedAll t (answersTo tb (view c) (recordsIn (take (r .count) input)))
+  pub counted : r .records ≡ length (recordsIn (take (r .count) input))
   pub few : r .records ≤ mostRecords
-  pub whole : r .more ≡ true → length block % 6 ≡ 0
+  pub full : r .more ≡ eqb (r .count) (6 * mostRecords)
   pub keeps : Playable tb (r .session)

@@ -3,7 +3,11 @@
 // What cannot be read or written is told on standard error, and what cannot be read has no report; a line there that begins
 // with `warning: ` changes nothing.
 
+ghost use Prim.Native.Nat.{_*_};
+ghost use mathlib.Core.Path.{_≡_};
+ghost use lib.ListN.{length};
 ghost use Rattle.play.specs.Steps.{Playable};
+ghost use Rattle.reading.specs.Blocks.{mostRecords};
 ghost use Rattle.measuring.specs.Turns.{Turns};
 use libc::STDERR_FILENO;
 use reading::BLOCK;
@@ -11,9 +15,10 @@ use session::Session;
 use table::Beginning;
 use tally::Tally;
 
-// What is left after a block: the session, the tally, how many records it has, whether reading failed, and whether the input
-// may go on.
+// What is left after a block: how many bytes were read, the session, the tally, how many records the block has, whether
+// reading failed, and whether the input may go on.
 struct Turned {
+    count: usize,
     session: Session,
     tally: Tally,
     records: usize,
@@ -21,19 +26,20 @@ struct Turned {
     more: bool,
 }
 
-// Tallies one block of records.
-fn turn(fd: i32, table: &[u8], s: Session, t: Tally) -> Turned
+// Reads one block of records into a lent buffer and tallies it.
+fn turn(fd: i32, table: &[u8], s: Session, t: Tally, input: &mut [u8]) -> Turned
     requires { ⌜ Playable (now table) s ⌝ }
-    ensures { λ r. ⌜ Turns (now (table .entry)) s t r ⌝ }
+    requires { ⌜ length (now input) ≡ 6 * mostRecords ⌝ }
+    ensures { λ r. ⌜ Turns (now (table .entry)) s t (now (input .exit)) r ⌝ }
 {
-    let mut input = [0u8; BLOCK];
-    let read = reading::read_block(fd, &mut input);
+    let read = reading::read_block(fd, input);
     let got = read.count;
     let done = depths::tally_records(table, s, t, &input[..got]);
     let records = depths::count_records(&input[..got]);
     let after = done.session;
     let tally = done.tally;
     Turned {
+        count: got,
         session: after,
         tally: tally,
         records: records,
@@ -69,9 +75,10 @@ fn run(fd: i32, table: &[u8]) {
     let mut s = Session::fresh();
     let mut t = Tally::none();
     let mut calls: usize = 0;
+    let mut input = [0u8; BLOCK];
     let mut left: u64 = 1000000000000000;
     while left > 0 {
-        let r = turn(fd, table, s, t);
+        let r = turn(fd, table, s, t, &mut input);
         if r.failed {
             return;
         }

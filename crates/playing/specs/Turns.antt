@@ -1,9 +1,10 @@
--- What a block leaves. No contract can name the bytes that were read; but there are bytes, all of them played.
-use Prim.Native.Nat.{ℕ, _%_, _≤_}
+-- What a block leaves: of the buffer it is lent to, the first bytes, as many as were counted, are the block, and all of it is
+-- played. That those bytes are what the file has, no contract can say.
+use Prim.Native.Nat.{ℕ, _*_, _≤_}
 use mathlib.Core.Path.{_≡_}
 use mathlib.Core.Bool.{true}
 use mathlib.Core.List.{List}
-use lib.ListN.{length}
+use lib.ListN.{length, take}
 use Rattle.model.specs.Player.{recordsIn, sessionAfter}
 use Rattle.session.specs.declared.Session.{Session}
 use Rattle.session.specs.Stored.{view, hold}
@@ -19,11 +20,11 @@ pub record Says (tb : List ℕ) (c : Session) (block : List ℕ) (r : Said) : Ty
   pub played : r .session ≡ hold (sessionAfter tb (view c) (recordsIn block))
   pub keeps : Playable tb (r .session)
 
--- where the input goes on behind it, the block holds whole records (`WholeBlocks` in `play/specs/Blocks.antt`)
-pub record Turns (tb : List ℕ) (c : Session) (r : Turned) : Type 0 where
-  pub block : List ℕ
-  pub played : r .session ≡ hold (sessionAfter tb (view c) (recordsIn block))
-  pub met : Tells (restoresFrom 1 (recordsIn block)) (r .restores)
+-- where the input goes on behind it, the block is full, and so holds whole records (`WholeBlocks` in `play/specs/Blocks.antt`)
+pub record Turns (tb : List ℕ) (c : Session) (input : List ℕ) (r : Turned) : Type 0 where
+  pub read : r .count ≤ length input
+  pub played : r .session ≡ hold (sessionAfter tb (view c) (recordsIn (take (r .count) input)))
+  pub met : Tells (restoresFrom 1 (recordsIn (take (r .count) input))) (r .restores)
   pub few : (r .restores .count ≤ mostRecords) × (r .restores .first ≤ mostRecords)
-  pub whole : r .more ≡ true → length block % 6 ≡ 0
+  pub full : r .more ≡ true → r .count ≡ 6 * mostRecords
   pub keeps : Playable tb (r .session)

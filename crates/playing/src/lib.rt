@@ -3,7 +3,7 @@
 // not grow.
 // What cannot be read or written is told on standard error; a line there that begins with `warning: ` changes nothing.
 
-ghost use Prim.Native.Nat.{ℕ, _+_, _≤_};
+ghost use Prim.Native.Nat.{ℕ, _+_, _*_, _≤_};
 ghost use mathlib.Core.Path.{_≡_};
 ghost use mathlib.Core.List.{List, _++_};
 ghost use lib.ListN.{length};
@@ -138,25 +138,28 @@ fn say(table: &[u8], s: Session, block: &[u8], manner: Manner) -> Said
     }
 }
 
-// What is left after a block: the session, its records of kind 6, and whether to go on.
+// What is left after a block: how many bytes were read, the session, the block's records of kind 6, and whether to go on.
 struct Turned {
+    count: usize,
     session: Session,
     restores: Notes,
     more: bool,
 }
 
-// Plays one block of records. It goes on unless the input ended in it or what it says cannot be written.
-fn turn(fd: i32, table: &[u8], s: Session, manner: Manner) -> Turned
+// Reads one block of records into a lent buffer and plays it. It goes on unless the input ended in it or what it says cannot
+// be written.
+fn turn(fd: i32, table: &[u8], s: Session, manner: Manner, input: &mut [u8]) -> Turned
     requires { ⌜ Playable (now table) s ⌝ }
-    ensures { λ r. ⌜ Turns (now (table .entry)) s r ⌝ }
+    requires { ⌜ length (now input) ≡ 6 * mostRecords ⌝ }
+    ensures { λ r. ⌜ Turns (now (table .entry)) s (now (input .exit)) r ⌝ }
 {
-    let mut input = [0u8; BLOCK];
-    let read = reading::read_block(fd, &mut input);
+    let read = reading::read_block(fd, input);
     let got = read.count;
     let met = restores(&input[..got]);
     let said = say(table, s, &input[..got], manner);
     let after = said.session;
     Turned {
+        count: got,
         session: after,
         restores: met,
         more: said.went & (got == BLOCK),
@@ -168,9 +171,10 @@ fn run(fd: i32, table: &[u8], manner: Manner) {
     let mut s = Session::fresh();
     let mut met = Notes::none();
     let mut others: usize = 0;
+    let mut input = [0u8; BLOCK];
     let mut left: u64 = 1000000000000000;
     while left > 0 {
-        let t = turn(fd, table, s, manner);
+        let t = turn(fd, table, s, manner, &mut input);
         s = t.session;
         let here = t.restores;
         met = joined(met, others, here);

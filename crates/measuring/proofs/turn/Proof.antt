@@ -1,28 +1,16 @@
 -- A block has 10,000 records at most, and all of it is tallied.
-use Prim.Native.Nat.{ℕ, _%_, _≤_, _*_}
+use Prim.Native.Nat.{ℕ, _*_, _≤_}
 use mathlib.Core.Path.{_≡_, refl}
 use mathlib.Core.List.{List}
 use native.Mathlib.Omega.{arith}
 use lib.ListN.{length, take}
 use lib.Seq.{length-take-le}
 use borrow.Author.Needs.{needs}
-use borrow.Author.Tests.{leb-true, eqb-true}
 use Rattle.model.specs.Player.{recordsIn}
 use Rattle.play.proofs.BlockLaws.{records-few}
 use Rattle.reading.specs.Blocks.{mostRecords}
 use Rattle.measuring.proofs.turn.Statement.{statement}
 use Rattle.measuring.proofs.turn.Tie as tie
-
--- no more is read than was lent
-within : {got there lent n : ℕ} → got ≤ there → there ≡ lent → n ≡ lent → n ≤ 6 * mostRecords → got ≤ 6 * mostRecords
-within r k l h = omega arith
-
--- a full block holds whole records
-full-whole : {long got n : ℕ} → long ≡ got → got ≡ n → n % 6 ≡ 0 → long % 6 ≡ 0
-full-whole e f h = omega arith
-
-slice-aggregate-read-block : tie.Need-slice-aggregate-read-block
-slice-aggregate-read-block c = search needs
 
 -- the block that was read
 abbrev block : tie.After-read-block → List ℕ
@@ -32,7 +20,7 @@ long : (c : tie.After-read-block) → (length (block c) ≡ c .read-block .resul
 long c =
     let read = c .read-block in
     let e : length (block c) ≡ read .result .count = length-take-le (read .result .count) (read .last .1 .0) (read .ensures .0) in
-    let few = within (read .ensures .0) (read .kept .1 .0) (slice-aggregate-read-block (c .before)) (leb-true _ (6 * mostRecords) refl) in
+    let few : read .result .count ≤ 6 * mostRecords = omega (arith, read .ensures .0, read .kept .1 .0, c .before .before .before .before .pre .1) in
     let k = records-few (block c) in
     (e, omega arith)
 
@@ -40,14 +28,14 @@ returns : tie.Need-returns
 returns c =
     let count = c .before .before in
     let tallied = count .before .before in
-    let read = tallied .before .before .before in
+    let read = tallied .before .before .before .before in
     record {
-      block = block read;
+      read = read .read-block .ensures .0;
       played = tallied .tally-records .ensures .0;
       tallied = tallied .tally-records .ensures .1 .0;
       counted = count .count-records .ensures;
       few = let e = count .count-records .ensures in let l = long read .1 in omega arith;
-      whole = λ h. full-whole (long read .0) (eqb-true _ _ h) refl;
+      full = refl;
       keeps = tallied .tally-records .ensures .1 .1;
     }
 
@@ -55,7 +43,6 @@ pub turn-spec : {M : Type 1} → statement M
 turn-spec =
     tie.close
     (tie.spec
-    slice-aggregate-read-block
     (λ c κs. search needs)
     (λ c. search needs)
     (λ c. search needs)
@@ -63,4 +50,5 @@ turn-spec =
     (λ c. search needs)
     (λ c. search needs)
     (λ c κs. search needs)
+    (λ c. search needs)
     returns)
