@@ -11,7 +11,7 @@ use Rattle.model.specs.Refusals.{refusal}
 use Rattle.model.specs.Session.{mostTasks}
 use Rattle.model.specs.Flags.{flagsOf}
 use Rattle.model.specs.Answers.{refused}
-use Rattle.model.specs.Calls.{Call, chosen, launch, back, look, editionNamed, launched, started, startChecks, roomChecks, ownChecks, closedOf, done}
+use Rattle.model.specs.Calls.{Call, chosen, launch, start, finishingStart, back, look, editionNamed, launched, started, startChecks, roomChecks, ownChecks, closedOf, done}
 use Rattle.model.proofs.RefusalLaws.{refusal-append-refused, refusal-append-passed}
 use Rattle.session.specs.declared.Session.{Session}
 use Rattle.session.specs.Stored.{view, hold, holdTask, pad, blankTask, Ready, taskBehind}
@@ -22,18 +22,24 @@ use Rattle.rules.specs.Startable.{Startable}
 use Rattle.starts.specs.Checks.{startEntry, roomRefusal}
 use Rattle.starts.proofs.Entries.{start-numbers, start-split}
 use Rattle.plans.specs.declared.Plan.{Plan}
-use Rattle.plans.specs.Puts.{putOf, Puttable}
+use Rattle.plans.specs.Puts.{Puttable}
+use Rattle.plans.proofs.Puts.{putOf}
 use Rattle.plans.specs.Plans.{stillOf, keeps, closes, Opens}
-use Rattle.plans.specs.Shown.{answerFor, Showable, Uncovers}
+use Rattle.plans.specs.Shown.{answerFor, Showable}
 use Rattle.plans.proofs.Closes.{closed-puttable, still-put, still-puttable, back-put, back-puttable, back-opens}
-use Rattle.plans.proofs.Answered.{showable, answers-look, refused-showable}
-use Rattle.starts.specs.Steps.{orElse, made, madeClosed, Plannable, chosenStored, roomyPlan, planUnless, planStored}
-use Rattle.starts.proofs.Planning.{start-put, start-puttable, start-uncovers, start-closes, start-accepts}
+use Rattle.plans.proofs.Answered.{Uncovers, showable, answers-look, refused-showable}
+use Rattle.starts.specs.Steps.{orElse, Plannable, chosenStored, roomyPlan, planUnless, planStored}
+use Rattle.starts.proofs.Planning.{made, madeClosed, start-put, start-puttable, start-uncovers, start-closes, start-accepts}
 use Rattle.starts.proofs.Seeking.{entered-startable}
 use Rattle.calls.specs.declared.Reply.{Reply}
-use Rattle.calls.specs.StoredCalls.{reply, refusalStored, sharedRefusal, callStored, startCall}
+use Rattle.calls.specs.StoredCalls.{reply, refusalStored, sharedRefusal, callStored}
 use Rattle.calls.specs.CallPlans.{launchRefusal, mainTask, launchPlan, backRefusal, backMark, backPlan}
 use Rattle.calls.proofs.Settling.{shared-ready, number-shared, number-own, call-refused, own-refused, own-accepted, own-seen, own-sized, empty-view, filled-view, launch-own, launch-22, back-own, back-21}
+
+-- a finishing start, or a start
+abbrev pub startCall : Bool → ℕ → ℕ → Call
+startCall true b w = finishingStart b w
+startCall false b w = start b w
 
 -- the plan p on c gives the reply r
 pub record Gives (c : Session) (p : Plan) (r : Reply) : Type 0 where

@@ -1,13 +1,13 @@
 -- Calls on stored sessions: what the program gives for each, refused or not.
 use Prim.Native.Nat.{ℕ}
 use mathlib.Core.Path.{_≡_}
-use mathlib.Core.Bool.{Bool, true, false}
+use mathlib.Core.Bool.{true}
 use mathlib.Core.List.{List, []}
 use Rattle.model.specs.declared.Answer.{Answer}
 use Rattle.model.specs.Refusals.{refusal}
 use Rattle.model.specs.Table.{tableRefusal}
 use Rattle.model.specs.Answers.{refused, settle}
-use Rattle.model.specs.Calls.{Call, start, finishingStart, checksIn, ownChecks, done, answerTo}
+use Rattle.model.specs.Calls.{Call, checksIn, ownChecks, done, answerTo}
 use Rattle.model.specs.Player.{Request, unplayable, asks}
 use Rattle.model.specs.Histories.{Machine}
 use Rattle.session.specs.declared.Session.{Session}
@@ -40,11 +40,6 @@ replyStored tb c (asks k) = callStored tb c k
 -- the program's calls under the table tb, one after the other (document 01, "Lists in demand 3")
 abbrev pub byProgram : List ℕ → Machine Session Call Answer
 byProgram tb = record { next = λ c k. callStored tb c k .session; answer = λ c k. callStored tb c k .answer }
-
--- a finishing start, or a start
-abbrev pub startCall : Bool → ℕ → ℕ → Call
-startCall true b w = finishingStart b w
-startCall false b w = start b w
 
 -- under a good table a sound session stays sound
 abbrev pub KeepsSound : List ℕ → Session → Session → Type 0

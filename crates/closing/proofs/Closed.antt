@@ -16,14 +16,15 @@ use Rattle.model.proofs.Sound.{TaskSound}
 use Rattle.model.proofs.Close.{close-emptied, close-kept}
 use Rattle.session.specs.declared.Session.{Session}
 use Rattle.session.specs.declared.Task.{Task}
-use Rattle.session.specs.Stored.{view, viewTask, hold, holdTask, noTask, withTasks, withNoHistory, popped, blankAbove, storageBlank, Ready}
+use Rattle.session.specs.Stored.{view, viewTask, hold, holdTask, noTask, withTasks, popped, blankAbove, storageBlank, Ready}
+use Rattle.session.proofs.Setters.{withNoHistory}
 use Rattle.session.proofs.Known.{Sized}
 use Rattle.session.proofs.StoredLaws.{held, hold-viewTask, view-at, blank-few, sized-at, sound-blank, sound-view}
 use Rattle.session.proofs.SessionLaws.{hold-set}
 use Rattle.session.proofs.TaskLaws.{hold-popped}
 use Rattle.effects.proofs.Changes.{blank-low, blank-height}
 use Rattle.effects.proofs.Fronts.{counted, stored-blank}
-use Rattle.closing.specs.Closable.{Closable}
+use Rattle.closing.proofs.Closable.{Closable}
 
 -- ---- the main place
 

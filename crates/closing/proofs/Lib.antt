@@ -1,3 +1,4 @@
 pub mod Gaps
+pub mod Closable
 pub mod Closed
 pub mod Marked

@@ -8,12 +8,14 @@ use Rattle.model.specs.declared.Effect.{Effect}
 use Rattle.model.specs.declared.Mark.{Mark}
 use Rattle.model.specs.Lists.{if_then_else_}
 use Rattle.model.specs.Session.{State}
-use Rattle.model.specs.Marks.{markIn, markAfter, closeAt, Stands}
+use Rattle.model.specs.Marks.{markIn, markAfter}
+use Rattle.model.proofs.Marks.{closeAt}
+use Rattle.model.proofs.MarkStands.{Stands}
 use Rattle.session.specs.declared.Session.{Session}
 use Rattle.session.specs.Stored.{view, hold, storageBlank}
 use Rattle.session.proofs.Known.{Sized}
 use Rattle.session.proofs.StoredLaws.{held}
-use Rattle.closing.specs.Closable.{Closable}
+use Rattle.closing.proofs.Closable.{Closable}
 
 marked-at : (v : State ℕ) {m n : Mark} → m ≡ n → Stands m v → Stands n v
 marked-at v e h = subst (λ (k : Mark). Stands k v) e h

@@ -12,7 +12,8 @@ use Rattle.model.specs.declared.Effect.{Effect}
 use Rattle.model.specs.Session.{mostHeight}
 use Rattle.model.specs.Effects.{changed}
 use Rattle.session.specs.declared.Task.{Task}
-use Rattle.session.specs.Stored.{viewTask, holdTask, withRoot, blankAbove, pushed}
+use Rattle.session.specs.Stored.{viewTask, holdTask, blankAbove, pushed}
+use Rattle.session.proofs.Setters.{withRoot}
 use Rattle.session.proofs.Known.{Screens32}
 use Rattle.session.proofs.TaskLaws.{hold-pushed}
 use Rattle.effects.specs.Carriable.{HasRoom, Alterable, Changeable}

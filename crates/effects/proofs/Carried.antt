@@ -17,7 +17,8 @@ use Rattle.model.proofs.Effects.{Ready}
 use Rattle.session.specs.declared.Session.{Session}
 use Rattle.session.specs.Stored.{view, soundStored}
 use Rattle.session.proofs.StoredLaws.{sound-blank, sound-view}
-use Rattle.effects.specs.Carriable.{HasRoom, Finds, Carriable}
+use Rattle.effects.specs.Carriable.{HasRoom}
+use Rattle.effects.proofs.Carriable.{Finds, Carriable}
 
 has-room : (c : Change) (t : Stack ℕ) → height t ≤ mostHeight → (isPush c && eqb (height t) mostHeight) ≡ false → HasRoom c t
 has-room c t low f q = omega (arith, low, eqb-false (height t) mostHeight (subst (λ (x : Change). (isPush x && eqb (height t) mostHeight) ≡ false) q f))

@@ -15,7 +15,7 @@ use Rattle.session.specs.declared.Task.{Task}
 use Rattle.session.specs.Stored.{view, viewTask, taskBehind, blankAbove, storageBlank}
 use Rattle.session.proofs.Known.{Sized, Screens32}
 use Rattle.session.proofs.StoredLaws.{view-at, sized-at, blank-few}
-use Rattle.effects.specs.Carriable.{Carriable}
+use Rattle.effects.proofs.Carriable.{Carriable}
 use Rattle.effects.specs.Fronted.{placeIn, placeFor, closedWith, closedFor, shiftOf}
 use Rattle.effects.proofs.Changes.{blank-low, blank-height, place-inside}
 use Rattle.effects.proofs.Fronts.{stored-blank, in-front, at-place}

@@ -16,14 +16,24 @@ use Rattle.model.proofs.Logic.{and-left, and-right, All-at, all-decides, self-d
 use Rattle.model.proofs.ListLaws.{toFront-zero, toFront-length, toFront-split}
 use Rattle.session.specs.declared.Session.{Session}
 use Rattle.session.specs.declared.Task.{Task}
-use Rattle.session.specs.Stored.{view, viewTask, hold, holdTask, noTask, blankTask, withTasks, withCount, withMain, blankAbove, isBlank, storageBlank}
+use Rattle.session.specs.Stored.{view, viewTask, hold, holdTask, noTask, blankTask, withTasks, blankAbove, isBlank, storageBlank}
+use Rattle.session.proofs.Setters.{withCount, withMain}
 use Rattle.session.proofs.Known.{Sized}
 use Rattle.session.proofs.StoredLaws.{held, view-at, view-count, blank-few}
 use Rattle.session.proofs.SessionLaws.{hold-row, hold-set, hold-toFront}
-use Rattle.effects.specs.Carriable.{HasRoom, Finds, Placed, Changeable, Carriable}
-use Rattle.effects.specs.Fronted.{changedTask, shiftOf, fronted}
+use Rattle.effects.specs.Carriable.{HasRoom, Placed, Changeable}
+use Rattle.effects.proofs.Carriable.{Finds, Carriable}
+use Rattle.effects.specs.Fronted.{changedTask, shiftOf, frontAfter, countAfter, mainAfter}
 use Rattle.effects.specs.Rows.{shifted}
 use Rattle.effects.proofs.Rows.{pad-shifted}
+
+-- a stored session after an effect
+abbrev pub fronted : Session → ℕ → Effect → ℕ → Session
+fronted s b d p =
+    let k = shiftOf d p (s .n) in
+    withMain
+    (withCount (withTasks s (shifted (frontAfter b d (getD (s .tasks) k noTask)) k (s .tasks))) (countAfter d (s .n)))
+    (mainAfter d p (s .main))
 
 module _ {A : Type 0} (d : A) (k : ℕ) (xs : List A) (h : k < length xs) where
   -- one comes to the front changed

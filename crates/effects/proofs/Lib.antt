@@ -1,5 +1,6 @@
 pub mod Rows
 pub mod Places
+pub mod Carriable
 pub mod Fronts
 pub mod Counts
 pub mod Changes

@@ -4,20 +4,13 @@ use mathlib.Core.Path.{_≡_}
 use mathlib.Core.Bool.{true}
 use Rattle.model.specs.declared.Change.{Change}
 use Rattle.model.specs.declared.Effect.{Effect}
-use Rattle.model.specs.Session.{Stack, State, taskAt, front, height, count, mostTasks, mostHeight}
-use Rattle.session.specs.declared.Session.{Session}
+use Rattle.model.specs.Session.{Stack, height, mostHeight}
 use Rattle.session.specs.declared.Task.{Task}
-use Rattle.session.specs.Stored.{view, viewTask, blankAbove, storageBlank}
+use Rattle.session.specs.Stored.{viewTask, blankAbove}
 
 -- a push finds room in the task
 abbrev pub HasRoom : Change → Stack ℕ → Type 0
 HasRoom c t = c ≡ Change.Push → height t < mostHeight
-
--- the effect finds the task that it changes, at the place p or in front, and room
-abbrev pub Finds : Effect → ℕ → State ℕ → Type 0
-Finds Effect.New p v = (count v < mostTasks) × (v .main ≤ count v)
-Finds (Effect.InFront c) p v = (1 ≤ count v) × HasRoom c (front v)
-Finds (Effect.MoveAnd c) p v = ((1 ≤ p) × (p ≤ count v)) × HasRoom c (taskAt (v .tasks) p)
 
 -- a move has a place
 abbrev pub Placed : Effect → ℕ → Type 0
@@ -38,7 +31,3 @@ abbrev pub Changeable : Effect → Task → Type 0
 Changeable Effect.New t = Unit {0}
 Changeable (Effect.InFront c) t = (blankAbove t ≡ true) × HasRoom c (viewTask t)
 Changeable (Effect.MoveAnd c) t = (blankAbove t ≡ true) × HasRoom c (viewTask t)
-
-pub record Carriable (s : Session) (d : Effect) (p : ℕ) : Type 0 where
-  pub blank : storageBlank s ≡ true
-  pub finds : Finds d p (view s)

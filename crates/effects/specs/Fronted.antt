@@ -2,16 +2,14 @@
 use Prim.Native.Nat.{ℕ, suc, pred}
 use mathlib.Core.List.{[], _∷_}
 use lib.Dec.{eqb}
-use lib.ListN.{getD, drop}
+use lib.ListN.{drop}
 use Rattle.model.specs.declared.Change.{Change}
 use Rattle.model.specs.declared.Effect.{Effect}
 use Rattle.model.specs.Lists.{further, find}
 use Rattle.model.specs.Session.{stack}
 use Rattle.model.specs.Effects.{mainMoved, changed}
 use Rattle.session.specs.declared.Task.{Task}
-use Rattle.session.specs.declared.Session.{Session}
-use Rattle.session.specs.Stored.{viewTask, holdTask, noTask, withTasks, withCount, withMain}
-use Rattle.effects.specs.Rows.{shifted}
+use Rattle.session.specs.Stored.{viewTask, holdTask}
 
 -- a task after a change of its screens
 abbrev pub changedTask : ℕ → Change → Task → Task
@@ -88,11 +86,3 @@ abbrev pub mainAfter : Effect → ℕ → ℕ → ℕ
 mainAfter Effect.New p m = further m
 mainAfter (Effect.InFront c) p m = m
 mainAfter (Effect.MoveAnd c) p m = mainMoved p m
-
--- the session
-abbrev pub fronted : Session → ℕ → Effect → ℕ → Session
-fronted s b d p =
-    let k = shiftOf d p (s .n) in
-    withMain
-    (withCount (withTasks s (shifted (frontAfter b d (getD (s .tasks) k noTask)) k (s .tasks))) (countAfter d (s .n)))
-    (mainAfter d p (s .main))

@@ -1,7 +1,6 @@
 -- Save on a stored session, by what its checks said; and what the bytes are that it wrote.
 use Prim.Native.Nat.{ℕ, zero, suc, _≤_, _<_}
 use mathlib.Core.Path.{_≡_, refl, _∙_, ap}
-use mathlib.Core.Bool.{true}
 use mathlib.Core.List.{List, []}
 use native.Mathlib.Omega.{arith}
 use lib.ListN.{length, take, drop}
@@ -10,7 +9,7 @@ use borrow.Author.Tests.{lt-ltb, le-ltb}
 use Rattle.model.specs.Refusals.{refusal}
 use Rattle.model.specs.Answers.{lookAt}
 use Rattle.model.specs.Image.{image}
-use Rattle.model.specs.Calls.{restore, checksIn, ownChecks, closedOf, done, Saved, saveChecks, settleSave, save}
+use Rattle.model.specs.Calls.{restore, checksIn, ownChecks, closedOf, done, Saved, saveChecks, settleSave}
 use Rattle.model.proofs.RefusalLaws.{refusal-applies, refusal-passes, refusal-append-refused, checks-own}
 use Rattle.model.proofs.Sound.{sound-decides}
 use Rattle.model.proofs.ImageLaws.{images-exact, image-injective}
@@ -27,11 +26,6 @@ abbrev refusedSave : ℕ → List ℕ → Saved
 refusedSave k d = record { refusal = k; length = 0; buffer = d }
 
 module _ (tb : List ℕ) (c : Session) (d : List ℕ) where
-  -- on a sound session it is the model's
-  pub save-model : soundStored tb c ≡ true → saveStored tb c d ≡ save tb (view c) d
-  unfolding saveStored save
-  save-model e = rw (e, sound-decides tb (view c) .shows (sound-view tb c e))
-
   -- refused by one of the shared checks
   pub save-refused : (n : ℕ) → sharedRefusal tb c ≡ n → (n ≡ 0 → ⊥) → saveStored tb c d ≡ refusedSave n d
   unfolding saveStored sharedRefusal

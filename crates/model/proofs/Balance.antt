@@ -21,8 +21,10 @@ use Rattle.model.specs.Effects.{changed, carryOut}
 use Rattle.model.specs.Counts.{createdIn, createdBy, closedIn, closedBy}
 use Rattle.model.specs.Answers.{outcome, settle}
 use Rattle.model.specs.Image.{Reading, unreadable, readAs, readMore, readTasks, tasksRead, countIn, bodyIn, sessionIn}
-use Rattle.model.specs.Calls.{Call, launch, start, finishingStart, back, look, restore, chosen, effectIn, startedBy, started, finishedBy, callerCloses, startedWith, closedWith, launched, backed, ownChecks, createdByChoice, closedByChoice, closedByFinish, createdOf, closedOf, done, refusalOf, answerTo, call}
-use Rattle.model.specs.Marks.{closeAt, closedAt, Stands}
+use Rattle.model.specs.Calls.{Call, launch, start, finishingStart, back, look, restore, chosen, effectIn, started, callerCloses, startedWith, closedWith, launched, backed, ownChecks, createdByChoice, closedByChoice, closedByFinish, createdOf, closedOf, done, refusalOf, answerTo, call}
+use Rattle.model.specs.Marks.{closedAt}
+use Rattle.model.proofs.Marks.{closeAt}
+use Rattle.model.proofs.MarkStands.{Stands}
 use Rattle.model.specs.Histories.{byRules, IsNoRestore}
 use Rattle.model.specs.Balance.{ifAccepted, created, ScreensBalance}
 use Rattle.model.proofs.Logic.{if-elim, All-at, contradiction}
@@ -31,8 +33,8 @@ use Rattle.model.proofs.RefusalLaws.{refusal-skip}
 use Rattle.model.proofs.Measures.{measure, carry-measure, close-measure}
 use Rattle.model.proofs.Sound.{TaskSound, Sound}
 use Rattle.model.proofs.Effects.{Suits, Ready}
-use Rattle.model.proofs.Start.{choose-ready, start-accepted}
-use Rattle.model.proofs.Finish.{markOf, finished-by, finished-closes, marked-stands, created-effect}
+use Rattle.model.proofs.Start.{startedBy, choose-ready, start-accepted}
+use Rattle.model.proofs.Finish.{finishedBy, markOf, finished-by, finished-closes, marked-stands, created-effect}
 use Rattle.model.proofs.Keeps.{refusal-own, settled, fresh-sound, call-sound}
 use Rattle.model.proofs.HistoryLaws.{sum-answers, along-measure}
 

@@ -15,13 +15,13 @@ use Rattle.model.specs.Effects.{reordered, effectOf, mainMoved, mainWith
 use Rattle.model.specs.Counts.{createdIn, createdBy, closedIn, closedBy}
 use Rattle.model.specs.Answers.{lookAt}
 use Rattle.model.specs.Image.{image, imageShaped, readTasks, imageReadable, sessionIn}
-use Rattle.model.specs.Calls.{Call, launch, start, finishingStart, back, look, restore, callerCloses, noHistoryAfter, started, mapState, markFront, closeMarked, launched, backed, ownChecks, createdOf, closedOf, done, refusalOf, call, save}
+use Rattle.model.specs.Calls.{Call, launch, start, finishingStart, back, look, restore, callerCloses, noHistoryAfter, started, mapState, markFront, closeMarked, launched, backed, ownChecks, createdOf, closedOf, done, refusalOf, call}
 use Rattle.model.specs.Histories.{after, answers, along}
 use Rattle.model.specs.Balance.{createdAlong, closedAlong, standingAfter}
 use Rattle.model.specs.Player.{decimal, lineText, lineOf, requestOf, recordsIn, outcomeOf, textOf, startsWithTable, playerText}
 
 unfoldable computing : Unit {0}
-unfolding refusal modeOf affinityOf isSingleTop isSingleTask isSingleInstance rootsOnce tableShaped tableFilled heightFits screensKnown instanceAlone taskSound rootsDiffer mainSound isEdition editionSound noHistorySound sound flagsOf hasOtherBit hasRoot akin hasAffinity seekRoot seekAffinity seeksByRoot seek holds rulesOf isSingle isApart groupOf soughtBy fits chooseIn choose reordered effectOf mainMoved mainWithout move changed changeFront putNew carryOut close lookAt image imageShaped readTasks imageReadable sessionIn callerCloses noHistoryAfter started mapState markFront closeMarked launched backed ownChecks done refusalOf call save screensIn createdIn createdBy closedIn closedBy createdOf closedOf after answers along decimal lineText lineOf requestOf recordsIn outcomeOf textOf startsWithTable playerText
+unfolding refusal modeOf affinityOf isSingleTop isSingleTask isSingleInstance rootsOnce tableShaped tableFilled heightFits screensKnown instanceAlone taskSound rootsDiffer mainSound isEdition editionSound noHistorySound sound flagsOf hasOtherBit hasRoot akin hasAffinity seekRoot seekAffinity seeksByRoot seek holds rulesOf isSingle isApart groupOf soughtBy fits chooseIn choose reordered effectOf mainMoved mainWithout move changed changeFront putNew carryOut close lookAt image imageShaped readTasks imageReadable sessionIn callerCloses noHistoryAfter started mapState markFront closeMarked launched backed ownChecks done refusalOf call screensIn createdIn createdBy closedIn closedBy createdOf closedOf after answers along decimal lineText lineOf requestOf recordsIn outcomeOf textOf startsWithTable playerText
 computing = tt
 
 -- "Table T, hex: 06 00 00 01 00 01 01 01 02 02 03 01 00 02"

@@ -15,21 +15,22 @@ use Rattle.model.specs.declared.Rule.{Rule}
 use Rattle.model.specs.Lists.{isEmpty, first}
 use Rattle.model.specs.Refusals.{refusal}
 use Rattle.model.specs.Table.{isSingleTask, isSingleInstance, tableRefusal}
-use Rattle.model.specs.Session.{State, onTasks, count, editionKept}
+use Rattle.model.specs.Session.{State, onTasks, count, editionKept, sound}
 use Rattle.model.specs.Flags.{flagsOf}
 use Rattle.model.specs.Search.{isFoundByRoot, placeOf, seekRoot, seeksByRoot, seek}
 use Rattle.model.specs.Rules.{numberOf, rulesOf, isApart, groupOf, soughtBy, fits, chooseIn, choose}
 use Rattle.model.specs.Effects.{move, changeFront, putNew, carryOut, taskLeft, close}
 use Rattle.model.specs.Answers.{outcome, settle}
-use Rattle.model.specs.Calls.{Call, launch, start, finishingStart, back, look, restore, chosen, effectIn, startedBy, callerCloses, startedWith, started, backed, startChecks, ownChecks, done, answerTo, call}
-use Rattle.model.specs.Marks.{closeAt}
+use Rattle.model.specs.Image.{image}
+use Rattle.model.specs.Calls.{Call, launch, start, finishingStart, back, look, restore, chosen, effectIn, callerCloses, startedWith, started, backed, startChecks, ownChecks, done, answerTo, call}
+use Rattle.model.proofs.Marks.{closeAt}
 use Rattle.model.specs.Reasons.{howFound, reasonOf}
-use Rattle.model.specs.Editions.{EditionSeeks, EditionKept, NamesNoEdition, EditionsApart}
+use Rattle.model.specs.Editions.{EditionSeeks, EditionKept, NamesNoEdition}
 use Rattle.model.proofs.Logic.{if-elim, first-elim, never, contradiction, and-left}
 use Rattle.model.proofs.SearchLaws.{FindsByRoot, Finds, seekRoot-exact, seek-exact}
 use Rattle.model.proofs.Sound.{Sound, sound-decides}
 use Rattle.model.proofs.Close.{close-emptied, close-kept}
-use Rattle.model.proofs.Start.{start-accepted}
+use Rattle.model.proofs.Start.{startedBy, start-accepted}
 use Rattle.model.proofs.Finish.{markOf, finished-by, with-sound}
 use Rattle.model.proofs.Keeps.{settled, call-sound}
 use Rattle.model.proofs.ImageLaws.{image-injective}
@@ -209,6 +210,10 @@ pub empty-edition : (tb : List ℕ) (s : State ℕ) → Sound tb s → count s �
 empty-edition tb s h e = sym (h .edition .kept) ∙ ap (λ (n : ℕ). editionKept n (s .edition)) e
 
 -- ---- images
+
+-- "two sessions of unlike edition never share an image"
+abbrev EditionsApart : List ℕ → Type 0
+EditionsApart tb = (s t : State ℕ) → sound tb s ≡ true → sound tb t ≡ true → (s .edition ≡ t .edition → ⊥) → image s ≡ image t → ⊥
 
 pub editions-apart : (tb : List ℕ) → EditionsApart tb
 editions-apart tb s t h k differ e =

@@ -21,16 +21,16 @@ use Rattle.model.specs.Search.{placeOf}
 use Rattle.model.specs.Rules.{isR7, choose}
 use Rattle.model.specs.Effects.{move, changed, changeFront, putNew, carryOut}
 use Rattle.model.specs.Counts.{createdIn, createdBy}
-use Rattle.model.specs.Calls.{chosen, effectIn, startedBy, markFront, startMarked, finishedBy, callerCloses, startedWith, noHistoryAfter, started, startChecks, closedMarked}
-use Rattle.model.specs.Marks.{markAfter, closeAt, closedAt, Stands}
+use Rattle.model.specs.Calls.{chosen, effectIn, markFront, startMarked, finishedAt, callerCloses, startedWith, noHistoryAfter, started, startChecks, closedMarked}
+use Rattle.model.specs.Marks.{markAfter, closedAt}
 use Rattle.model.proofs.Sessions.{withTasks}
 use Rattle.model.proofs.ListLaws.{toFront-length, onFirst-length}
 use Rattle.model.proofs.Sound.{NoHistorySound, Sound}
 use Rattle.model.proofs.Close.{no-mark, close-sound}
 use Rattle.model.proofs.Effects.{Suits, Ready}
-use Rattle.model.proofs.Marks.{AbleIn, Able, finished-carry, closed-carry}
-use Rattle.model.proofs.MarkStands.{mark-stands, created-stays}
-use Rattle.model.proofs.Start.{choose-ready, start-accepted, carried-sound}
+use Rattle.model.proofs.Marks.{closeAt, AbleIn, Able, finished-carry, closed-carry}
+use Rattle.model.proofs.MarkStands.{Stands, mark-stands, created-stays}
+use Rattle.model.proofs.Start.{startedBy, choose-ready, start-accepted, carried-sound}
 
 module _ (tb : List ℕ) (b : ℕ) where
   suits-able : (c : Change) (t : Stack ℕ) → Suits tb b c t → AbleIn c b (t .screens)
@@ -49,6 +49,10 @@ module _ (tb : List ℕ) (b : ℕ) where
   ready-able Effect.New p s h = tt
   ready-able (Effect.InFront c) p s h = suits-able c (front s) (h .1)
   ready-able (Effect.MoveAnd c) p s h = (h .0 .1, first-able c p s (h .0 .0) (h .1))
+
+-- the rule chosen, and then the removal
+abbrev pub finishedBy : Choice → ℕ → State ℕ → State ℕ
+finishedBy c b s = finishedAt (effectIn s c) (placeOf (c .found)) b s
 
 -- where the front screen from before stands after the start
 abbrev pub markOf : Choice → ℕ → State ℕ → Mark

@@ -1,27 +1,32 @@
 -- After a start the mark's position is one at which a screen stands: code may close it. And what the start pushed or made new
 -- stays.
-use Prim.Native.Nat.{ℕ, zero, suc, pred, _≤_}
+use Prim.Native.Nat.{ℕ, zero, suc, pred, _≤_, _<_}
 use mathlib.Core.Path.{_≡_, refl}
 use mathlib.Core.Bool.{Bool, true, false, false≢true}
 use mathlib.Core.List.{List, [], _∷_}
 use native.Mathlib.Nat.{not-suc-le-zero}
 use native.Mathlib.Omega.{arith}
 use lib.Dec.{eqb}
-use lib.ListN.{length, set, length-set}
+use lib.ListN.{length, getD, set, length-set}
 use borrow.Author.Tests.{lt-leb}
 use Rattle.model.specs.declared.Change.{Change}
 use Rattle.model.specs.declared.Effect.{Effect}
 use Rattle.model.specs.declared.Mark.{Mark}
 use Rattle.model.specs.Lists.{isEmpty, find, omit, putSecond, toFront}
-use Rattle.model.specs.Session.{Stack, State, stack, onScreens, onTasks, setNoHistory, count}
+use Rattle.model.specs.Session.{Stack, State, stack, noStack, onScreens, onTasks, setNoHistory, height, count}
 use Rattle.model.specs.Search.{holds}
 use Rattle.model.specs.Effects.{move, changed, changeFront, putNew, carryOut, withoutTask, taskLeft, close}
 use Rattle.model.specs.Counts.{createdIn, createdBy}
-use Rattle.model.specs.Marks.{markIn, markAfter, closeAt, Stands}
+use Rattle.model.specs.Marks.{markIn, markAfter}
 use Rattle.model.proofs.Logic.{if-elim}
 use Rattle.model.proofs.ListLaws.{toFront-length, onFirst-length}
 use Rattle.model.proofs.Sessions.{withTasks}
-use Rattle.model.proofs.Marks.{AbleIn, Able}
+use Rattle.model.proofs.Marks.{closeAt, AbleIn, Able}
+
+-- a screen stands at the position
+abbrev pub Stands : Mark → State ℕ → Type 0
+Stands Mark.Gone s = Unit {0}
+Stands (Mark.Stands k i) s = (k < count s) × (i < height (getD (s .tasks) k noStack))
 
 -- a screen that stands below another top has company
 below-top : (b x : ℕ) (xs : List ℕ) → eqb b x ≡ false → holds b (x ∷ xs) ≡ true → 1 ≤ length xs

@@ -18,10 +18,15 @@ use Rattle.model.specs.Session.{Stack, State, stack, noStack, onScreens,
 use Rattle.model.specs.Search.{holds}
 use Rattle.model.specs.Effects.{move, changed, changeFront, putNew, carryOut, withoutTask, taskLeft, close}
 use Rattle.model.specs.Calls.{Marked, unmarked, mapScreens, mapState, markFront, placeOfMark, closeMarked, closedMarked}
-use Rattle.model.specs.Marks.{markIn, markAfter, closeAt, closedAt}
+use Rattle.model.specs.Marks.{markIn, markAfter, closedAt}
 use Rattle.model.proofs.Logic.{All-of}
 use Rattle.model.proofs.Sessions.{withTasks}
 use Rattle.model.proofs.ListLaws.{toFront-length, All-drop, All-toFront, All-to-map, map-omit, map-set, map-toFront, map-drop, map-onFirst, find-map, isEmpty-map}
+
+-- the screen at a mark's position closes
+abbrev pub closeAt : {A : Type 0} → Mark → State A → State A
+closeAt Mark.Gone s = s
+closeAt (Mark.Stands k i) s = close (suc k) i s
 
 -- ---- effects and closing do not look at marks
 

@@ -23,9 +23,10 @@ use Rattle.model.specs.Rules.{numberOf, isR7, rulesOf, isSingle, isApart
 use Rattle.model.specs.Effects.{reordered, effectOf, changed, changeFront, carryOut}
 use Rattle.model.specs.Counts.{createdIn, createdBy}
 use Rattle.model.specs.Answers.{lookAt}
+use Rattle.model.specs.Image.{image}
 use Rattle.model.specs.Calls.{start, finishingStart, chosen, effectAt, callerCloses, noHistoryAfter, startBy, started, startChecks, ownChecks, done, refusalOf}
 use Rattle.model.specs.Reasons.{reasonOf, ruleNumbered, why}
-use Rattle.model.specs.NoHistory.{pushesOrMakes, LeavesMark, MarksBy, withoutNoHistory, MarksApart}
+use Rattle.model.specs.NoHistory.{pushesOrMakes, LeavesMark, MarksBy, withoutNoHistory}
 use Rattle.model.proofs.Logic.{eqb-decides, same-test, refuted}
 use Rattle.model.proofs.Sound.{Sound, sound-decides}
 use Rattle.model.proofs.Keeps.{settled}
@@ -214,6 +215,11 @@ module _ (tb : List ℕ) (ok : tableRefusal tb ≡ 0) (s : State ℕ) (h : Sound
       }
 
 -- ---- images and looks
+
+-- "Two sessions differing only in the mark must have different images and be told apart by a look."
+pub record MarksApart (tb : List ℕ) : Type 0 where
+  pub images : (s t : State ℕ) → sound tb s ≡ true → sound tb t ≡ true → (s .noHistory ≡ t .noHistory → ⊥) → image s ≡ image t → ⊥
+  pub looks : (s t : State ℕ) → (s .noHistory ≡ t .noHistory → ⊥) → lookAt s ≡ lookAt t → ⊥
 
 pub marks-apart : (tb : List ℕ) → MarksApart tb
 unfolding lookAt

@@ -19,14 +19,18 @@ use Rattle.model.specs.Session.{Stack, State, noStack, taskAt, front, fr
 use Rattle.model.specs.Flags.{flagsOf, hasOtherBit}
 use Rattle.model.specs.Search.{placeOf, isFound, isFoundByRoot, hasRoot, hasAffinity, seekRoot, seekAffinity, seeksByRoot, seek, holds}
 use Rattle.model.specs.Rules.{rulesOf, isApart, groupOf, soughtBy, taskFound, fits, chooseIn, choose}
-use Rattle.model.specs.Effects.{effectOf, reordered}
-use Rattle.model.specs.Calls.{chosen, effectIn, startedBy, startChecks, makesTask, overfills}
+use Rattle.model.specs.Effects.{effectOf, reordered, carryOut}
+use Rattle.model.specs.Calls.{chosen, effectIn, startChecks, makesTask, overfills}
 use Rattle.model.proofs.Logic.{All-map, All-of, All-at, if-elim, first-elim, never, contradiction, and-left, and-right, and-false-right, or-false-right, or-true-left}
 use Rattle.model.proofs.ListLaws.{found-at, found-none, find-none, isEmpty-length}
 use Rattle.model.proofs.RefusalLaws.{refusal-skip}
 use Rattle.model.proofs.SearchLaws.{affinity-decides}
 use Rattle.model.proofs.Sound.{TaskSound, Sound, Plain}
 use Rattle.model.proofs.Effects.{IsPlaceIn, Takes, Suits, RootFree, Ready, carry-sound}
+
+-- the rule chosen, carried out
+abbrev pub startedBy : Choice → ℕ → State ℕ → State ℕ
+startedBy c b s = carryOut (eqb b) b b (effectIn s c) (placeOf (c .found)) s
 
 -- ---- what a search tells
 

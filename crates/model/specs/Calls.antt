@@ -44,10 +44,6 @@ effectAt s r = effectOf (s .edition) (s .main) r
 abbrev pub effectIn : State ℕ → Choice → Effect
 effectIn s c = effectAt s (c .rule)
 
--- the rule chosen, carried out
-abbrev pub startedBy : Choice → ℕ → State ℕ → State ℕ
-startedBy c b s = carryOut (eqb b) b b (effectIn s c) (placeOf (c .found)) s
-
 -- ---- finishing start
 
 -- a screen with or without the mark. The mark is 01's own term.
@@ -102,9 +98,6 @@ closeMarked s = if markStands s then close (markedTask s) (aboveMarked s) s else
 -- in its task. A mark travels with its screen; an emptied screen is gone, and the pushed B is unmarked."
 abbrev pub finishedAt : Effect → ℕ → ℕ → State ℕ → State ℕ
 finishedAt d p b s = mapState (λ x. x .screen) (closeMarked (startMarked d p b (markFront s)))
-
-abbrev pub finishedBy : Choice → ℕ → State ℕ → State ℕ
-finishedBy c b s = finishedAt (effectIn s c) (placeOf (c .found)) b s
 
 -- ---- the No-History mark, and a start whole (document 02, request 7)
 
@@ -283,6 +276,3 @@ abbrev pub settleSave : ℕ → State ℕ → List ℕ → Saved
 settleSave zero s buffer =
     record { refusal = 0; length = length (image s); buffer = image s ++ drop (length (image s)) buffer }
 settleSave (suc k) s buffer = record { refusal = suc k; length = 0; buffer = buffer }
-
-unfoldable pub save : List ℕ → State ℕ → List ℕ → Saved
-save tb s buffer = settleSave (refusal (checksIn tb (sound tb s) (saveChecks s buffer))) s buffer

@@ -5,9 +5,8 @@ use mathlib.Core.Path.{_≡_}
 use mathlib.Core.Bool.{true}
 use mathlib.Core.List.{List}
 use Rattle.model.specs.declared.Reason.{Reason}
-use Rattle.model.specs.Session.{State, count, editionKept, sound}
+use Rattle.model.specs.Session.{State, count, editionKept}
 use Rattle.model.specs.Search.{seeksByRoot}
-use Rattle.model.specs.Image.{image}
 use Rattle.model.specs.Calls.{Call, launch, start, finishingStart, back, look, restore}
 
 -- r is the reason of a start of the screen b in the session s
@@ -29,7 +28,3 @@ NamesNoEdition (finishingStart b w) = Unit {0}
 NamesNoEdition back = Unit {0}
 NamesNoEdition look = Unit {0}
 NamesNoEdition (restore bytes) = ⊥
-
--- "two sessions of unlike edition never share an image"
-abbrev pub EditionsApart : List ℕ → Type 0
-EditionsApart tb = (s t : State ℕ) → sound tb s ≡ true → sound tb t ≡ true → (s .edition ≡ t .edition → ⊥) → image s ≡ image t → ⊥

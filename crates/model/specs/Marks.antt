@@ -1,15 +1,12 @@
 -- The mark of a finishing start as a position, read off the effect: the shorter way that code takes.
 -- proofs/Marks.antt shows that it is the position of the screen whose mark travels (specs/Calls.antt).
-use Prim.Native.Nat.{ℕ, suc, _<_}
+use Prim.Native.Nat.{ℕ}
 use mathlib.Core.Bool.{Bool}
 use lib.Dec.{leb}
-use lib.ListN.{getD}
 use Rattle.model.specs.declared.Change.{Change}
 use Rattle.model.specs.declared.Effect.{Effect}
 use Rattle.model.specs.declared.Mark.{Mark}
 use Rattle.model.specs.Lists.{if_then_else_}
-use Rattle.model.specs.Session.{State, noStack, height, count}
-use Rattle.model.specs.Effects.{close}
 
 -- where the marked screen stands after the start is a `Mark`: nowhere, or behind k tasks and below i screens.
 -- Here after a change of its own task; the test tells whether the marked screen is B
@@ -26,16 +23,7 @@ markAfter Effect.New p isB = Mark.Stands 1 0
 markAfter (Effect.InFront c) p isB = markIn c isB
 markAfter (Effect.MoveAnd c) p isB = if leb p 1 then markIn c isB else Mark.Stands 1 0
 
-abbrev pub closeAt : {A : Type 0} → Mark → State A → State A
-closeAt Mark.Gone s = s
-closeAt (Mark.Stands k i) s = close (suc k) i s
-
--- how many screens that closes
+-- how many screens close with it
 abbrev pub closedAt : Mark → ℕ
 closedAt Mark.Gone = 0
 closedAt (Mark.Stands k i) = 1
-
--- a screen stands at the position
-abbrev pub Stands : Mark → State ℕ → Type 0
-Stands Mark.Gone s = Unit {0}
-Stands (Mark.Stands k i) s = (k < count s) × (i < height (getD (s .tasks) k noStack))

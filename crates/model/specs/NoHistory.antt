@@ -6,10 +6,8 @@ use mathlib.Core.List.{List, [], _∷_}
 use lib.Dec.{eqb}
 use Rattle.model.specs.declared.Reason.{Reason}
 use Rattle.model.specs.Lists.{if_then_else_, isPlace, find}
-use Rattle.model.specs.Session.{State, sound}
+use Rattle.model.specs.Session.{State}
 use Rattle.model.specs.Flags.{NOH, bit, flagsOf}
-use Rattle.model.specs.Answers.{lookAt}
-use Rattle.model.specs.Image.{image}
 use Rattle.model.specs.Calls.{start, finishingStart, call}
 
 -- ---- the mark after a start
@@ -38,10 +36,3 @@ pub record MarksBy (tb : List ℕ) (s : State ℕ) (b w : ℕ) (r : Reason) : Ty
 -- a flag word with that bit cleared; the reason of a start with either is the same
 abbrev pub withoutNoHistory : ℕ → ℕ
 withoutNoHistory w = w - bit NOH w * NOH
-
--- ---- images and looks
-
--- "Two sessions differing only in the mark must have different images and be told apart by a look."
-pub record MarksApart (tb : List ℕ) : Type 0 where
-  pub images : (s t : State ℕ) → sound tb s ≡ true → sound tb t ≡ true → (s .noHistory ≡ t .noHistory → ⊥) → image s ≡ image t → ⊥
-  pub looks : (s t : State ℕ) → (s .noHistory ≡ t .noHistory → ⊥) → lookAt s ≡ lookAt t → ⊥

@@ -17,8 +17,13 @@ use Rattle.answer.specs.Seen.{Seen, answerOf}
 use Rattle.answer.proofs.LookLaws.{look-fronted}
 use Rattle.effects.specs.Rows.{shifted}
 use Rattle.plans.specs.declared.Plan.{Plan}
-use Rattle.plans.specs.Puts.{poppedIf, goneIf, rowOf, putOf}
-use Rattle.plans.specs.Shown.{shownBy, answerFor, Showable, Uncovers}
+use Rattle.plans.specs.Puts.{poppedIf, goneIf, rowOf}
+use Rattle.plans.proofs.Puts.{putOf}
+use Rattle.plans.specs.Shown.{shownBy, answerFor, Showable}
+
+-- where the front task goes, no other went back before it, and none pops: then the one behind it is shown
+abbrev pub Uncovers : Plan → Type 0
+Uncovers p = p .gone ≡ 0 → (p .shift ≡ 0) × (p .pops ≡ false)
 
 -- ---- the first task of the row that is put
 

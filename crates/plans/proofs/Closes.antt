@@ -12,23 +12,32 @@ use Rattle.model.specs.Lists.{isEmpty}
 use Rattle.model.specs.Session.{State, mostTasks}
 use Rattle.model.specs.Effects.{taskLeft, close}
 use Rattle.model.specs.Calls.{backed}
-use Rattle.model.specs.Marks.{closeAt, Stands}
+use Rattle.model.proofs.Marks.{closeAt}
+use Rattle.model.proofs.MarkStands.{Stands}
 use Rattle.model.proofs.Logic.{if-elim}
 use Rattle.session.specs.declared.Session.{Session}
 use Rattle.session.specs.declared.Task.{Task}
-use Rattle.session.specs.Stored.{view, hold, noTask, withTasks, withCount, withMain, withEdition, withNoHistory, storageBlank, Ready, taskBehind}
+use Rattle.session.specs.Stored.{view, hold, noTask, withTasks, storageBlank, Ready, taskBehind}
+use Rattle.session.proofs.Setters.{withCount, withMain, withEdition, withNoHistory}
 use Rattle.session.proofs.Known.{Sized}
 use Rattle.session.proofs.StoredLaws.{held, stored-height}
 use Rattle.effects.specs.Rows.{shifted}
 use Rattle.effects.proofs.Fronts.{counted}
-use Rattle.closing.specs.Closable.{Closable}
+use Rattle.closing.proofs.Closable.{Closable}
 use Rattle.closing.proofs.Closed.{screen-there, screen-closed, top-closed, back-closable}
 use Rattle.plans.specs.declared.Plan.{Plan}
-use Rattle.plans.specs.Puts.{putOf, Puttable}
-use Rattle.plans.specs.Plans.{stillOf, closes, planWithClosed, planWithNoHistory, NearFront, Opens}
+use Rattle.plans.specs.Puts.{Puttable}
+use Rattle.plans.proofs.Puts.{putOf}
+use Rattle.plans.specs.Plans.{stillOf, closes, planWithClosed, planWithNoHistory, Opens}
 use Rattle.plans.proofs.Gone.{task-goes}
 
 -- ---- a marked screen
+
+-- it stands in front, or on top of the second task
+abbrev pub NearFront : Mark → Type 0
+NearFront Mark.Gone = Unit {0}
+NearFront (Mark.Stands zero i) = Unit {0}
+NearFront (Mark.Stands (suc j) i) = (j ≡ 0) × (i ≡ 0)
 
 -- two sessions without their No-History marks
 unmarked : {c d : Session} → c ≡ d → withNoHistory c 0 ≡ withNoHistory d 0

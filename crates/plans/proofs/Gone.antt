@@ -10,12 +10,13 @@ use Rattle.model.specs.Session.{State, onTasks, onMain, setNoHistory, count, mo
 use Rattle.model.specs.Effects.{mainWithout, withoutTask, close}
 use Rattle.model.proofs.ListLaws.{omit-length, map-omit}
 use Rattle.session.specs.declared.Session.{Session}
-use Rattle.session.specs.Stored.{view, hold, holdTask, pad, noTask, blankTask, withTasks, withCount, withMain, withEdition, withNoHistory, storageBlank}
+use Rattle.session.specs.Stored.{view, hold, holdTask, pad, noTask, blankTask, withTasks, storageBlank}
+use Rattle.session.proofs.Setters.{withCount, withMain, withEdition, withNoHistory}
 use Rattle.session.proofs.Known.{Sized}
 use Rattle.session.proofs.StoredLaws.{held, blank-few}
 use Rattle.session.proofs.SessionLaws.{hold-row}
 use Rattle.effects.proofs.Fronts.{counted}
-use Rattle.closing.specs.Closable.{Closable}
+use Rattle.closing.proofs.Closable.{Closable}
 use Rattle.closing.proofs.Closed.{task-there, task-closed, screen-there}
 
 module _ {A : Type 0} where

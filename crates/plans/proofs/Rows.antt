@@ -13,6 +13,7 @@ use Rattle.model.specs.Session.{mostTasks}
 use Rattle.session.specs.declared.Session.{Session}
 use Rattle.session.specs.declared.Task.{Task}
 use Rattle.session.specs.Stored.{noTask, blankTask, withTasks, popped}
+use Rattle.session.proofs.Setters.{withCount, withMain, withEdition, withNoHistory}
 use Rattle.effects.specs.Rows.{shifted, closedUp}
 use Rattle.closing.proofs.Gaps.{closingIn, closes-begin, closes-end}
 use Rattle.plans.specs.Puts.{poppedIf, goneIf}

@@ -129,9 +129,3 @@ mainBy g m = if ltb g mostTasks then mainWithout (suc g) m else m
 -- what closing it relies on: it stands in the front task, where it is marked there
 abbrev pub Opens : Mark → Task → Type 0
 Opens mark t = (i : ℕ) → mark ≡ Mark.Stands 0 i → (blankAbove t ≡ true) × (i < t .height)
-
--- it stands in front, or on top of the second task
-abbrev pub NearFront : Mark → Type 0
-NearFront Mark.Gone = Unit {0}
-NearFront (Mark.Stands zero i) = Unit {0}
-NearFront (Mark.Stands (suc j) i) = (j ≡ 0) × (i ≡ 0)

@@ -9,7 +9,7 @@ use Rattle.model.specs.Lists.{omit}
 use Rattle.model.specs.Session.{mostTasks, mostHeight}
 use Rattle.session.specs.declared.Task.{Task}
 use Rattle.session.specs.declared.Session.{Session}
-use Rattle.session.specs.Stored.{noTask, blankTask, withTasks, withCount, withMain, withEdition, withNoHistory, popped}
+use Rattle.session.specs.Stored.{noTask, blankTask, popped}
 use Rattle.effects.specs.Rows.{shifted}
 use Rattle.plans.specs.declared.Plan.{Plan}
 
@@ -26,10 +26,6 @@ goneIf false m ts = ts
 -- the front task is put and so many go back; then one pops, and one goes
 abbrev pub rowOf : Plan → List Task → List Task
 rowOf p ts = goneIf (ltb (p .gone) mostTasks) (p .gone) (poppedIf (p .pops) (shifted (p .front) (p .shift) ts))
-
-abbrev pub putOf : Session → Plan → Session
-putOf s p =
-    withNoHistory (withEdition (withMain (withCount (withTasks s (rowOf p (s .tasks))) (p .n)) (p .main)) (p .edition)) (p .«no_history»)
 
 -- ---- what putting relies on
 

@@ -1,7 +1,6 @@
 -- The answer of a call by its plan, and what making it relies on.
 use Prim.Native.Nat.{ℕ, zero, suc, _≤_}
 use mathlib.Core.Path.{_≡_}
-use mathlib.Core.Bool.{false}
 use Rattle.model.specs.declared.Answer.{Answer}
 use Rattle.model.specs.Session.{mostHeight}
 use Rattle.model.specs.Answers.{answerBy}
@@ -24,7 +23,3 @@ abbrev pub Showable : Plan → Task → Type 0
 Showable p second =
     p .refusal ≡ 0 → 1 ≤ p .n
     → (1 ≤ shownBy (p .gone) (p .front) second .height) × (shownBy (p .gone) (p .front) second .height ≤ mostHeight)
-
--- where the front task goes, no other went back before it, and none pops: then the one behind it is shown
-abbrev pub Uncovers : Plan → Type 0
-Uncovers p = p .gone ≡ 0 → (p .shift ≡ 0) × (p .pops ≡ false)

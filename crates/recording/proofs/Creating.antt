@@ -18,9 +18,8 @@ use Rattle.session.specs.Stored.{view, Ready}
 use Rattle.session.proofs.Known.{Sized}
 use Rattle.session.proofs.StoredLaws.{sound-view}
 use Rattle.starts.specs.Steps.{createdStored}
-use Rattle.calls.specs.StoredCalls.{startCall}
 use Rattle.calls.specs.CallPlans.{launchRefusal}
-use Rattle.calls.proofs.PlanSettling.{launch-number, start-number}
+use Rattle.calls.proofs.PlanSettling.{startCall, launch-number, start-number}
 use Rattle.recording.specs.CallBytes.{callAsked, callOf}
 
 module _ (tb : List ℕ) (c : Session) (z : Sized c) (h : Ready tb c) where

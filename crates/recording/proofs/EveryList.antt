@@ -19,8 +19,8 @@ use Rattle.model.specs.Calls.{Call, launch, start, finishingStart, back, look, 
 use Rattle.model.specs.Histories.{after, answers, IsByte, wordCount, IsWord, Passable, byRules}
 use Rattle.model.proofs.Logic.{and-decides, leb-decides, eqb-decides, self-decides, refuted, if-elim, All-at, All-map}
 use Rattle.model.proofs.ListLaws.{All-drop, All-to-map}
-use Rattle.recording.specs.CallBytes.{callsIn, writtenAs, Writable}
-use Rattle.recording.proofs.Writing.{read-back, written-bytes}
+use Rattle.recording.specs.CallBytes.{callsIn}
+use Rattle.recording.proofs.Writing.{writtenAs, Writable, read-back, written-bytes}
 
 -- ---- images that are too long
 

@@ -10,8 +10,41 @@ use Rattle.model.specs.Calls.{Call, launch, start, finishingStart, back, look, 
 use Rattle.model.specs.Player.{requestOf, wordOf}
 use Rattle.model.specs.Histories.{IsByte, IsWord, Passable}
 use Rattle.model.proofs.ListLaws.{All-append}
-use Rattle.recording.specs.CallBytes.{imageLength, callOf, firstCalls, callsIn, header, bytesOf, writtenAs, Writable}
+use Rattle.recording.specs.CallBytes.{restoreKind, imageLength, callOf, firstCalls, callsIn}
 use Rattle.recording.proofs.Reading.{calls-whole}
+
+-- ---- how a list is written
+
+-- "flag word high byte first"
+abbrev pub wordBytes : ℕ → List ℕ
+wordBytes w = w / 0x1000000 ∷ w / 0x10000 % 0x100 ∷ w / 0x100 % 0x100 ∷ w % 0x100 ∷ []
+
+-- "records of 6 bytes: kind .., screen, flag word"
+abbrev pub header : ℕ → ℕ → ℕ → List ℕ
+header kind b w = kind ∷ b ∷ wordBytes w
+
+unfoldable pub bytesOf : Call → List ℕ
+bytesOf (launch e) = header 1 e 0
+bytesOf (start b w) = header 2 b w
+bytesOf (finishingStart b w) = header 3 b w
+bytesOf back = header 4 0 0
+bytesOf look = header 5 0 0
+bytesOf (restore bytes) = header restoreKind 0 (length bytes) ++ bytes
+
+unfoldable pub writtenAs : List Call → List ℕ
+writtenAs [] = []
+writtenAs (c ∷ cs) = bytesOf c ++ writtenAs cs
+
+-- an image whose length is a word
+abbrev pub Writable : Call → Type 0
+Writable (launch e) = Unit {0}
+Writable (start b w) = Unit {0}
+Writable (finishingStart b w) = Unit {0}
+Writable back = Unit {0}
+Writable look = Unit {0}
+Writable (restore bytes) = IsWord (length bytes)
+
+-- ---- and read back
 
 word-back : (w : ℕ) → wordOf (w / 0x1000000) (w / 0x10000 % 0x100) (w / 0x100 % 0x100) (w % 0x100) ≡ w
 word-back w = omega arith

@@ -1,16 +1,13 @@
 -- A list of calls as bytes. Kinds 1 to 5 are the player's records (document 01, "Player"); kind 6 is a restore, whose word is
 -- the length of an image, and the image's bytes follow. Every byte string reads as some list of calls.
-use Prim.Native.Nat.{ℕ, zero, suc, _+_, _/_, _%_}
+use Prim.Native.Nat.{ℕ, zero, suc, _+_}
 use mathlib.Core.Bool.{Bool}
 use mathlib.Core.List.{List, [], _∷_, _++_}
 use lib.Dec.{leb, eqb}
 use lib.ListN.{length, getD, take, drop}
 use Rattle.model.specs.Lists.{if_then_else_}
-use Rattle.model.specs.Calls.{Call, launch, start, finishingStart, back, look, restore}
+use Rattle.model.specs.Calls.{Call, restore}
 use Rattle.model.specs.Player.{Request, unplayable, asks, requestOf, wordOf}
-use Rattle.model.specs.Histories.{IsWord}
-
--- ---- bytes to calls
 
 abbrev pub restoreKind : ℕ
 restoreKind = 6
@@ -51,34 +48,3 @@ firstCalls (suc n) bytes =
 -- the calls of all records, which are not more than the bytes
 abbrev pub callsIn : List ℕ → List Call
 callsIn bytes = firstCalls (length bytes) bytes
-
--- ---- calls to bytes
-
--- "flag word high byte first"
-abbrev pub wordBytes : ℕ → List ℕ
-wordBytes w = w / 0x1000000 ∷ w / 0x10000 % 0x100 ∷ w / 0x100 % 0x100 ∷ w % 0x100 ∷ []
-
--- "records of 6 bytes: kind .., screen, flag word"
-abbrev pub header : ℕ → ℕ → ℕ → List ℕ
-header kind b w = kind ∷ b ∷ wordBytes w
-
-unfoldable pub bytesOf : Call → List ℕ
-bytesOf (launch e) = header 1 e 0
-bytesOf (start b w) = header 2 b w
-bytesOf (finishingStart b w) = header 3 b w
-bytesOf back = header 4 0 0
-bytesOf look = header 5 0 0
-bytesOf (restore bytes) = header restoreKind 0 (length bytes) ++ bytes
-
-unfoldable pub writtenAs : List Call → List ℕ
-writtenAs [] = []
-writtenAs (c ∷ cs) = bytesOf c ++ writtenAs cs
-
--- an image whose length is a word
-abbrev pub Writable : Call → Type 0
-Writable (launch e) = Unit {0}
-Writable (start b w) = Unit {0}
-Writable (finishingStart b w) = Unit {0}
-Writable back = Unit {0}
-Writable look = Unit {0}
-Writable (restore bytes) = IsWord (length bytes)

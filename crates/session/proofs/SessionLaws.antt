@@ -9,7 +9,8 @@ use Rattle.model.specs.Lists.{toFront}
 use Rattle.model.specs.Session.{Stack, State, onTasks, count, mostTasks}
 use Rattle.model.proofs.ListLaws.{map-set, map-toFront, toFront-length}
 use Rattle.session.specs.declared.Task.{Task}
-use Rattle.session.specs.Stored.{blankTask, withTasks, withCount, holdTask, hold, pad}
+use Rattle.session.specs.Stored.{blankTask, withTasks, holdTask, hold, pad}
+use Rattle.session.proofs.Setters.{withCount}
 use Rattle.session.proofs.Padding.{pad-set, pad-toFront}
 
 module _ (v : State ℕ) where

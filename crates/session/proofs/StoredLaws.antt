@@ -16,7 +16,8 @@ use Rattle.model.proofs.ListLaws.{All-take, All-drop, All-append, All-to-map}
 use Rattle.model.proofs.Sound.{Sound, sound-decides}
 use Rattle.session.specs.declared.Task.{Task}
 use Rattle.session.specs.declared.Session.{Session}
-use Rattle.session.specs.Stored.{blankTask, freshSession, noTask, withTasks, withCount, viewTask, view, pad, holdTask, hold, blankAbove, isBlank, storageBlank, soundStored}
+use Rattle.session.specs.Stored.{blankTask, freshSession, noTask, withTasks, viewTask, view, pad, holdTask, hold, blankAbove, isBlank, storageBlank, soundStored}
+use Rattle.session.proofs.Setters.{withCount}
 use Rattle.session.proofs.Known.{Screens32, Sized}
 use Rattle.session.proofs.Padding.{pad-length, take-pad, drop-pad, pad-take}
 

@@ -28,10 +28,6 @@ taskBehind c i = getD (c .tasks) i noTask
 
 -- ---- one field changed, the others kept
 
--- a task with this root
-abbrev pub withRoot : Task → ℕ → Task
-withRoot t r = record { root = r; height = t .height; screens = t .screens }
-
 -- a task with this height
 abbrev pub withHeight : Task → ℕ → Task
 withHeight t h = record { root = t .root; height = h; screens = t .screens }
@@ -43,22 +39,6 @@ withScreens t xs = record { root = t .root; height = t .height; screens = xs }
 -- a session with these tasks
 abbrev pub withTasks : Session → List Task → Session
 withTasks c ts = record { tasks = ts; n = c .n; main = c .main; edition = c .edition; «no_history» = c .«no_history» }
-
--- a session with this n
-abbrev pub withCount : Session → ℕ → Session
-withCount c n = record { tasks = c .tasks; n = n; main = c .main; edition = c .edition; «no_history» = c .«no_history» }
-
--- a session with this main place
-abbrev pub withMain : Session → ℕ → Session
-withMain c m = record { tasks = c .tasks; n = c .n; main = m; edition = c .edition; «no_history» = c .«no_history» }
-
--- a session with this edition
-abbrev pub withEdition : Session → ℕ → Session
-withEdition c e = record { tasks = c .tasks; n = c .n; main = c .main; edition = e; «no_history» = c .«no_history» }
-
--- a session with this No-History mark
-abbrev pub withNoHistory : Session → ℕ → Session
-withNoHistory c h = record { tasks = c .tasks; n = c .n; main = c .main; edition = c .edition; «no_history» = h }
 
 -- ---- what is stored
 

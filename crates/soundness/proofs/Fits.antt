@@ -17,10 +17,14 @@ use Rattle.session.specs.declared.Task.{Task}
 use Rattle.session.specs.declared.Session.{Session}
 use Rattle.session.specs.Stored.{noTask, viewTask, view, root, rootsOf, blankAbove, isBlank, storageBlank, soundStored}
 use Rattle.places.specs.PlaceTests.{total, noSum, usedSound, usedSum}
-use Rattle.soundness.specs.Tests.{otherRoot, storedTaskSound, rootsKnown, mayBeRoots, mainRootSound}
+use Rattle.soundness.specs.Tests.{otherRoot, rootsKnown, mayBeRoots, mainRootSound}
 use Rattle.soundness.proofs.Sums.{total-zero, used-sum-decides}
 
 -- ---- a task
+
+-- the task is sound, and 0 stands beyond its height
+unfoldable pub storedTaskSound : List ℕ → Task → Bool
+storedTaskSound tb t = blankAbove t && taskSound tb (viewTask t)
 
 module _ (tb : List ℕ) where
   -- the sum up to the height is that of all screens exactly where the task is sound and 0 stands beyond

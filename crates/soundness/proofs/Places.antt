@@ -19,9 +19,9 @@ use Rattle.session.specs.declared.Task.{Task}
 use Rattle.session.specs.declared.Session.{Session}
 use Rattle.session.specs.Stored.{noTask, root, rootsOf, isBlank, soundStored}
 use Rattle.places.specs.PlaceTests.{noRoot, isRoot, expectedSum, placeRoot}
-use Rattle.soundness.specs.Tests.{storedTaskSound, rootsKnown}
+use Rattle.soundness.specs.Tests.{rootsKnown}
 use Rattle.soundness.proofs.Bytes.{SumFits}
-use Rattle.soundness.proofs.Fits.{SessionFits, used-stored, blank-stored, blank-root-0, root-known, roots-known, session-fits}
+use Rattle.soundness.proofs.Fits.{storedTaskSound, SessionFits, used-stored, blank-stored, blank-root-0, root-known, roots-known, session-fits}
 
 -- ---- one place
 

@@ -6,19 +6,12 @@ use lib.Dec.{leb, ltb, eqb}
 use lib.ListN.{length, getD}
 use Rattle.model.specs.Lists.{all}
 use Rattle.model.specs.Table.{sizeOf, mainScreen, rootsOnce}
-use Rattle.model.specs.Session.{taskSound}
-use Rattle.session.specs.declared.Task.{Task}
-use Rattle.session.specs.Stored.{viewTask, blankAbove}
 
 -- another root than b
 unfoldable pub otherRoot : ℕ → ℕ → Bool
 otherRoot b x = not (eqb b x)
 
 module _ (tb : List ℕ) where
-  -- the task is sound, and 0 stands beyond its height
-  unfoldable pub storedTaskSound : Task → Bool
-  storedTaskSound t = blankAbove t && taskSound tb (viewTask t)
-
   -- each root is below N
   unfoldable pub rootsKnown : List ℕ → Bool
   rootsKnown xs = all (λ x. ltb x (sizeOf tb)) xs

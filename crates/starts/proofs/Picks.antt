@@ -10,22 +10,27 @@ use Rattle.model.specs.declared.Found.{Found}
 use Rattle.model.specs.Session.{top, mostHeight}
 use Rattle.model.specs.Search.{placeOf}
 use Rattle.model.specs.Rules.{choose}
-use Rattle.model.specs.Calls.{effectIn, startedBy, finishedBy, closedByChoice, closedByFinish}
-use Rattle.model.specs.Marks.{markAfter, closeAt, closedAt}
+use Rattle.model.specs.Calls.{effectIn, closedByChoice, closedByFinish}
+use Rattle.model.proofs.Start.{startedBy}
+use Rattle.model.proofs.Finish.{finishedBy}
+use Rattle.model.specs.Marks.{markAfter, closedAt}
+use Rattle.model.proofs.Marks.{closeAt}
 use Rattle.session.specs.declared.Session.{Session}
 use Rattle.session.specs.declared.Task.{Task}
-use Rattle.session.specs.Stored.{view, viewTask, hold, withTasks, withCount, withMain, taskBehind}
+use Rattle.session.specs.Stored.{view, viewTask, hold, withTasks, taskBehind}
+use Rattle.session.proofs.Setters.{withCount, withMain}
 use Rattle.session.proofs.Known.{Sized}
 use Rattle.rules.specs.Startable.{Startable}
 use Rattle.rules.specs.Shows.{indexOf}
 use Rattle.rules.proofs.Tasks.{front-screen}
 use Rattle.rules.proofs.Rooms.{FrontUnsought, unsought}
-use Rattle.effects.specs.Carriable.{Changeable, Carriable}
+use Rattle.effects.specs.Carriable.{Changeable}
+use Rattle.effects.proofs.Carriable.{Carriable}
 use Rattle.effects.specs.Fronted.{shiftOf, placeFor, frontAfter, closedFor, countAfter, mainAfter}
 use Rattle.effects.specs.Rows.{shifted}
 use Rattle.effects.proofs.Fronts.{changeable, carried}
 use Rattle.effects.proofs.Counts.{closed-effect, closed-few}
-use Rattle.closing.specs.Closable.{Markable}
+use Rattle.closing.proofs.Closable.{Markable}
 use Rattle.starts.specs.Checks.{roomRefusal}
 use Rattle.starts.proofs.StartLaws.{start-carriable, start-sized, start-markable, finish-closes, finish-closed}
 

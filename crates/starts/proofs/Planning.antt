@@ -14,31 +14,55 @@ use Rattle.model.specs.declared.Flags.{Flags}
 use Rattle.model.specs.declared.Mark.{Mark}
 use Rattle.model.specs.declared.Rule.{Rule}
 use Rattle.model.specs.Lists.{if_then_else_}
-use Rattle.model.specs.Session.{top, mostHeight}
+use Rattle.model.specs.Session.{State, top, mostHeight}
+use Rattle.model.specs.Search.{placeOf}
 use Rattle.model.specs.Rules.{choose}
-use Rattle.model.specs.Calls.{startedBy, callerCloses, noHistoryAfter, closedByChoice}
-use Rattle.model.specs.Marks.{markIn, closeAt, closedAt, Stands}
+use Rattle.model.specs.Calls.{effectIn, callerCloses, startedWith, noHistoryAfter, startBy, closedByChoice, closedWith, closedByStart}
+use Rattle.model.proofs.Start.{startedBy}
+use Rattle.model.specs.Marks.{markIn, closedAt}
+use Rattle.model.proofs.Marks.{closeAt}
+use Rattle.model.proofs.MarkStands.{Stands}
 use Rattle.session.specs.declared.Session.{Session}
 use Rattle.session.specs.declared.Task.{Task}
-use Rattle.session.specs.Stored.{view, viewTask, hold, noTask, withNoHistory, storageBlank, taskBehind}
+use Rattle.session.specs.Stored.{view, viewTask, hold, noTask, storageBlank, taskBehind}
+use Rattle.session.proofs.Setters.{withNoHistory}
 use Rattle.session.proofs.Known.{Sized}
 use Rattle.rules.specs.Shows.{indexOf}
 use Rattle.rules.specs.Startable.{Startable}
 use Rattle.effects.specs.Fronted.{shiftOf, placeFor, frontAfter, closedFor, countAfter, mainAfter}
 use Rattle.effects.specs.Rows.{shifted}
 use Rattle.effects.proofs.Fronts.{shift-low}
-use Rattle.closing.specs.Closable.{Markable}
+use Rattle.closing.proofs.Closable.{Markable}
 use Rattle.closing.proofs.Closed.{screen-there}
 use Rattle.closing.proofs.Marked.{closable, closed-gone}
 use Rattle.starts.specs.Checks.{roomRefusal}
 use Rattle.starts.proofs.Picks.{Picked, picked-carriable, picked-put, picked-sized, picked-markable, picked-finished, picked-closed, picked-few, picked-finish-closed}
 use Rattle.plans.specs.declared.Plan.{Plan}
-use Rattle.plans.specs.Puts.{putOf, Puttable}
-use Rattle.plans.specs.Plans.{closes, closesWith, NearFront, Opens}
-use Rattle.plans.specs.Shown.{Uncovers}
-use Rattle.plans.proofs.Closes.{putIn, plan-closes, plan-puttable, closed-puttable, marked-puttable}
+use Rattle.plans.specs.Puts.{Puttable}
+use Rattle.plans.proofs.Puts.{putOf}
+use Rattle.plans.specs.Plans.{closes, closesWith, Opens}
+use Rattle.plans.proofs.Answered.{Uncovers}
+use Rattle.plans.proofs.Closes.{NearFront, putIn, plan-closes, plan-puttable, closed-puttable, marked-puttable}
 use Rattle.starts.specs.declared.Chosen.{Chosen}
-use Rattle.starts.specs.Steps.{markIf, Plannable, planShift, planMark, planNext, planClosed, carryingPlan, startPlan, carried, carriedClosed, made, madeClosed}
+use Rattle.starts.specs.Steps.{markIf, Plannable, planShift, planMark, planNext, planClosed, carryingPlan, startPlan}
+
+-- ---- what a start makes
+
+-- the session that the rule chosen makes where there is room, and then the removal where the caller closes; and the screens that
+-- they close
+abbrev pub carried : Bool → List ℕ → Session → ℕ → Flags → State ℕ
+carried caller tb c b f =
+    startedWith caller (effectIn (view c) (choose tb (view c) b f)) (placeOf (choose tb (view c) b f .found)) b (view c)
+
+abbrev pub carriedClosed : Bool → List ℕ → Session → ℕ → Flags → ℕ
+carriedClosed caller tb c b f = closedWith caller (choose tb (view c) b f) b (view c)
+
+-- the session that a finishing start, or a start, makes, and the screens that it closes
+abbrev pub made : Bool → List ℕ → Session → ℕ → Flags → State ℕ
+made finishing tb c b f = startBy finishing f (choose tb (view c) b f .rule) (placeOf (choose tb (view c) b f .found)) b (view c)
+
+abbrev pub madeClosed : Bool → List ℕ → Session → ℕ → Flags → ℕ
+madeClosed finishing tb c b f = closedByStart finishing (choose tb (view c) b f) b (view c)
 
 -- ---- where a marked screen may stand
 

@@ -10,21 +10,22 @@ use Rattle.model.specs.declared.Flags.{Flags}
 use Rattle.model.specs.Session.{frontScreen, count, mostTasks}
 use Rattle.model.specs.Search.{placeOf}
 use Rattle.model.specs.Rules.{choose}
-use Rattle.model.specs.Calls.{effectIn, startedBy, finishedBy, makesTask, overfills, closedByChoice, closedByFinish}
-use Rattle.model.specs.Marks.{closeAt, closedAt}
+use Rattle.model.specs.Calls.{effectIn, makesTask, overfills, closedByChoice, closedByFinish}
+use Rattle.model.specs.Marks.{closedAt}
+use Rattle.model.proofs.Marks.{closeAt}
 use Rattle.model.proofs.RefusalLaws.{refusal-skip}
 use Rattle.model.proofs.Sound.{Sound}
 use Rattle.model.proofs.Effects.{Ready as EffectReady, carry-sound}
-use Rattle.model.proofs.Start.{choose-ready}
-use Rattle.model.proofs.Finish.{markOf, finished-by, finished-closes, marked-stands}
+use Rattle.model.proofs.Start.{startedBy, choose-ready}
+use Rattle.model.proofs.Finish.{finishedBy, markOf, finished-by, finished-closes, marked-stands}
 use Rattle.session.specs.declared.Session.{Session}
 use Rattle.session.specs.Stored.{view, hold}
 use Rattle.session.proofs.Known.{Sized}
 use Rattle.session.proofs.StoredLaws.{view-hold, view-count, blank-few, sound-blank, sound-view, sound-fits, hold-blank, hold-sized}
 use Rattle.rules.specs.Startable.{Startable}
-use Rattle.effects.specs.Carriable.{Carriable}
+use Rattle.effects.proofs.Carriable.{Carriable}
 use Rattle.effects.proofs.Carried.{carriable}
-use Rattle.closing.specs.Closable.{Markable}
+use Rattle.closing.proofs.Closable.{Markable}
 use Rattle.starts.specs.Checks.{roomRefusal}
 
 -- ---- a start

@@ -11,11 +11,11 @@ use Rattle.model.specs.declared.Group.{Group}
 use Rattle.model.specs.declared.Mark.{Mark}
 use Rattle.model.specs.declared.Rule.{Rule}
 use Rattle.model.specs.Refusals.{refusal}
-use Rattle.model.specs.Session.{State, top}
+use Rattle.model.specs.Session.{top}
 use Rattle.model.specs.Flags.{flagsOf}
 use Rattle.model.specs.Search.{placeOf}
 use Rattle.model.specs.Rules.{groupOf, soughtBy, choose}
-use Rattle.model.specs.Calls.{effectIn, callerCloses, startedWith, noHistoryAfter, startBy, createdByChoice, closedWith, closedByStart}
+use Rattle.model.specs.Calls.{effectIn, callerCloses, noHistoryAfter, createdByChoice}
 use Rattle.model.specs.Marks.{markAfter}
 use Rattle.model.specs.Balance.{ifAccepted}
 use Rattle.session.specs.declared.Session.{Session}
@@ -132,22 +132,6 @@ ruleStored (suc k) tb c b w = Rule.R18
 -- what planning relies on: where nothing refused so far, x was sought, and t is the task at its index
 abbrev pub Planned : List ℕ → Session → ℕ → ℕ → Task → Sought → Type 0
 Planned tb c b w t x = x .number ≡ 0 → Startable tb c b × (Seeks tb c b (flagsOf w) x × (t ≡ taskBehind c (x .index)))
-
--- the session that the rule chosen makes where there is room, and then the removal where the caller closes; and the screens that
--- they close
-abbrev pub carried : Bool → List ℕ → Session → ℕ → Flags → State ℕ
-carried caller tb c b f =
-    startedWith caller (effectIn (view c) (choose tb (view c) b f)) (placeOf (choose tb (view c) b f .found)) b (view c)
-
-abbrev pub carriedClosed : Bool → List ℕ → Session → ℕ → Flags → ℕ
-carriedClosed caller tb c b f = closedWith caller (choose tb (view c) b f) b (view c)
-
--- the session that a finishing start, or a start, makes, and the screens that it closes
-abbrev pub made : Bool → List ℕ → Session → ℕ → Flags → State ℕ
-made finishing tb c b f = startBy finishing f (choose tb (view c) b f .rule) (placeOf (choose tb (view c) b f .found)) b (view c)
-
-abbrev pub madeClosed : Bool → List ℕ → Session → ℕ → Flags → ℕ
-madeClosed finishing tb c b f = closedByStart finishing (choose tb (view c) b f) b (view c)
 
 -- the screens that a start, or a finishing one, creates: none where it is refused at its entry or for want of room
 abbrev pub createdStored : List ℕ → Session → ℕ → ℕ → ℕ

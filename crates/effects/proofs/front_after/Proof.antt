@@ -2,7 +2,7 @@
 use mathlib.Core.Path.{sym, _∙_, ap, ap₂, subst}
 use borrow.Author.Needs.{needs}
 use Rattle.model.specs.declared.Change.{Change}
-use Rattle.session.specs.Stored.{withRoot}
+use Rattle.session.proofs.Setters.{withRoot}
 use Rattle.effects.specs.Carriable.{Alterable}
 use Rattle.effects.specs.Fronted.{placeIn, changedTask, rootAfter}
 use Rattle.effects.proofs.Bases.{alterable, front-is}

@@ -9,7 +9,8 @@ use Rattle.session.proofs.Known.{Sized, sized}
 use Rattle.session.proofs.StoredLaws.{blank-few, sound-blank}
 use Rattle.rules.specs.Shows.{indexOf}
 use Rattle.rules.proofs.Tasks.{task-filled}
-use Rattle.effects.specs.Carriable.{Changeable, Carriable}
+use Rattle.effects.specs.Carriable.{Changeable}
+use Rattle.effects.proofs.Carriable.{Carriable}
 use Rattle.effects.proofs.Fronts.{placed, main-low}
 use Rattle.starts.specs.Checks.{roomRefusal}
 use Rattle.starts.proofs.Picks.{Picked, picked-carriable, picked-changeable}

@@ -4,7 +4,8 @@ use mathlib.Core.Path.{_≡_}
 use mathlib.Core.Bool.{Bool, true}
 use Rattle.model.specs.declared.Effect.{Effect}
 use Rattle.model.specs.declared.Mark.{Mark}
-use Rattle.model.specs.Marks.{markAfter, Stands}
+use Rattle.model.specs.Marks.{markAfter}
+use Rattle.model.proofs.MarkStands.{Stands}
 use Rattle.session.specs.declared.Session.{Session}
 use Rattle.session.specs.Stored.{view, storageBlank}
 
