@@ -92,22 +92,22 @@ enum milchkompass_refusal {
 static inline const char *milchkompass_refusal_text(uint8_t refusal) {
     switch (refusal) {
     case MILCHKOMPASS_ACCEPTED: return "the call is accepted";
-    case MILCHKOMPASS_TABLE_LENGTH: return "table length wrong, or N not 1 to 64";
-    case MILCHKOMPASS_TABLE_CONTENT: return "main screen not below N, or a mode above 3";
-    case MILCHKOMPASS_NO_SUCH_SCREEN: return "start: B not below N";
-    case MILCHKOMPASS_OTHER_FLAG: return "start: a bit outside the seven";
-    case MILCHKOMPASS_IMAGE_TRAILER: return "restore: under 6 bytes, last two bytes not hex 06 42, 07 42 or 08 42, or length not L + 6";
-    case MILCHKOMPASS_IMAGE_TASKS: return "restore: n above 16, or the L bytes are not exactly n tasks of height 1 to 32";
-    case MILCHKOMPASS_IMAGE_UNSOUND: return "restore: the session read from the image is not sound under the table";
-    case MILCHKOMPASS_BUFFER_SHORT: return "save: buffer shorter than the image";
-    case MILCHKOMPASS_BAD_RECORD: return "player only: unknown kind, or a cut record";
-    case MILCHKOMPASS_SESSION_UNSOUND: return "the session is not sound under the table";
-    case MILCHKOMPASS_EMPTY: return "start, Back: empty";
-    case MILCHKOMPASS_NOT_EMPTY: return "launch: not empty";
-    case MILCHKOMPASS_TASKS_FULL: return "a new task is needed and n = 16";
-    case MILCHKOMPASS_TASK_FULL: return "a push onto a task of 32 (not after empty)";
-    case MILCHKOMPASS_NO_SUCH_EDITION: return "launch: edition not 0, 6, 7 or 8";
-    case MILCHKOMPASS_NOT_TALLIED: return "tally: a 65,536th call, an accepted height above 32, or a tally that no list of answers gives";
+    case MILCHKOMPASS_TABLE_LENGTH: return "the table's length does not fit its number of screens, or that is not 1 to 64";
+    case MILCHKOMPASS_TABLE_CONTENT: return "the table's main screen is not one of its screens, or a launch mode is not 0 to 3";
+    case MILCHKOMPASS_NO_SUCH_SCREEN: return "a start names a screen that the table does not have";
+    case MILCHKOMPASS_OTHER_FLAG: return "a start's flag word has a bit that is none of the seven flags";
+    case MILCHKOMPASS_IMAGE_TRAILER: return "what is restored is no image: too short, an end that is not an edition (6, 7 or 8) and hex 42, or a wrong length";
+    case MILCHKOMPASS_IMAGE_TASKS: return "the image has more than 16 tasks, or a task without a screen or with more than 32, or bytes too few or too many";
+    case MILCHKOMPASS_IMAGE_UNSOUND: return "the image holds a session that cannot be under this table, or an empty one of edition 6 or 7 or with the mark";
+    case MILCHKOMPASS_BUFFER_SHORT: return "the buffer for an image is too short";
+    case MILCHKOMPASS_BAD_RECORD: return "the record is of an unknown kind, or the recording ends within it";
+    case MILCHKOMPASS_SESSION_UNSOUND: return "the session cannot be under this table, its edition is none of 6, 7 and 8, its mark is above 1, or it is empty and has another edition than 8 or the mark";
+    case MILCHKOMPASS_EMPTY: return "a start or Back, and no task is there";
+    case MILCHKOMPASS_NOT_EMPTY: return "a launch, and a task is there";
+    case MILCHKOMPASS_TASKS_FULL: return "a new task is needed, and 16 stand";
+    case MILCHKOMPASS_TASK_FULL: return "a screen is to be pushed onto a task of 32";
+    case MILCHKOMPASS_NO_SUCH_EDITION: return "a launch names an edition that is none of 0, 6, 7 and 8";
+    case MILCHKOMPASS_NOT_TALLIED: return "library only, from a tally: it has 65,535 calls already, an accepted height is above 32, or no list of answers gives its numbers";
     default: return "no refusal of a call";
     }
 }

@@ -31,7 +31,7 @@ static void fresh_and_texts(void) {
     zeros.edition = E8;
     expect(same(fresh, zeros), "a fresh session is zeros and edition 8");
     expect(strcmp(milchkompass_refusal_text(MILCHKOMPASS_ACCEPTED), "the call is accepted") == 0, "the text of 0");
-    expect(strcmp(milchkompass_refusal_text(22), "launch: not empty") == 0, "the text of 22");
+    expect(strcmp(milchkompass_refusal_text(22), "a launch, and a task is there") == 0, "the text of 22");
     for (int i = 0; i < 256; i++) {
         bool known = i <= 9 || (20 <= i && i <= 24) || i == 30 || i == 31;
         bool named = strcmp(milchkompass_refusal_text((uint8_t)i), "no refusal of a call") != 0;

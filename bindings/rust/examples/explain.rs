@@ -5,26 +5,16 @@ use std::io::{self, Read, Write};
 
 use milchkompass::{Answer, Flags, Reason, Refusal, Session, Table};
 
-/// The player's own refusal, which no call has.
-const CUT: (u8, &str) = (9, "refusal 9: player only: unknown kind, or a cut record");
-
-/// Why a record is refused: its number, and the words for it.
-type Refused = (u8, String);
-
-fn refused(refusal: Refusal) -> Refused {
-    (refusal.number(), refusal.to_string())
-}
-
 /// What is told of a record: its answer, and its reason if it is a start.
 struct Told {
-    answer: Result<Answer, Refused>,
-    reason: Result<Reason, Refused>,
+    answer: Result<Answer, Refusal>,
+    reason: Result<Reason, Refusal>,
 }
 
 /// A record that is refused whatever the session is.
-fn all_refused(refusal: Refused) -> Told {
+fn all_refused(refusal: Refusal) -> Told {
     Told {
-        answer: Err(refusal.clone()),
+        answer: Err(refusal),
         reason: Err(refusal),
     }
 }
@@ -45,24 +35,21 @@ fn call(session: &mut Session, record: &[u8]) -> Told {
         4 => session.back(),
         _ => Ok(session.look()),
     };
-    Told {
-        answer: answer.map_err(refused),
-        reason: reason.map_err(refused),
-    }
+    Told { answer, reason }
 }
 
 /// A record under a table: 9 comes before the table's refusal.
 fn tell(session: &mut Result<Session, Refusal>, record: &[u8]) -> Told {
     if record.len() < 6 || !(1..=5).contains(&record[0]) {
-        return all_refused((CUT.0, CUT.1.to_string()));
+        return all_refused(Refusal::BadRecord);
     }
     match session {
-        Err(refusal) => all_refused(refused(*refusal)),
+        Err(refusal) => all_refused(*refusal),
         Ok(session) => call(session, record),
     }
 }
 
-fn line(kind: u8, answer: &Result<Answer, Refused>) -> String {
+fn line(kind: u8, answer: &Result<Answer, Refusal>) -> String {
     match answer {
         Ok(a) => format!(
             "{kind} 0 {} {} {} {} {} {} {} {}\n",
@@ -75,18 +62,18 @@ fn line(kind: u8, answer: &Result<Answer, Refused>) -> String {
             a.edition.number(),
             u8::from(a.no_history)
         ),
-        Err((number, _)) => format!("{kind} {number} 0 0 0 0 0 0 0 0\n"),
+        Err(refusal) => format!("{kind} {} 0 0 0 0 0 0 0 0\n", refusal.number()),
     }
 }
 
-fn reason_line(reason: &Result<Reason, Refused>) -> String {
+fn reason_line(reason: &Result<Reason, Refusal>) -> String {
     match reason {
         Ok(reason) => {
             let (place, by) = reason.found.map_or((0, 0), |f| (f.place, f.by as u8));
             let number = reason.rule.number();
             format!("  0 {number} {place} {by} {}\n", reason.rule)
         }
-        Err((number, words)) => format!("  {number} 0 0 0 {words}\n"),
+        Err(refusal) => format!("  {} 0 0 0 {refusal}\n", refusal.number()),
     }
 }
 

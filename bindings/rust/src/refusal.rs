@@ -31,22 +31,22 @@ macro_rules! refusals {
 }
 
 refusals! {
-    1 TableLength "table length wrong, or N not 1 to 64"
-    2 TableContent "main screen not below N, or a mode above 3"
-    3 NoSuchScreen "start: B not below N"
-    4 OtherFlag "start: a bit outside the seven"
-    5 ImageTrailer "restore: under 6 bytes, last two bytes not hex 06 42, 07 42 or 08 42, or length not L + 6"
-    6 ImageTasks "restore: n above 16, or the L bytes are not exactly n tasks of height 1 to 32"
-    7 ImageUnsound "restore: the session read from the image is not sound under the table"
-    8 BufferShort "save: buffer shorter than the image"
-    9 BadRecord "player only: unknown kind, or a cut record"
-    20 SessionUnsound "the session is not sound under the table"
-    21 Empty "start, Back: empty"
-    22 NotEmpty "launch: not empty"
-    23 TasksFull "a new task is needed and n = 16"
-    24 TaskFull "a push onto a task of 32 (not after empty)"
-    30 NoSuchEdition "launch: edition not 0, 6, 7 or 8"
-    31 NotTallied "tally: a 65,536th call, an accepted height above 32, or a tally that no list of answers gives"
+    1 TableLength "the table's length does not fit its number of screens, or that is not 1 to 64"
+    2 TableContent "the table's main screen is not one of its screens, or a launch mode is not 0 to 3"
+    3 NoSuchScreen "a start names a screen that the table does not have"
+    4 OtherFlag "a start's flag word has a bit that is none of the seven flags"
+    5 ImageTrailer "what is restored is no image: too short, an end that is not an edition (6, 7 or 8) and hex 42, or a wrong length"
+    6 ImageTasks "the image has more than 16 tasks, or a task without a screen or with more than 32, or bytes too few or too many"
+    7 ImageUnsound "the image holds a session that cannot be under this table, or an empty one of edition 6 or 7 or with the mark"
+    8 BufferShort "the buffer for an image is too short"
+    9 BadRecord "the record is of an unknown kind, or the recording ends within it"
+    20 SessionUnsound "the session cannot be under this table, its edition is none of 6, 7 and 8, its mark is above 1, or it is empty and has another edition than 8 or the mark"
+    21 Empty "a start or Back, and no task is there"
+    22 NotEmpty "a launch, and a task is there"
+    23 TasksFull "a new task is needed, and 16 stand"
+    24 TaskFull "a screen is to be pushed onto a task of 32"
+    30 NoSuchEdition "a launch names an edition that is none of 0, 6, 7 and 8"
+    31 NotTallied "library only, from a tally: it has 65,535 calls already, an accepted height is above 32, or no list of answers gives its numbers"
 }
 
 impl Refusal {

@@ -108,7 +108,7 @@ fn images() {
 #[test]
 fn errors() {
     let error: Box<dyn std::error::Error> = Box::new(Refusal::NotEmpty);
-    assert_eq!(error.to_string(), "refusal 22: launch: not empty");
+    assert_eq!(error.to_string(), "refusal 22: a launch, and a task is there");
     let numbers: Vec<u8> = Refusal::ALL.iter().map(|r| r.number()).collect();
     let known = [1, 2, 3, 4, 5, 6, 7, 8, 9, 20, 21, 22, 23, 24, 30, 31];
     assert_eq!(numbers, known);

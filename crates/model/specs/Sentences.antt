@@ -36,19 +36,19 @@ ruleSentences =
 unfoldable pub ruleSentence : ℕ → List ℕ
 ruleSentence n = ascii (getD ruleSentences n "")
 
--- the refusals of a start record, in the words of 01's table; no sentence for another number
+-- the refusals of a start record; no sentence for another number
 unfoldable pub refusalSentence : ℕ → List ℕ
 refusalSentence k =
     ascii (
-    if eqb k 1 then "refusal 1: table length wrong, or N not 1 to 64" else
-    if eqb k 2 then "refusal 2: main screen not below N, or a mode above 3" else
-    if eqb k 3 then "refusal 3: start: B not below N" else
-    if eqb k 4 then "refusal 4: start: a bit outside the seven" else
-    if eqb k 9 then "refusal 9: player only: unknown kind, or a cut record" else
-    if eqb k 20 then "refusal 20: the session is not sound under the table" else
-    if eqb k 21 then "refusal 21: start, Back: empty" else
-    if eqb k 23 then "refusal 23: a new task is needed and n = 16" else
-    if eqb k 24 then "refusal 24: a push onto a task of 32 (not after empty)" else ""
+    if eqb k 1 then "refusal 1: the table's length does not fit its number of screens, or that is not 1 to 64" else
+    if eqb k 2 then "refusal 2: the table's main screen is not one of its screens, or a launch mode is not 0 to 3" else
+    if eqb k 3 then "refusal 3: a start names a screen that the table does not have" else
+    if eqb k 4 then "refusal 4: a start's flag word has a bit that is none of the seven flags" else
+    if eqb k 9 then "refusal 9: the record is of an unknown kind, or the recording ends within it" else
+    if eqb k 20 then "refusal 20: the session cannot be under this table, its edition is none of 6, 7 and 8, its mark is above 1, or it is empty and has another edition than 8 or the mark" else
+    if eqb k 21 then "refusal 21: a start or Back, and no task is there" else
+    if eqb k 23 then "refusal 23: a new task is needed, and 16 stand" else
+    if eqb k 24 then "refusal 24: a screen is to be pushed onto a task of 32" else ""
     )
 
 -- why a start was refused, or what its rule did
@@ -57,4 +57,4 @@ sentenceOf r = if eqb (r .refusal) 0 then ruleSentence (r .rule) else refusalSen
 
 -- no sentence is longer
 abbrev pub longestSentence : ℕ
-longestSentence = 120
+longestSentence = 165

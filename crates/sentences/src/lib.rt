@@ -8,7 +8,7 @@ ghost use Rattle.model.specs.Written.{written};
 use model::Reason;
 
 // No sentence is longer.
-pub const LONGEST: usize = 120;
+pub const LONGEST: usize = 165;
 
 // ---- the rules
 
@@ -95,23 +95,28 @@ fn write_rule(out: &mut [u8], at: usize, rule: u8) -> usize
 
 // ---- the refusals
 
-const REFUSAL_1: [u8; 47] = *b"refusal 1: table length wrong, or N not 1 to 64";
+const REFUSAL_1: [u8; 88] =
+    *b"refusal 1: the table's length does not fit its number of screens, or that is not 1 to 64";
 
-const REFUSAL_2: [u8; 53] = *b"refusal 2: main screen not below N, or a mode above 3";
+const REFUSAL_2: [u8; 92] =
+    *b"refusal 2: the table's main screen is not one of its screens, or a launch mode is not 0 to 3";
 
-const REFUSAL_3: [u8; 31] = *b"refusal 3: start: B not below N";
+const REFUSAL_3: [u8; 62] = *b"refusal 3: a start names a screen that the table does not have";
 
-const REFUSAL_4: [u8; 41] = *b"refusal 4: start: a bit outside the seven";
+const REFUSAL_4: [u8; 72] =
+    *b"refusal 4: a start's flag word has a bit that is none of the seven flags";
 
-const REFUSAL_9: [u8; 53] = *b"refusal 9: player only: unknown kind, or a cut record";
+const REFUSAL_9: [u8; 76] =
+    *b"refusal 9: the record is of an unknown kind, or the recording ends within it";
 
-const REFUSAL_20: [u8; 52] = *b"refusal 20: the session is not sound under the table";
+const REFUSAL_20: [u8; 165] =
+    *b"refusal 20: the session cannot be under this table, its edition is none of 6, 7 and 8, its mark is above 1, or it is empty and has another edition than 8 or the mark";
 
-const REFUSAL_21: [u8; 30] = *b"refusal 21: start, Back: empty";
+const REFUSAL_21: [u8; 49] = *b"refusal 21: a start or Back, and no task is there";
 
-const REFUSAL_23: [u8; 43] = *b"refusal 23: a new task is needed and n = 16";
+const REFUSAL_23: [u8; 46] = *b"refusal 23: a new task is needed, and 16 stand";
 
-const REFUSAL_24: [u8; 54] = *b"refusal 24: a push onto a task of 32 (not after empty)";
+const REFUSAL_24: [u8; 54] = *b"refusal 24: a screen is to be pushed onto a task of 32";
 
 // Writes the sentence of a refusal that a start can have, and nothing for another number. Yields the place after it.
 fn write_refusal(out: &mut [u8], at: usize, refusal: u8) -> usize

@@ -1,13 +1,13 @@
 //! The C header and this crate declare what the library's source declares:
 //! the number of the interface and its row, each function, each struct that one
 //! of them names, the limits, the editions, the launch modes, the flags and
-//! their mask, the refusals by the sentences that the definitions quote, and the
-//! rules by their own.
+//! their mask. `texts` compares the texts of both.
 
 mod render;
 mod source;
+mod texts;
 
-use milchkompass::{Edition, Flags, LaunchMode, Refusal, Rule};
+use milchkompass::{Edition, Flags, LaunchMode};
 use source::read;
 
 /// Without white space and without a comma after the last of a list.
@@ -224,45 +224,4 @@ fn prefix() {
     for name in always.lines().filter_map(|l| l.strip_prefix("#define ")) {
         assert!(name.starts_with("MILCHKOMPASS_"), "{name}");
     }
-}
-
-/// The sentences of R1 to R18 are the definitions', in their order.
-#[test]
-fn rules() {
-    let sentences = read("crates/model/specs/Sentences.antt");
-    let (_, rest) = sentences
-        .split_once("ruleSentences =")
-        .expect("the sentences");
-    let (list, _) = rest.split_once("[]").expect("their end");
-    let defined: Vec<&str> = list.split('"').skip(1).step_by(2).collect();
-    let displayed: Vec<String> = Rule::ALL.iter().map(Rule::to_string).collect();
-    assert_eq!(defined[0], "");
-    assert_eq!(defined[1..], displayed);
-    for (i, rule) in Rule::ALL.iter().enumerate() {
-        assert_eq!(usize::from(rule.number()), i + 1);
-        assert_eq!(format!("{rule:?}"), format!("R{}", i + 1));
-        assert_eq!(Rule::try_from(rule.number()), Ok(*rule));
-    }
-    assert!(Rule::try_from(0).is_err() && Rule::try_from(19).is_err());
-}
-
-#[test]
-fn refusals() {
-    let (definitions, header) = (source::definitions(), header());
-    for refusal in Refusal::ALL {
-        let (number, text) = (refusal.number(), refusal.condition());
-        let quoted = format!("\"{number}: {text}\"");
-        assert!(definitions.contains(&quoted), "{quoted}");
-        let name = render::snake(&format!("{refusal:?}")).to_uppercase();
-        let declared = format!("MILCHKOMPASS_{name} = {number}");
-        let lines = header.lines().map(|l| l.trim().trim_end_matches(','));
-        assert_eq!(lines.filter(|l| *l == declared).count(), 1, "{declared}");
-        has_line(
-            &header,
-            &format!("case MILCHKOMPASS_{name}: return \"{text}\";"),
-        );
-    }
-    let with_accepted = Refusal::ALL.len() + 1;
-    assert_eq!(header.matches("case MILCHKOMPASS_").count(), with_accepted);
-    assert_eq!(names_of("refusal").matches(" = ").count(), with_accepted);
 }

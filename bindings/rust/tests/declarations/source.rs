@@ -27,16 +27,14 @@ pub fn read(relative: &str) -> String {
     fs::read_to_string(path(relative)).expect(relative)
 }
 
+/// The repository has this file.
+pub fn exists(relative: &str) -> bool {
+    path(relative).is_file()
+}
+
 fn entries(folder: &str) -> impl Iterator<Item = PathBuf> {
     let entries = fs::read_dir(path(folder)).expect(folder);
     entries.map(|entry| entry.expect("an entry").path())
-}
-
-/// The text of the definitions that quote refusals: the model's and the tally's.
-pub fn definitions() -> String {
-    let text = |file| fs::read_to_string(file).expect("a definition");
-    let folders = ["crates/model/specs", "crates/tally/specs"];
-    folders.into_iter().flat_map(entries).map(text).collect()
 }
 
 /// The text of all libraries; a program has no `lib.rt`.
