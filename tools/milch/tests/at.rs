@@ -26,7 +26,7 @@ fn the_sample() {
         Hist #1: 1 mode=standard\n    \
         Hist #0: 0 mode=standard\n";
     wrote(run(&["at", &sample, "4"]), text);
-    let text = "RECORD 8: back\n  refusal 21: start, Back: empty\n\
+    let text = "RECORD 8: back\n  refusal 21: a start or Back, and no task is there\n\
         STACKS: tasks=0 edition=8 mark=none\n";
     wrote(run(&["at", &sample, "8"]), text);
 }
@@ -37,7 +37,8 @@ fn names_modes_edition_and_mark() {
     let table = [3, 0, 1, 0, 3, 7, 0, 1];
     let records = [(1, 6, 0), (2, 1, 0x4000_0000), (2, 3, 0)];
     let bytes = recording(&table, &records);
-    let text = "RECORD 3: start 3\n  refusal 3: start: B not below N\n\
+    let text =
+        "RECORD 3: start 3\n  refusal 3: a start names a screen that the table does not have\n\
         STACKS: tasks=2 edition=6 mark=no-history\n  \
         Task #1: root=notice affinity=7 main=no screens=1\n    \
         Hist #0: notice mode=single-instance\n  \
@@ -55,6 +56,7 @@ fn records_that_are_not_there() {
     }
     let none = "milch: - has no record 1: it has none\n";
     failed(run_on(&["at", "-", "1"], TWO), none);
-    let table = "milch: - begins with no table: refusal 1: table length wrong, or N not 1 to 64\n";
+    let table = "milch: - begins with no table: refusal 1: the table's length does not fit its \
+                 number of screens, or that is not 1 to 64\n";
     failed(run_on(&["at", "-", "1"], &[]), table);
 }

@@ -132,12 +132,14 @@ fn what_cannot_be_told() {
         run(&["diff", &two, &bad]),
         "milch: the tables differ in the main screen\n",
     );
-    let content = "refusal 2: main screen not below N, or a mode above 3";
+    let content = "refusal 2: the table's main screen is not one of its screens, \
+                   or a launch mode is not 0 to 3";
     failed(
         run(&["diff", &bad, &bad]),
         &format!("milch: {bad}: {content}\n"),
     );
-    let length = "refusal 1: table length wrong, or N not 1 to 64";
+    let length = "refusal 1: the table's length does not fit its number of screens, \
+                  or that is not 1 to 64";
     failed(
         run(&["diff", &two, &none]),
         &format!("milch: {none}: {length}\n"),

@@ -13,7 +13,7 @@ const SAMPLE: [&str; 8] = [
     "     5  back                        *0:[1,0]  closed 1: 0  | 4 0 1 0 2 1 1 1 8 0\n",
     "     6  back                        *0:[0]  closed 1: 1  | 4 0 0 0 1 1 1 1 8 0\n",
     "     7  back                        empty  closed 1: 0  | 4 0 0 0 0 0 0 1 8 0\n",
-    "     8  back                        empty  refusal 21: start, Back: empty  \
+    "     8  back                        empty  refusal 21: a start or Back, and no task is there  \
      | 4 21 0 0 0 0 0 0 0 0\n",
 ];
 
@@ -60,8 +60,8 @@ fn no_record() {
 /// Where the player stops, its line in words.
 #[test]
 fn no_table() {
-    let line = "     0  no table  refusal 1: table length wrong, or N not 1 to 64  \
-                | 0 1 0 0 0 0 0 0 0 0\n";
+    let line = "     0  no table  refusal 1: the table's length does not fit its number of \
+                screens, or that is not 1 to 64  | 0 1 0 0 0 0 0 0 0 0\n";
     for bytes in [&[][..], &[0, 0], &[65], &[2, 0, 0, 1, 2], &TWO[..1]] {
         wrote(run_on(&["show", "-"], bytes), line);
     }
@@ -71,10 +71,11 @@ fn no_table() {
 #[test]
 fn a_refused_table() {
     let bytes = recording(&[1, 1, 0, 0], &[(1, 0, 0), (7, 0, 0)]);
-    let lines = "     1  launch                      empty  refusal 2: main screen not below N, \
-                 or a mode above 3  | 1 2 0 0 0 0 0 0 0 0\n     \
-                 2  unknown kind 7              empty  refusal 9: player only: unknown kind, \
-                 or a cut record  | 7 9 0 0 0 0 0 0 0 0\n";
+    let lines =
+        "     1  launch                      empty  refusal 2: the table's main screen is not \
+                 one of its screens, or a launch mode is not 0 to 3  | 1 2 0 0 0 0 0 0 0 0\n     \
+                 2  unknown kind 7              empty  refusal 9: the record is of an unknown \
+                 kind, or the recording ends within it  | 7 9 0 0 0 0 0 0 0 0\n";
     wrote(run_on(&["show", "-"], &bytes), lines);
 }
 
@@ -83,7 +84,7 @@ fn a_refused_table() {
 fn kind_6_and_a_cut_record() {
     let mut bytes = recording(TWO, &[(1, 0, 0), (6, 0, 6), (5, 0, 0)]);
     bytes.extend([4, 0]);
-    let nine = "refusal 9: player only: unknown kind, or a cut record  |";
+    let nine = "refusal 9: the record is of an unknown kind, or the recording ends within it  |";
     let lines = format!(
         "     1  launch                      *0:[0]  | 1 0 0 0 1 1 1 0 8 0\n     \
          2  unknown kind 6              *0:[0]  {nine} 6 9 0 0 0 0 0 0 0 0\n     \
@@ -105,7 +106,8 @@ fn no_history() {
          2  start 1 NO_HISTORY          1:[1] *0:[0]  no history  R6  | 2 0 1 1 1 2 2 0 8 1\n     \
          3  start 0 NEW_TASK            *0:[0,0]  closed 1: 1  R17, found at place 2 by root  \
          | 2 0 0 0 2 1 1 1 8 0\n     \
-         4  start 1 0x80000001          *0:[0,0]  refusal 4: start: a bit outside the seven  \
+         4  start 1 0x80000001          *0:[0,0]  refusal 4: a start's flag word has a bit \
+         that is none of the seven flags  \
          | 2 4 0 0 0 0 0 0 0 0\n";
     wrote(run_on(&["show", "-"], &recording(TWO, &records)), lines);
 }
@@ -126,10 +128,11 @@ fn editions() {
     let lines = "     1  launch edition 7            *0:[0]  edition 7  | 1 0 0 0 1 1 1 0 7 0\n     \
          2  start 1                     *0:[1,0]  edition 7  R10  | 2 0 1 0 2 1 1 0 7 0\n     \
          3  start 0 REORDER_TO_FRONT    *0:[0]  edition 7  closed 2: 1,0  R9  | 2 0 0 0 1 1 1 2 7 0\n     \
-         4  launch edition 5            *0:[0]  edition 7  refusal 22: launch: not empty  \
+         4  launch edition 5            *0:[0]  edition 7  refusal 22: a launch, and a task is there  \
          | 1 22 0 0 0 0 0 0 0 0\n     \
          5  back                        empty  closed 1: 0  | 4 0 0 0 0 0 0 1 8 0\n     \
-         6  launch edition 5            empty  refusal 30: launch: edition not 0, 6, 7 or 8  \
+         6  launch edition 5            empty  refusal 30: a launch names an edition \
+         that is none of 0, 6, 7 and 8  \
          | 1 30 0 0 0 0 0 0 0 0\n     \
          7  launch edition 6            *0:[0]  edition 6  | 1 0 0 0 1 1 1 0 6 0\n     \
          8  start 1 NEW_TASK            *0:[1,0]  edition 6  R17, found at place 1 by affinity  \
@@ -146,7 +149,7 @@ fn names() {
          2  start seat map              seat map:[seat map] *home:[home]  R6  \
          | 2 0 1 1 1 2 2 0 8 0\n     \
          3  start 9                     seat map:[seat map] *home:[home]  \
-         refusal 3: start: B not below N  | 2 3 0 0 0 0 0 0 0 0\n";
+         refusal 3: a start names a screen that the table does not have  | 2 3 0 0 0 0 0 0 0 0\n";
     wrote(run_on(&["show", "-", "--names", &names], &bytes), lines);
 }
 

@@ -86,7 +86,8 @@ impl Seen {
         let numbers: Result<Vec<u8>, _> = played.split(' ').map(str::parse).collect();
         let numbers = numbers.ok().filter(|numbers| numbers.len() == 10)?;
         if numbers[0] == 0 && numbers[1] == 1 {
-            let stopped = "     0  no table  refusal 1: table length wrong, or N not 1 to 64";
+            let stopped = "     0  no table  refusal 1: the table's length does not fit its \
+                           number of screens, or that is not 1 to 64";
             (shown == format!("{stopped}  | {played}")).then_some(())?;
         } else {
             let line = said::parts(shown)?;
