@@ -1,85 +1,139 @@
-//! What a command is given.
+//! What a command is given, by the first lines of its usage.
 
-/// A command's arguments, told apart.
+use std::ffi::{OsStr, OsString};
+
+use crate::synopsis::{self, Opt, Synopsis};
+
+/// A command's arguments, told apart. Names of files need not be text.
 #[derive(Debug, Default, PartialEq, Eq)]
 pub struct Arguments {
-    pub names: Option<String>,
-    pub out: Option<String>,
+    pub names: Option<OsString>,
+    pub out: Option<OsString>,
     pub from: Option<u64>,
     pub to: Option<u64>,
     pub refused: bool,
+    pub force: bool,
     /// The others, in their order.
-    pub plain: Vec<String>,
+    pub plain: Vec<OsString>,
 }
 
-/// Which options a command knows.
-fn knows(command: &str, option: &str) -> bool {
-    match option {
-        "--names" => matches!(command, "show" | "at" | "picture"),
-        "--from" | "--to" | "--refused" => command == "show",
-        "--out" => command == "picture",
-        _ => false,
+/// Reads a command's arguments by its usage, or says what is wrong with them.
+pub fn read(usage: &str, given: &[OsString]) -> Result<Arguments, String> {
+    let synopsis = synopsis::read(usage);
+    let (mut arguments, mut set) = (Arguments::default(), Vec::new());
+    let mut rest = given.iter();
+    while let Some(next) = rest.next() {
+        if next == "-" || !next.as_encoded_bytes().starts_with(b"-") {
+            arguments.add_plain(&synopsis, next)?;
+            continue;
+        }
+        let option = option_of(&synopsis, next)?;
+        if set.contains(&option.name) {
+            return Err(format!("{} is given twice", option.name));
+        }
+        set.push(option.name);
+        match option.value {
+            None => arguments.set_bare(option.name),
+            Some(kind) => arguments.set(option.name, kind, rest.next())?,
+        }
+    }
+    check_all(&synopsis, &arguments, &set)?;
+    Ok(arguments)
+}
+
+/// The option of this name, if the command knows it.
+fn option_of<'a>(synopsis: &Synopsis<'a>, name: &OsStr) -> Result<Opt<'a>, String> {
+    if name == "--help" || name == "-h" {
+        let name = name.to_string_lossy();
+        return Err(format!("{name} stands alone behind the command"));
+    }
+    let known = synopsis.options.iter().find(|option| name == option.name);
+    known
+        .copied()
+        .ok_or_else(|| format!("no option {} is known", name.to_string_lossy()))
+}
+
+impl Arguments {
+    fn add_plain(&mut self, synopsis: &Synopsis, given: &OsStr) -> Result<(), String> {
+        let Some(kind) = synopsis.wanted.get(self.plain.len()) else {
+            let given = given.to_string_lossy();
+            return Err(format!("'{given}' is one argument too many"));
+        };
+        match *kind {
+            "K" => drop(record_number(kind, given)?),
+            _ => drop(file_name(kind, given)?),
+        }
+        self.plain.push(given.to_os_string());
+        Ok(())
+    }
+
+    fn set_bare(&mut self, option: &str) {
+        match option {
+            "--refused" => self.refused = true,
+            _ => self.force = true,
+        }
+    }
+
+    fn set(&mut self, option: &str, kind: &str, value: Option<&OsString>) -> Result<(), String> {
+        let value = value.ok_or_else(|| format!("behind {option} {kind} is missing"))?;
+        match option {
+            "--from" => self.from = Some(record_number(option, value)?),
+            "--to" => self.to = Some(record_number(option, value)?),
+            "--names" => self.names = Some(file_name(option, value)?),
+            _ if value == "-" => return Err(format!("{option} - is no file to be written")),
+            _ => self.out = Some(file_name(option, value)?),
+        }
+        Ok(())
+    }
+
+    /// The number of a record that is given as such an argument.
+    pub fn number(&self, place: usize) -> Option<u64> {
+        let given = self.plain.get(place)?;
+        record_number("K", given).ok()
     }
 }
 
 /// The number of a record: 1 or more.
-pub fn record_number(text: &str) -> Option<u64> {
-    let digits = text.bytes().all(|c| c.is_ascii_digit());
-    let number = digits.then(|| text.parse().ok()).flatten();
-    number.filter(|number| *number > 0)
+fn record_number(what: &str, given: &OsStr) -> Result<u64, String> {
+    let text = given.to_string_lossy();
+    let digits = !text.is_empty() && text.bytes().all(|c| c.is_ascii_digit());
+    if !digits || text.bytes().all(|c| c == b'0') {
+        let first = "is no record's number, of which the first is 1";
+        return Err(format!("{what} '{text}' {first}"));
+    }
+    let too_large = |_| format!("{what} '{text}' is beyond the last record of any recording");
+    text.parse().map_err(too_large)
 }
 
-/// Sets an option that was not set before.
-fn set<T>(option: &mut Option<T>, value: Option<T>) -> Option<()> {
-    match option.is_none() && value.is_some() {
-        true => *option = value,
-        false => return None,
+fn file_name(what: &str, given: &OsStr) -> Result<OsString, String> {
+    match given.is_empty() {
+        true => Err(format!("{what} is an empty name")),
+        false => Ok(given.to_os_string()),
     }
-    Some(())
 }
 
-/// Reads a command's arguments, or gives none where they are not what it takes.
-pub fn read(command: &str, given: &[String]) -> Option<Arguments> {
-    let mut arguments = Arguments::default();
-    let mut rest = given.iter();
-    while let Some(next) = rest.next() {
-        if next == "-" || !next.starts_with('-') {
-            arguments.plain.push(next.clone());
-            continue;
-        }
-        if !knows(command, next) {
-            return None;
-        }
-        match next.as_str() {
-            "--refused" if arguments.refused => return None,
-            "--refused" => arguments.refused = true,
-            "--names" => set(&mut arguments.names, rest.next().cloned())?,
-            "--out" => set(&mut arguments.out, rest.next().cloned())?,
-            "--from" => set(&mut arguments.from, record_number(rest.next()?))?,
-            _ => set(&mut arguments.to, record_number(rest.next()?))?,
+/// Nothing is missing, and what is given goes together.
+fn check_all(synopsis: &Synopsis, given: &Arguments, set: &[&str]) -> Result<(), String> {
+    if let Some(missing) = synopsis.wanted.get(given.plain.len()) {
+        return Err(format!("{missing} is missing"));
+    }
+    for option in synopsis.options.iter().filter(|option| option.due) {
+        if !set.contains(&option.name) {
+            let (name, value) = (option.name, option.value.unwrap_or_default());
+            return Err(format!("{name} {value} is missing"));
         }
     }
-    arguments.fits(command).then_some(arguments)
-}
-
-impl Arguments {
-    fn fits(&self, command: &str) -> bool {
-        let count = match command {
-            "at" | "diff" => 2,
-            _ => 1,
-        };
-        let named = self.plain.iter().chain(&self.names).chain(&self.out);
-        let files = self.plain.iter().chain(&self.names);
-        let apart = files.filter(|name| *name == "-").count() <= 1;
-        let ordered = self.from.is_none() || self.to.is_none() || self.from <= self.to;
-        let number = command != "at"
-            || self
-                .plain
-                .get(1)
-                .is_some_and(|k| record_number(k).is_some());
-        let out = (command == "picture") == self.out.is_some();
-        let out = out && self.out.as_deref() != Some("-");
-        let mut named = named.map(String::as_str);
-        self.plain.len() == count && apart && ordered && number && out && !named.any(str::is_empty)
+    if let (Some(from), Some(to)) = (given.from, given.to) {
+        if to < from {
+            return Err(format!("--to {to} is before --from {from}"));
+        }
     }
+    if given.force && given.out.is_none() {
+        return Err("--force is there for --out, which is missing".to_string());
+    }
+    let read = given.plain.iter().chain(&given.names);
+    if read.filter(|name| *name == "-").count() > 1 {
+        return Err("standard input can be read once only".to_string());
+    }
+    Ok(())
 }

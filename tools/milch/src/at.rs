@@ -3,31 +3,22 @@
 
 use std::fmt::Write;
 
-use milchkompass::Replay;
-
-use crate::failure::{said, Outcome};
+use crate::failure::Outcome;
 use crate::input::Input;
-use crate::moments::{moment, play, screens};
+use crate::moments::{moment, play, screens, skip};
 use crate::names::Names;
-use crate::opening::{self, Opening};
+use crate::opening;
 use crate::picture::{Moment, ScreenRow, TaskView};
-use crate::progress::Progress;
 use crate::show::no_record;
 use crate::words::Reading;
 use crate::RECORD;
 
 /// What stands after record `asked`.
 pub fn at(input: &mut Input, asked: u64, names: &Names) -> Outcome<String> {
-    let mut replay = match opening::read(input)? {
-        Opening::Stopped(played) => {
-            let words = played.refusal().map_or(String::new(), |r| r.to_string());
-            return said(format!("{} begins with no table: {words}", input.name()));
-        }
-        Opening::Table(replay) => replay,
-    };
+    let mut replay = opening::read_table(input)?;
     let rows = screens(&replay, names);
     names.check(rows.len())?;
-    skip(input, &mut replay, asked - 1, asked)?;
+    skip(input, &mut replay, asked)?;
     let mut text = String::new();
     let bytes = input.peek(RECORD)?;
     if bytes.is_empty() {
@@ -39,21 +30,6 @@ pub fn at(input: &mut Input, asked: u64, names: &Names) -> Outcome<String> {
     Ok(text)
 }
 
-/// Plays so many records.
-fn skip(input: &mut Input, replay: &mut Replay, records: u64, asked: u64) -> Outcome {
-    let mut progress = Progress::new("records", false);
-    for done in 0..records {
-        let bytes = input.peek(RECORD)?;
-        if bytes.is_empty() {
-            return no_record(input.name(), asked, done);
-        }
-        let used = replay.next(bytes).used();
-        input.take(used);
-        progress.at(done + 1);
-    }
-    Ok(())
-}
-
 /// The text of a moment.
 pub fn describe(rows: &[ScreenRow], moment: &Moment) -> String {
     let mut text = format!("RECORD {}: {}\n", moment.number, moment.call);
@@ -62,7 +38,11 @@ pub fn describe(rows: &[ScreenRow], moment: &Moment) -> String {
         text += &format!("  {told}\n");
     }
     if moment.closed > 0 {
-        text += &format!("  closed {}\n", moment.closed);
+        text += &format!(
+            "  closed {}: {}\n",
+            moment.closed,
+            listed(rows, &moment.gone)
+        );
     }
     text + &describe_stacks(rows, moment)
 }
@@ -97,6 +77,12 @@ fn describe_task(text: &mut String, rows: &[ScreenRow], place: usize, task: &Tas
         let name = shown(rows, *screen);
         let _ = writeln!(text, "    Hist #{from_bottom}: {name} mode={mode}");
     }
+}
+
+/// Screens as `show` lists them.
+pub fn listed(rows: &[ScreenRow], screens: &[u8]) -> String {
+    let screens = screens.iter().map(|screen| shown(rows, *screen));
+    screens.collect::<Vec<_>>().join(",")
 }
 
 /// A screen by its name, or its number.

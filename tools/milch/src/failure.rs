@@ -1,6 +1,6 @@
-//! Why a command ends without having done all.
+//! Why a command ends without having done all, and what it warns of.
 
-use std::io;
+use std::io::{self, Write};
 
 /// What a command comes to.
 pub type Outcome<T = ()> = Result<T, Failure>;
@@ -16,6 +16,11 @@ pub enum Failure {
 /// A failure with this message.
 pub fn said<T>(message: impl Into<String>) -> Outcome<T> {
     Err(Failure::Said(message.into()))
+}
+
+/// Warns of something that is no failure.
+pub fn warn(message: &str) {
+    let _ = writeln!(io::stderr(), "milch: warning: {message}");
 }
 
 /// What the system says of an error, without its number.

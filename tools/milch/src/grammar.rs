@@ -1,9 +1,11 @@
 //! The text of a recording, back to bytes: what `text` writes, and what a person
-//! writes like it. A `#` begins a comment, and lines may be empty.
+//! writes like it. A `#` begins a comment, and lines may be empty. A screen stands
+//! there by its number or by its name.
 
 use milchkompass::Flags;
 
 use crate::cursor::{Cursor, Word, Wrong};
+use crate::names::Names;
 use crate::progress::Progress;
 
 /// The most screens of a table.
@@ -22,15 +24,18 @@ enum Next {
     Record,
 }
 
-struct Reader {
+struct Reader<'a> {
+    names: &'a Names,
     bytes: Vec<u8>,
     next: Next,
     screens: usize,
 }
 
 /// The bytes of a text.
-pub fn bytes_of(text: &str) -> Result<Vec<u8>, Wrong> {
+pub fn bytes_of(text: &str, names: &Names) -> Result<Vec<u8>, Wrong> {
+    let text = text.strip_prefix('\u{feff}').unwrap_or(text);
     let mut reader = Reader {
+        names,
         bytes: Vec::new(),
         next: Next::Table,
         screens: 0,
@@ -53,9 +58,9 @@ pub fn bytes_of(text: &str) -> Result<Vec<u8>, Wrong> {
 }
 
 /// The bytes of a text that is given as bytes.
-pub fn bytes_of_file(text: &[u8]) -> Result<Vec<u8>, Wrong> {
+pub fn bytes_of_file(text: &[u8], names: &Names) -> Result<Vec<u8>, Wrong> {
     let text = match std::str::from_utf8(text) {
-        Ok(text) => return bytes_of(text),
+        Ok(text) => return bytes_of(text, names),
         Err(error) => String::from_utf8_lossy(&text[..error.valid_up_to()]).into_owned(),
     };
     let last = text.rsplit('\n').next().unwrap_or_default();
@@ -67,7 +72,7 @@ pub fn bytes_of_file(text: &[u8]) -> Result<Vec<u8>, Wrong> {
     })
 }
 
-impl Reader {
+impl Reader<'_> {
     fn line(&mut self, cursor: &mut Cursor, word: Word) -> Result<(), Wrong> {
         match (self.next, word.text) {
             (Next::Table, "table") => self.table(cursor),
@@ -84,7 +89,7 @@ impl Reader {
     /// The number of screens comes first, and is counted.
     fn table(&mut self, cursor: &mut Cursor) -> Result<(), Wrong> {
         cursor.keyword("main")?;
-        let main = cursor.byte("the main screen")?;
+        let main = self.screen_of(cursor, "the main screen")?;
         cursor.end()?;
         self.bytes = vec![0, main];
         self.next = Next::Screen;
@@ -98,7 +103,10 @@ impl Reader {
                 "no further screen: a table has 64 at most",
             ));
         }
-        cursor.keyword(&self.screens.to_string())?;
+        let screen = self.screens as u8;
+        if !cursor.takes(&self.names.shown(screen)) {
+            cursor.keyword(&screen.to_string())?;
+        }
         let mode = mode(cursor)?;
         cursor.keyword("affinity")?;
         let affinity = cursor.byte("an affinity")?;
@@ -133,7 +141,7 @@ impl Reader {
     }
 
     fn start(&mut self, cursor: &mut Cursor, kind: u8) -> Result<(), Wrong> {
-        let screen = cursor.byte("a screen")?;
+        let screen = self.screen_of(cursor, "a screen")?;
         let word = match cursor.word() {
             Some(word) => flags(cursor, word)?,
             None => 0,
@@ -142,6 +150,20 @@ impl Reader {
         self.bytes.extend([kind, screen]);
         self.bytes.extend(word.to_be_bytes());
         Ok(())
+    }
+
+    /// A screen by its name or its number.
+    fn screen_of(&self, cursor: &mut Cursor, what: &str) -> Result<u8, Wrong> {
+        let mut ahead = cursor.clone();
+        let word = ahead.word();
+        if let Some(screen) = word.and_then(|word| self.names.screen(word.text)) {
+            *cursor = ahead;
+            return Ok(screen);
+        }
+        match self.names.are_given() {
+            true => cursor.byte(&format!("{what} by its name, or by its number")),
+            false => cursor.byte(what),
+        }
     }
 
     fn bare(&mut self, cursor: &mut Cursor, kind: u8) -> Result<(), Wrong> {

@@ -1,5 +1,6 @@
 //! Input that is read in blocks.
 
+use std::ffi::OsStr;
 use std::fs::File;
 use std::io::{self, ErrorKind, Read};
 
@@ -19,11 +20,12 @@ pub struct Input {
 }
 
 /// Opens a file for reading, or standard input where its name is `-`.
-pub fn open_file(name: &str) -> Outcome<Box<dyn Read + Send>> {
-    if name == "-" {
+pub fn open_file(file: &OsStr) -> Outcome<Box<dyn Read + Send>> {
+    if file == "-" {
         return Ok(Box::new(io::stdin()));
     }
-    let file = match File::open(name) {
+    let name = file.to_string_lossy();
+    let file = match File::open(file) {
         Ok(file) => file,
         Err(error) if error.kind() == ErrorKind::NotFound => {
             return said(format!("{name}: no such file"));
@@ -37,18 +39,22 @@ pub fn open_file(name: &str) -> Outcome<Box<dyn Read + Send>> {
 }
 
 /// All bytes of a file.
-pub fn read_whole(name: &str) -> Outcome<Vec<u8>> {
+pub fn read_whole(file: &OsStr) -> Outcome<Vec<u8>> {
     let mut bytes = Vec::new();
-    match open_file(name)?.read_to_end(&mut bytes) {
+    match open_file(file)?.read_to_end(&mut bytes) {
         Ok(_) => Ok(bytes),
-        Err(error) => said(format!("{name}: {}", reason(&error))),
+        Err(error) => said(format!("{}: {}", file.to_string_lossy(), reason(&error))),
     }
 }
 
 impl Input {
     /// Opens a file, or standard input where its name is `-`.
-    pub fn open(name: &str) -> Outcome<Input> {
-        Ok(Input::over(name, open_file(name)?, BLOCK))
+    pub fn open(file: &OsStr) -> Outcome<Input> {
+        Ok(Input::over(
+            &file.to_string_lossy(),
+            open_file(file)?,
+            BLOCK,
+        ))
     }
 
     /// What this reader gives, in blocks of this length.

@@ -4,18 +4,19 @@
 //! Everything known of tasks is asked of the proved library through the crate
 //! `milchkompass`. What stands here reads and writes files, and finds words.
 //!
-//! - `arguments`, `usage`: what a command is given, and its help
-//! - `failure`: why a command ends without having done all
+//! - `arguments`, `synopsis`, `usage`: what a command is given, and its help
+//! - `failure`: why a command ends without having done all, and what it warns of
+//! - `memory`: where that ends
 //! - `input`, `output`, `progress`: blocks in, blocks out, how far it is
 //! - `opening`: the table at the start of a recording
 //! - `names`: screens by name
 //! - `words`: a record's call in words; `line`: the line of `show`; `pen`: quick
 //!   writing
-//! - `show`, `at`, `diff`: the commands of these names
+//! - `show`, `at`, `diff`: the commands of these names; `side`: one of two recordings
 //! - `batches`: records that are played in one thread and shown in another
 //! - `moments`: what `at` and `picture` are told of a record
 //! - `text`: a recording as text; `grammar`, `cursor`: and back
-//! - `picture`: the page; `page_file`: where it is written
+//! - `picture`: the page; `whole_file`: where it is written
 //! - `closed`: which screens a record closed
 
 pub mod arguments;
@@ -28,17 +29,20 @@ pub mod failure;
 pub mod grammar;
 pub mod input;
 pub mod line;
+pub mod memory;
 pub mod moments;
 pub mod names;
 pub mod opening;
 pub mod output;
-pub mod page_file;
 pub mod pen;
 pub mod picture;
 pub mod progress;
 pub mod show;
+mod side;
+mod synopsis;
 pub mod text;
 pub mod usage;
+pub mod whole_file;
 pub mod words;
 
 /// The length of a record: kind, screen, flag word.

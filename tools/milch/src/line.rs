@@ -8,7 +8,7 @@
 //! with a star on the main one, then what there is to tell, and behind the last
 //! ` | ` the player's line.
 
-use milchkompass::{Edition, FoundBy, Played, Reason, Replay};
+use milchkompass::{Edition, FoundBy, Played, Reason, Refusal, Replay};
 
 use crate::closed;
 use crate::names::Names;
@@ -39,10 +39,34 @@ pub struct Shown<'a> {
     pub reason: Option<Reason>,
 }
 
+impl Shown<'_> {
+    /// Whether a start closed its caller, since that leaves no history. Only by R7
+    /// it does not, which closes nothing.
+    pub fn caller_closed(&self) -> bool {
+        self.record[0] == 2 && self.before.no_history() && self.played.closed() > 0
+    }
+
+    /// Whether the task that was found for a start is gone: it was the caller's,
+    /// which stood there alone and closed.
+    pub fn found_task_went(&self) -> bool {
+        let found = self.reason.and_then(|reason| reason.found);
+        let front = found.is_some_and(|found| found.place == 1);
+        front && self.after.tasks().len() < self.before.tasks().len()
+    }
+
+    /// The screens that closed, in the order of those that stood.
+    pub fn gone(&self) -> Vec<u8> {
+        let (before, after) = (standing(self.before), standing(self.after));
+        closed::screens(before, after, self.record[1], self.played.closed())
+    }
+}
+
 /// Writes lines.
 pub struct Lines<'a> {
     names: &'a Names,
     calls: Calls<'a>,
+    /// The words of each refusal, by its number.
+    refusals: Vec<String>,
     line: Vec<u8>,
 }
 
@@ -51,9 +75,11 @@ impl<'a> Lines<'a> {
         // Each screen has a comma or a space, and each task a star, a colon and two
         // brackets.
         let screens = SCREENS * (names.longest() + 4);
+        let words = |number| Refusal::try_from(number).map_or(String::new(), |r| r.to_string());
         Lines {
             names,
             calls: Calls::new(names),
+            refusals: (0..=u8::MAX).map(words).collect(),
             line: vec![0; LONGEST + screens + SPARE],
         }
     }
@@ -71,7 +97,7 @@ impl<'a> Lines<'a> {
         if shown.played.closed() > 0 {
             write_closed(&mut pen, shown, self.names);
         }
-        write_told(&mut pen, shown.played, shown.reason);
+        write_told(&mut pen, shown.played, shown.reason, &self.refusals);
         write_player(&mut pen, shown.record[0], shown.played);
         pen.put(b"\n");
         let end = pen.at();
@@ -83,7 +109,7 @@ impl<'a> Lines<'a> {
         let mut pen = Pen::new(&mut self.line);
         pen.number(0, NUMBER);
         pen.put(b"  no table");
-        write_told(&mut pen, played, None);
+        write_told(&mut pen, played, None, &self.refusals);
         write_player(&mut pen, 0, played);
         pen.put(b"\n");
         let end = pen.at();
@@ -122,17 +148,18 @@ fn write_stacks(pen: &mut Pen, replay: &Replay, names: &Names) {
     }
 }
 
-/// Adds how many screens closed, and which.
+/// Adds how many screens closed, and which, and whether the caller did.
 fn write_closed(pen: &mut Pen, shown: &Shown, names: &Names) {
-    let closed = shown.played.closed();
     pen.put(b"  closed ");
-    pen.byte(closed);
+    pen.byte(shown.played.closed());
     pen.put(b": ");
-    let (before, after) = (standing(shown.before), standing(shown.after));
-    for screen in closed::screens(before, after, shown.record[1], closed) {
+    for screen in shown.gone() {
         names.write_listed(pen, screen);
     }
     pen.back();
+    if shown.caller_closed() {
+        pen.put(b"  the caller closed");
+    }
 }
 
 /// The screens that stand, front first.
@@ -143,12 +170,10 @@ fn standing(replay: &Replay) -> impl Iterator<Item = u8> + Clone + '_ {
 
 /// Adds the rule and how the task was found, or the refusal.
 #[inline(always)]
-fn write_told(pen: &mut Pen, played: Played, reason: Option<Reason>) {
+fn write_told(pen: &mut Pen, played: Played, reason: Option<Reason>, refusals: &[String]) {
     if let Some(refusal) = played.refusal() {
-        pen.put(b"  refusal ");
-        pen.byte(refusal.number());
-        pen.put(b": ");
-        return pen.long(refusal.condition());
+        pen.put(b"  ");
+        return pen.long(&refusals[usize::from(refusal.number())]);
     }
     if let Some(reason) = reason {
         pen.put(b"  ");

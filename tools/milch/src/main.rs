@@ -1,16 +1,22 @@
 //! `./milch`: what a support agent sees of a recording.
 
+use std::ffi::{OsStr, OsString};
 use std::io::{self, Write};
 use std::path::Path;
 use std::process::ExitCode;
 
-use milch::arguments::{self, record_number, Arguments};
-use milch::failure::{reason, said, Failure, Outcome};
+use milch::arguments::{self, Arguments};
+use milch::failure::{said, warn, Failure, Outcome};
 use milch::input::{read_whole, Input};
+use milch::memory::Memory;
 use milch::names::Names;
+use milch::opening::{self, Opening};
 use milch::output::Output;
 use milch::show::{self, Wanted};
-use milch::{at, diff, grammar, moments, page_file, text, usage};
+use milch::{at, diff, grammar, moments, picture, text, usage, whole_file};
+
+#[global_allocator]
+static MEMORY: Memory = Memory;
 
 /// Something differs.
 const DIFFERS: u8 = 1;
@@ -18,11 +24,15 @@ const DIFFERS: u8 = 1;
 const FAILED: u8 = 2;
 
 fn main() -> ExitCode {
-    let status = given().and_then(|given| match given.split_first() {
-        Some((help, [])) if help == "--help" => print(usage::WHOLE.as_bytes()).map(|()| 0),
+    let given: Vec<OsString> = std::env::args_os().skip(1).collect();
+    let status = match given.split_first() {
+        Some((help, [])) if is_help(help) => print(usage::WHOLE.as_bytes()).map(|()| 0),
         Some((command, rest)) => run(command, rest),
-        None => refuse(usage::WHOLE),
-    });
+        None => {
+            let _ = io::stderr().write_all(usage::WHOLE.as_bytes());
+            Ok(FAILED)
+        }
+    };
     match status {
         Ok(status) => ExitCode::from(status),
         // Where nobody reads on, what is left to say is not missed.
@@ -34,36 +44,31 @@ fn main() -> ExitCode {
     }
 }
 
-/// The arguments, if they are text.
-fn given() -> Outcome<Vec<String>> {
-    let text = std::env::args_os().skip(1).map(|given| given.into_string());
-    let text: Result<Vec<String>, _> = text.collect();
-    text.or_else(|given| said(format!("{} is not UTF-8 text", given.to_string_lossy())))
+fn is_help(given: &OsStr) -> bool {
+    given == "--help" || given == "-h"
 }
 
-fn run(command: &str, given: &[String]) -> Outcome<u8> {
-    let Some(help) = usage::of(command) else {
-        return refuse(usage::WHOLE);
+fn run(command: &OsStr, given: &[OsString]) -> Outcome<u8> {
+    let name = command.to_string_lossy();
+    let Some(help) = usage::of(&name) else {
+        let more = "'./milch --help' says what it takes";
+        return said(format!("no command '{name}' is known; {more}"));
     };
-    if given == ["--help"] {
+    if matches!(given, [help] if is_help(help)) {
         return print(help.as_bytes()).map(|()| 0);
     }
-    let Some(arguments) = arguments::read(command, given) else {
-        return refuse(help);
-    };
-    match command {
+    let arguments = arguments::read(help, given).or_else(|wrong| {
+        let more = format!("'./milch {name} --help' says what it takes");
+        said(format!("{name}: {wrong}; {more}"))
+    })?;
+    match &*name {
         "show" => show(&arguments),
         "at" => at(&arguments),
-        "text" => write_text(&arguments.plain[0]),
-        "bytes" => write_bytes(&arguments.plain[0]),
-        "diff" => compare(&arguments.plain[0], &arguments.plain[1]),
+        "text" => write_text(&arguments),
+        "bytes" => write_bytes(&arguments),
+        "diff" => compare(&arguments),
         _ => draw(&arguments),
     }
-}
-
-fn refuse(usage: &str) -> Outcome<u8> {
-    let _ = io::stderr().write_all(usage.as_bytes());
-    Ok(FAILED)
 }
 
 fn print(bytes: &[u8]) -> Outcome {
@@ -81,17 +86,20 @@ fn print_whole(bytes: &[u8]) -> Outcome {
     }
 }
 
-fn show(arguments: &Arguments) -> Outcome<u8> {
-    let names = Names::open(arguments.names.as_deref())?;
-    let mut input = Input::open(&arguments.plain[0])?;
-    let wanted = Wanted {
+fn wanted(arguments: &Arguments) -> Wanted {
+    Wanted {
         from: arguments.from,
         to: arguments.to,
         refused: arguments.refused,
-    };
+    }
+}
+
+fn show(arguments: &Arguments) -> Outcome<u8> {
+    let names = Names::open(arguments.names.as_deref())?;
+    let mut input = Input::open(&arguments.plain[0])?;
     let mut stdout = io::stdout().lock();
     let mut out = Output::new(&mut stdout);
-    let shown = show::show(&mut input, &names, &wanted, &mut out);
+    let shown = show::show(&mut input, &names, &wanted(arguments), &mut out);
     out.finish()?;
     shown.map(|()| 0)
 }
@@ -99,49 +107,77 @@ fn show(arguments: &Arguments) -> Outcome<u8> {
 fn at(arguments: &Arguments) -> Outcome<u8> {
     let names = Names::open(arguments.names.as_deref())?;
     let mut input = Input::open(&arguments.plain[0])?;
-    let asked = record_number(&arguments.plain[1]).unwrap_or(1);
+    let asked = arguments.number(1).unwrap_or(1);
     let text = at::at(&mut input, asked, &names)?;
     print(text.as_bytes()).map(|()| 0)
 }
 
-fn write_text(file: &str) -> Outcome<u8> {
-    let mut input = Input::open(file)?;
+fn write_text(arguments: &Arguments) -> Outcome<u8> {
+    let names = Names::open(arguments.names.as_deref())?;
+    let mut input = Input::open(&arguments.plain[0])?;
     let mut stdout = io::stdout().lock();
     let mut out = Output::new(&mut stdout);
-    let written = text::write(&mut input, &mut out);
+    let written = text::write(&mut input, &names, &mut out);
     out.finish()?;
     written.map(|()| 0)
 }
 
-fn write_bytes(file: &str) -> Outcome<u8> {
-    match grammar::bytes_of_file(&read_whole(file)?) {
-        Ok(bytes) => print_whole(&bytes).map(|()| 0),
-        Err(wrong) => said(format!("{file}:{wrong}")),
+fn write_bytes(arguments: &Arguments) -> Outcome<u8> {
+    check_out(arguments, |_| false, "")?;
+    let names = Names::open(arguments.names.as_deref())?;
+    let file = &arguments.plain[0];
+    let bytes = match grammar::bytes_of_file(&read_whole(file)?, &names) {
+        Ok(bytes) => bytes,
+        Err(wrong) => return said(format!("{}:{wrong}", file.to_string_lossy())),
+    };
+    names.check(match opening::begin(&bytes) {
+        Opening::Table(replay) => replay.rows().len(),
+        Opening::Stopped(_) => 0,
+    })?;
+    match &arguments.out {
+        Some(out) => whole_file::write(out, &bytes)?,
+        None => print_whole(&bytes)?,
+    }
+    Ok(0)
+}
+
+/// What is read is never written over, and what is there only where it may be.
+fn check_out(arguments: &Arguments, own: impl Fn(&[u8]) -> bool, what: &str) -> Outcome {
+    let Some(out) = arguments.out.as_deref() else {
+        return Ok(());
+    };
+    let mut read = arguments.names.iter().chain(&arguments.plain);
+    if read.any(|read| whole_file::is_one_file(read, out)) {
+        return said(format!("{} is read, and stays", out.to_string_lossy()));
+    }
+    match arguments.force {
+        true => Ok(()),
+        false => whole_file::check_free(out, own, what),
     }
 }
 
-fn compare(first: &str, second: &str) -> Outcome<u8> {
+fn compare(arguments: &Arguments) -> Outcome<u8> {
+    let names = Names::open(arguments.names.as_deref())?;
+    let (first, second) = (&arguments.plain[0], &arguments.plain[1]);
     let (one, other) = (read_whole(first)?, read_whole(second)?);
-    let compared = diff::diff((first, &one), (second, &other))?;
+    let (first, second) = (first.to_string_lossy(), second.to_string_lossy());
+    let compared = diff::diff((&first, &one), (&second, &other), &names)?;
+    compared.warnings.iter().for_each(|warning| warn(warning));
     print_whole(compared.text.as_bytes())?;
     Ok(if compared.alike { 0 } else { DIFFERS })
 }
 
 fn draw(arguments: &Arguments) -> Outcome<u8> {
+    check_out(arguments, picture::is_page, ", and is no page of a picture")?;
     let names = Names::open(arguments.names.as_deref())?;
     let file = &arguments.plain[0];
-    let page = arguments.out.as_deref().unwrap_or_default();
-    let mut read = arguments.names.iter().chain([file]);
-    if read.any(|read| page_file::is_one_file(read, page)) {
-        return said(format!("{page} is read for the picture, and stays"));
-    }
     let mut input = Input::open(file)?;
-    let file = if file == "-" { "standard input" } else { file };
-    let name = Path::new(file).file_name();
-    let title = name.map_or(file.to_string(), |name| name.to_string_lossy().into_owned());
-    let book = moments::book(&mut input, &names, &title)?;
-    match page_file::write(page, &book) {
-        Ok(()) => Ok(0),
-        Err(error) => said(format!("{page}: {}", reason(&error))),
-    }
+    let title = match Path::new(file).file_name() {
+        _ if file == "-" => "standard input".into(),
+        Some(name) => name.to_string_lossy(),
+        None => file.to_string_lossy(),
+    };
+    let book = moments::book(&mut input, &names, &title, &wanted(arguments))?;
+    let out = arguments.out.as_deref().unwrap_or_default();
+    whole_file::write(out, &picture::page(&book)).map(|()| 0)
 }

@@ -1,14 +1,15 @@
 //! What `at`, `diff` and `picture` are told of a record.
 
-use milchkompass::{Played, Reason, Replay};
+use milchkompass::{Reason, Replay};
 
 use crate::failure::{said, Outcome};
 use crate::input::Input;
 use crate::line::{rule_words, Shown};
 use crate::names::Names;
-use crate::opening::{self, Opening};
+use crate::opening;
 use crate::picture::{Book, Moment, ScreenRow, TaskView};
 use crate::progress::Progress;
+use crate::show::{no_record, Wanted};
 use crate::words::{mode_words, start_of, Calls, Reading};
 use crate::RECORD;
 
@@ -28,27 +29,58 @@ pub fn screens(replay: &Replay, names: &Names) -> Vec<ScreenRow> {
 
 /// A record, and what stands after it.
 pub fn moment(number: u64, shown: &Shown, names: &Names) -> Moment {
-    let tasks = shown.after.tasks().map(|task| TaskView {
-        root: task.root,
-        screens: task.screens.iter().rev().copied().collect(),
-    });
+    let reason = shown.reason;
     Moment {
         number,
         call: Calls::new(names).text(shown.record, shown.reading),
         refusal: shown.played.refusal().map(|refusal| refusal.to_string()),
-        reason: shown.reason.map_or(String::new(), reason_words),
-        rule: shown.reason.map_or(0, |reason| reason.rule.number()),
+        reason: reason.map_or(String::new(), |reason| reason_words(shown, reason)),
+        rule: reason.map_or(0, |reason| reason.rule.number()),
         closed: shown.played.closed(),
-        tasks: tasks.collect(),
+        gone: gone(shown),
+        tasks: tasks(shown.after),
         main: shown.after.main_place(),
         edition: shown.after.edition().number(),
         mark: shown.after.no_history(),
     }
 }
 
-/// The rule's number, how a task was found, and the rule's sentence.
-fn reason_words(reason: Reason) -> String {
-    format!("{}: {}", rule_words(Some(reason)), reason.rule)
+fn gone(shown: &Shown) -> Vec<u8> {
+    match shown.played.closed() {
+        0 => Vec::new(),
+        _ => shown.gone(),
+    }
+}
+
+fn tasks(replay: &Replay) -> Vec<TaskView> {
+    let tasks = replay.tasks().map(|task| TaskView {
+        root: task.root,
+        screens: task.screens.iter().rev().copied().collect(),
+    });
+    tasks.collect()
+}
+
+/// The rule's number, how a task was found, and the rule's sentence; of a task that
+/// is gone no sentence says that it came to the front.
+fn reason_words(shown: &Shown, reason: Reason) -> String {
+    let rule = rule_words(Some(reason));
+    let marked = shown.caller_closed();
+    let history = if marked {
+        ", which leaves no history"
+    } else {
+        ""
+    };
+    if shown.found_task_went() {
+        return format!(
+            "{rule}: the task found holds the caller alone{history}: it closes, and its task goes"
+        );
+    }
+    let then = if marked {
+        "; then the caller closes"
+    } else {
+        ""
+    };
+    format!("{rule}: {}{then}{history}", reason.rule)
 }
 
 /// Plays the record at the start of these bytes, and does something with what it
@@ -77,56 +109,67 @@ pub fn play<'a>(
     played.used()
 }
 
-/// The whole recording, for a picture.
-pub fn book(input: &mut Input, names: &Names, title: &str) -> Outcome<Book> {
-    let mut replay = match opening::read(input)? {
-        Opening::Stopped(played) => {
-            names.check(0)?;
-            return Ok(stopped(title, played));
-        }
-        Opening::Table(replay) => replay,
-    };
+/// The recording, or a part of it, for a picture.
+pub fn book(input: &mut Input, names: &Names, title: &str, wanted: &Wanted) -> Outcome<Book> {
+    let mut replay = opening::read_table(input)?;
     let rows = screens(&replay, names);
     names.check(rows.len())?;
-    let mut moments = Vec::new();
+    let first = wanted.from.unwrap_or(1);
+    skip(input, &mut replay, first)?;
+    let before = tasks(&replay);
+    let moments = record_moments(input, &mut replay, names, wanted)?;
+    let last = first - 1 + moments.len() as u64;
+    wanted.check(input.name(), last)?;
+    Ok(Book {
+        title: title.to_string(),
+        screens: rows,
+        main_screen: replay.table()[1],
+        part: first > 1 || !input.peek(1)?.is_empty(),
+        before,
+        moments,
+    })
+}
+
+/// Plays the records before this one.
+pub fn skip(input: &mut Input, replay: &mut Replay, asked: u64) -> Outcome {
     let mut progress = Progress::new("records", false);
-    loop {
+    for number in 1..asked {
+        let bytes = input.peek(RECORD)?;
+        if bytes.is_empty() {
+            return no_record(input.name(), asked, number - 1);
+        }
+        let used = replay.next(bytes).used();
+        input.take(used);
+        progress.at(number);
+    }
+    Ok(())
+}
+
+fn record_moments(
+    input: &mut Input,
+    replay: &mut Replay,
+    names: &Names,
+    wanted: &Wanted,
+) -> Outcome<Vec<Moment>> {
+    let (mut moments, first) = (Vec::new(), wanted.from.unwrap_or(1));
+    let mut progress = Progress::new("records", false);
+    for number in first..=wanted.to.unwrap_or(u64::MAX) {
         let bytes = input.peek(RECORD)?;
         if bytes.is_empty() {
             break;
         }
-        let number = moments.len() as u64 + 1;
-        if number > MOST {
+        if number - first == MOST {
             return said(format!(
-                "{} has more than {MOST} records, too many for a picture",
+                "{} has more than {MOST} records there, too many for a picture: \
+                 --from and --to choose fewer",
                 input.name()
             ));
         }
-        let used = play(&mut replay, bytes, Reading::Player, |shown| {
+        let used = play(replay, bytes, Reading::Player, |shown| {
             moments.push(moment(number, &shown, names));
         });
         input.take(used);
         progress.at(number);
     }
-    Ok(Book {
-        title: title.to_string(),
-        screens: rows,
-        main_screen: replay.table()[1],
-        moments,
-    })
-}
-
-/// The picture of a recording that begins with no table: one moment, which is
-/// refused.
-fn stopped(title: &str, played: Played) -> Book {
-    Book {
-        title: title.to_string(),
-        moments: vec![Moment {
-            call: "no table".to_string(),
-            refusal: played.refusal().map(|refusal| refusal.to_string()),
-            edition: milchkompass::Edition::default().number(),
-            ..Moment::default()
-        }],
-        ..Book::default()
-    }
+    Ok(moments)
 }

@@ -1,4 +1,7 @@
-//! Screens by name.
+//! Screens by name. A line has a screen's number, its name and, if there is one,
+//! its site; a line that begins with `#` is a comment.
+
+use std::ffi::OsStr;
 
 use crate::cursor::visible;
 use crate::failure::{said, Outcome};
@@ -8,9 +11,16 @@ use crate::pen::{Pen, Short};
 /// What each screen is shown as: its name, or its number.
 pub struct Names {
     shown: Vec<Shown>,
-    /// The names that are given: the line, the screen and the name.
-    given: Vec<(usize, u8, String)>,
+    given: Vec<Given>,
     file: String,
+}
+
+/// A line of the file.
+struct Given {
+    line: usize,
+    screen: u8,
+    name: String,
+    site: String,
 }
 
 /// A screen's text with a comma behind it.
@@ -40,73 +50,88 @@ impl Names {
     }
 
     /// The names of a file, or none.
-    pub fn open(file: Option<&str>) -> Outcome<Names> {
+    pub fn open(file: Option<&OsStr>) -> Outcome<Names> {
         let Some(file) = file else {
             return Ok(Names::none());
         };
+        let name = file.to_string_lossy();
         match String::from_utf8(read_whole(file)?) {
-            Ok(text) => Names::read(file, &text),
+            Ok(text) => Names::read(&name, &text),
             Err(error) => {
                 let valid = &error.as_bytes()[..error.utf8_error().valid_up_to()];
                 let line = valid.iter().filter(|byte| **byte == b'\n').count() + 1;
-                said(format!("{file}:{line}: a byte that is no UTF-8 text"))
+                said(format!("{name}:{line}: a byte that is no UTF-8 text"))
             }
         }
     }
 
-    /// The names of a text: a screen's number and its name on each line. Lines may
-    /// be empty.
+    /// The names of a text. A byte order mark before it is passed over, and lines
+    /// may be empty.
     pub fn read(file: &str, text: &str) -> Outcome<Names> {
         let mut names = Names::none();
         names.file = file.to_string();
+        let text = text.strip_prefix('\u{feff}').unwrap_or(text);
         for (i, line) in text.lines().enumerate() {
-            if !line.trim().is_empty() {
-                names.add(i + 1, line.trim())?;
+            let line = line.trim();
+            if !line.is_empty() && !line.starts_with('#') {
+                names
+                    .add(i + 1, line)
+                    .or_else(|what| said(format!("{file}:{}: {what}", i + 1)))?;
             }
         }
         Ok(names)
     }
 
-    fn add(&mut self, line: usize, text: &str) -> Outcome {
-        let (number, name) = text.split_once(char::is_whitespace).unwrap_or((text, ""));
-        let name = name.trim();
-        let digits = number.bytes().all(|c| c.is_ascii_digit());
-        let Some(screen) = number.parse::<u8>().ok().filter(|_| digits) else {
-            return self.wrong(line, &format!("'{}' is no screen", visible(number)));
+    /// Adds a line, or says what is wrong with it.
+    fn add(&mut self, line: usize, text: &str) -> Result<(), String> {
+        let mut words = text.split_whitespace();
+        let screen = screen_of(words.next().unwrap_or_default())?;
+        let Some(name) = words.next() else {
+            return Err(format!("screen {screen} has no name behind it"));
         };
-        if name.is_empty() {
-            return self.wrong(line, &format!("screen {screen} has no name behind it"));
+        let site = words.next().unwrap_or_default();
+        if let Some(more) = words.next() {
+            let more = visible(more);
+            return Err(format!(
+                "'{more}' is too much behind a number, a name and a site"
+            ));
         }
-        if name.chars().any(char::is_control) {
-            return self.wrong(line, "a name has no control characters");
-        }
+        check_letters("name", name)?;
+        check_letters("site", site)?;
         if name.bytes().all(|c| c.is_ascii_digit()) {
-            return self.wrong(line, &format!("the name '{name}' is a number"));
+            return Err(format!("the name '{name}' is a number"));
         }
-        for (before, other, known) in &self.given {
-            if known == name {
-                return self.wrong(line, &format!("the name '{name}' stands on line {before}"));
-            }
-            if *other == screen {
-                let words = format!("screen {screen} has its name on line {before}");
-                return self.wrong(line, &words);
-            }
-        }
+        self.check_new(screen, name)?;
         self.shown[usize::from(screen)] = Shown::new(name);
-        self.given.push((line, screen, name.to_string()));
+        self.given.push(Given {
+            line,
+            screen,
+            name: name.to_string(),
+            site: site.to_string(),
+        });
         Ok(())
     }
 
-    fn wrong<T>(&self, line: usize, what: &str) -> Outcome<T> {
-        said(format!("{}:{line}: {what}", self.file))
+    /// One screen has one name.
+    fn check_new(&self, screen: u8, name: &str) -> Result<(), String> {
+        for known in &self.given {
+            let line = known.line;
+            if known.name == name {
+                return Err(format!("the name '{name}' stands on line {line}"));
+            }
+            if known.screen == screen {
+                return Err(format!("screen {screen} has its name on line {line}"));
+            }
+        }
+        Ok(())
     }
 
     /// Each name is that of a screen below this number.
     pub fn check(&self, screens: usize) -> Outcome {
-        for (line, screen, _) in &self.given {
+        for Given { line, screen, .. } in &self.given {
             if usize::from(*screen) >= screens {
                 let words = format!("{screen} is no screen: the table has {screens}");
-                return self.wrong(*line, &words);
+                return said(format!("{}:{line}: {words}", self.file));
             }
         }
         Ok(())
@@ -130,13 +155,72 @@ impl Names {
 
     /// No screen is shown with more bytes.
     pub fn longest(&self) -> usize {
-        let given = self.given.iter().map(|(_, _, name)| name.len());
+        let given = self.given.iter().map(|given| given.name.len());
         given.max().unwrap_or(0).max("255".len())
+    }
+
+    /// What a screen is shown as.
+    pub fn shown(&self, screen: u8) -> String {
+        match self.given(screen) {
+            "" => screen.to_string(),
+            name => name.to_string(),
+        }
     }
 
     /// A screen's name, empty where it has none.
     pub fn given(&self, screen: u8) -> &str {
-        let given = self.given.iter().find(|(_, known, _)| *known == screen);
-        given.map_or("", |(_, _, name)| name)
+        self.line_of(screen).map_or("", |given| &given.name)
     }
+
+    /// A screen's site, empty where it has none.
+    pub fn site(&self, screen: u8) -> &str {
+        self.line_of(screen).map_or("", |given| &given.site)
+    }
+
+    fn line_of(&self, screen: u8) -> Option<&Given> {
+        self.given.iter().find(|given| given.screen == screen)
+    }
+
+    /// The screen of this name.
+    pub fn screen(&self, name: &str) -> Option<u8> {
+        let given = self.given.iter().find(|given| given.name == name);
+        given.map(|given| given.screen)
+    }
+
+    /// Whether there are any.
+    pub fn are_given(&self) -> bool {
+        !self.given.is_empty()
+    }
+}
+
+fn screen_of(number: &str) -> Result<u8, String> {
+    let digits = number.bytes().all(|c| c.is_ascii_digit());
+    let screen = number.parse().ok().filter(|_| digits);
+    screen.ok_or_else(|| format!("'{}' is no screen", visible(number)))
+}
+
+/// A name has nothing that stands between names in a line or begins a comment, and
+/// nothing that cannot be seen or that turns the direction of writing.
+fn check_letters(what: &str, word: &str) -> Result<(), String> {
+    let shown = visible(word);
+    if let Some(letter) = word.chars().find(|c| ",:[]#".contains(*c)) {
+        return Err(format!("the {what} '{shown}' has a '{letter}'"));
+    }
+    match word.chars().find(|c| hides(*c)) {
+        Some(letter) => Err(format!(
+            "the {what} '{shown}' has the character U+{:04X}, which is not seen",
+            letter as u32
+        )),
+        None => Ok(()),
+    }
+}
+
+/// Whether a character is a control, is not seen, or turns the direction of writing.
+pub fn hides(letter: char) -> bool {
+    letter.is_control()
+        || matches!(
+            letter,
+            '\u{61c}' | '\u{200b}' | '\u{200e}' | '\u{200f}' | '\u{2028}'..='\u{202e}'
+        )
+        || matches!(letter, '\u{2060}'..='\u{206f}' | '\u{feff}')
 }

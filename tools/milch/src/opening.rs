@@ -2,7 +2,7 @@
 
 use milchkompass::{Played, Refusal, Replay};
 
-use crate::failure::Outcome;
+use crate::failure::{said, Outcome};
 use crate::input::Input;
 
 /// What a recording begins with.
@@ -40,4 +40,18 @@ pub fn read(input: &mut Input) -> Outcome<Opening> {
         input.take(replay.table().len());
     }
     Ok(opening)
+}
+
+/// Reads the table, or says that there is none.
+pub fn read_table(input: &mut Input) -> Outcome<Replay> {
+    match read(input)? {
+        Opening::Table(replay) => Ok(*replay),
+        Opening::Stopped(played) => said(no_table(input.name(), played)),
+    }
+}
+
+/// What is said of a file that begins with no table.
+pub fn no_table(name: &str, played: Played) -> String {
+    let words = played.refusal().map_or(String::new(), |r| r.to_string());
+    format!("{name} begins with no table: {words}")
 }

@@ -5,7 +5,7 @@ use std::thread;
 use milchkompass::Replay;
 
 use crate::batches::{self, Sender};
-use crate::failure::{said, Outcome};
+use crate::failure::{reason, said, warn, Outcome};
 use crate::input::Input;
 use crate::line::Lines;
 use crate::names::Names;
@@ -28,7 +28,7 @@ impl Wanted {
     }
 
     /// A record that was asked for is not there.
-    fn check(&self, name: &str, last: u64) -> Outcome {
+    pub fn check(&self, name: &str, last: u64) -> Outcome {
         match self.from.max(self.to) {
             Some(asked) if asked > last => no_record(name, asked, last),
             _ => Ok(()),
@@ -51,7 +51,9 @@ pub fn show(input: &mut Input, names: &Names, wanted: &Wanted, out: &mut Output)
             names.check(0)?;
             let line = Lines::new(names).stopped(played).to_vec();
             out.text.extend_from_slice(&line);
-            wanted.check(input.name(), 0)
+            wanted.check(input.name(), 0)?;
+            warn(&opening::no_table(input.name(), played));
+            Ok(())
         }
         Opening::Table(replay) => {
             names.check(replay.rows().len())?;
@@ -73,7 +75,11 @@ fn show_records(
     let mut lines = Lines::new(names);
     let (sender, receiver) = batches::exchange(&replay);
     thread::scope(|scope| {
-        let player = scope.spawn(move || play_records(input, replay, wanted, sender));
+        let player = move || play_records(input, replay, wanted, sender);
+        let player = match thread::Builder::new().spawn_scoped(scope, player) {
+            Ok(player) => player,
+            Err(error) => return said(format!("no thread can be had: {}", reason(&error))),
+        };
         let written = receiver.each(|number, shown| {
             out.text.extend_from_slice(lines.line(number, shown));
             out.settle()

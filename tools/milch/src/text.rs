@@ -9,6 +9,8 @@
 //! restore image 00 01 00 00 03 01 01 08 42
 //! raw 09 00 00 00 00 00  # unknown kind 9
 //! ```
+//!
+//! With names they stand in the place of screens' numbers.
 
 use milchkompass::Replay;
 
@@ -29,32 +31,36 @@ const IMAGE: usize = 4096;
 const RAW: usize = 16;
 
 /// Writes the recording's text.
-pub fn write(input: &mut Input, out: &mut Output) -> Outcome {
+pub fn write(input: &mut Input, names: &Names, out: &mut Output) -> Outcome {
     match opening::read(input)? {
-        Opening::Stopped(_) => write_raw(input, "no table", out),
+        Opening::Stopped(_) => {
+            names.check(0)?;
+            write_raw(input, "no table", out)
+        }
         Opening::Table(replay) => {
-            push_table(&mut out.text, &replay);
-            write_records(input, out)
+            names.check(replay.rows().len())?;
+            push_table(&mut out.text, &replay, names);
+            write_records(input, names, out)
         }
     }
 }
 
-fn push_table(out: &mut Vec<u8>, replay: &Replay) {
+fn push_table(out: &mut Vec<u8>, replay: &Replay, names: &Names) {
     let table = replay.table();
-    out.extend_from_slice(format!("table main {}\n", table[1]).as_bytes());
+    out.extend_from_slice(format!("table main {}\n", names.shown(table[1])).as_bytes());
     for (screen, (row, bytes)) in replay.rows().zip(table[2..].chunks(2)).enumerate() {
         let mode = match row.mode {
             Ok(_) => crate::words::mode_words(row),
             Err(_) => format!("mode {}", bytes[0]),
         };
-        let line = format!("screen {screen} {mode} affinity {}\n", row.affinity);
+        let (screen, affinity) = (names.shown(screen as u8), row.affinity);
+        let line = format!("screen {screen} {mode} affinity {affinity}\n");
         out.extend_from_slice(line.as_bytes());
     }
 }
 
-fn write_records(input: &mut Input, out: &mut Output) -> Outcome {
-    let names = Names::none();
-    let calls = Calls::new(&names);
+fn write_records(input: &mut Input, names: &Names, out: &mut Output) -> Outcome {
+    let calls = Calls::new(names);
     let mut progress = Progress::new("records", true);
     let mut number = 0;
     loop {

@@ -19,7 +19,7 @@ fn the_sample() {
     let text = "RECORD 4: finish-start 0 NEW_TASK\n  \
         R17, found at place 2 by root: a task is found for it: it comes to the front, and the \
         screen opens on top\n  \
-        closed 1\n\
+        closed 1: 3\n\
         STACKS: tasks=1 edition=8 mark=none\n  \
         Task #1: root=0 affinity=1 main=yes screens=3\n    \
         Hist #2: 0 mode=standard\n    \
@@ -45,6 +45,40 @@ fn names_modes_edition_and_mark() {
         Task #2: root=0 affinity=none main=yes screens=1\n    \
         Hist #0: 0 mode=single-top\n";
     wrote(run_on(&["at", "-", "3", "--names", &names], &bytes), text);
+}
+
+/// The caller that closes is told; of a task that is gone nothing says that it
+/// comes to the front.
+#[test]
+fn a_marked_caller() {
+    let names = common::file("at_marked", b"0 home\n1 notice\n");
+    let begin = [(1, 0, 0), (2, 1, 0x4000_0000)];
+    let told = |last: (u8, u8, u32)| {
+        let bytes = recording(TWO, &[&begin[..], &[last]].concat());
+        let ran = run_on(&["at", "-", "3", "--names", &names], &bytes);
+        assert_eq!((ran.status, ran.said.as_str()), (0, ""));
+        ran.out
+            .lines()
+            .skip(1)
+            .take(2)
+            .collect::<Vec<_>>()
+            .join("\n")
+    };
+    let gone = "  R4, found at place 1 by root: the task found holds the caller alone";
+    let goes = ": it closes, and its task goes\n  closed 1: notice";
+    let history = ", which leaves no history";
+    assert_eq!(told((2, 1, 0)), format!("{gone}{history}{goes}"));
+    assert_eq!(
+        told((2, 0, 0x1000_0000)),
+        format!(
+            "  R17, found at place 2 by root: a task is found for it: it comes to the front, \
+             and the screen opens on top; then the caller closes{history}\n  closed 1: notice"
+        )
+    );
+    // A finishing start of an unmarked screen that is alone and starts itself.
+    let bytes = recording(TWO, &[(1, 0, 0), (2, 1, 0), (3, 1, 0)]);
+    let ran = run_on(&["at", "-", "3", "--names", &names], &bytes);
+    assert!(ran.out.contains(&format!("{gone}{goes}")), "{}", ran.out);
 }
 
 #[test]

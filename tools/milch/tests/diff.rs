@@ -100,7 +100,8 @@ fn restores() {
         out[2],
         "RECORD 1: launch | RECORD 1: restore of 9 bytes <- kind 6"
     );
-    assert_eq!(out[out.len() - 2], "SECOND: restores at records 1");
+    let took = "SECOND: the restore at record 1 took 9 bytes as its image";
+    assert_eq!(out[out.len() - 2], took);
     assert_eq!(out[out.len() - 1], ALIKE);
 }
 
@@ -142,10 +143,88 @@ fn what_cannot_be_told() {
                   or that is not 1 to 64";
     failed(
         run(&["diff", &two, &none]),
-        &format!("milch: {none}: {length}\n"),
+        &format!("milch: {none} begins with no table: {length}\n"),
     );
     failed(
         run(&["diff", &two, "nothing-here"]),
         "milch: nothing-here: no such file\n",
     );
+}
+
+/// Records have the numbers of `show`, which reads an image as records; a shift is
+/// told.
+#[test]
+fn numbers_behind_a_restore() {
+    let image = [0, 1, 0, 0, 3, 1, 1, 8, 0x42];
+    let restored = |image: &[u8], last: u8| {
+        let begin = recording(TWO, &[(6, 0, image.len() as u32)]);
+        let end = recording(&[], &[(4, last, 0), (2, last, 0)]);
+        [&begin[..], image, &end].concat()
+    };
+    let ran = both("shift", &restored(&image, 0), &restored(&image, 1));
+    let out: Vec<&str> = ran.out.lines().collect();
+    assert_eq!(out[0], "the first difference is at record 4");
+    assert!(out[2].starts_with("  RECORD 4: start 0"));
+    let shift = "from record 3 on, an image shifts the records: 'show' reads it as records, \
+                 and they begin within others there";
+    assert!(out.contains(&&*format!("FIRST: {shift}")), "{}", ran.out);
+    // A bad image of six bytes is one record of `show`: nothing is shifted.
+    let ran = both("even", &restored(&[0; 6], 0), &restored(&[0; 6], 1));
+    assert!(ran.out.starts_with("the first difference is at record 4\n"));
+    assert!(ran
+        .out
+        .contains("SECOND: the restore at record 1 took 6 bytes as its image\n"));
+    assert!(!ran.out.contains("shifts"), "{}", ran.out);
+}
+
+/// A start that a damaged byte made a restore.
+#[test]
+fn a_recording_that_ends_within_a_restore() {
+    let good = recording(TWO, &[(1, 0, 0), (2, 1, 0x1000_0000), (4, 0, 0), (4, 0, 0)]);
+    let mut damaged = good.clone();
+    damaged[TWO.len() + 6] = 6;
+    let ran = both("damaged", &good, &damaged);
+    let said =
+        "ends within the restore at record 2: of the 268435456 bytes of its image 12 are there\n";
+    assert_eq!((ran.status, ran.out.as_str()), (2, ""));
+    assert!(
+        ran.said.starts_with("milch: ") && ran.said.ends_with(said),
+        "{}",
+        ran.said
+    );
+    let cut = [&good[..], &[6, 0]].concat();
+    let ran = both("cut", &cut, &good);
+    assert_eq!((ran.status, ran.out.as_str()), (2, ""));
+    let said = "ends within the restore at record 5: that record is cut\n";
+    assert!(ran.said.ends_with(said), "{}", ran.said);
+}
+
+/// As `same` does.
+#[test]
+fn records_that_are_no_call() {
+    let good = recording(TWO, &[(1, 0, 0)]);
+    let mut other = recording(TWO, &[(1, 0, 0), (7, 0, 0), (9, 0, 0)]);
+    other.extend([4, 0]);
+    let ran = both("no_call", &good, &other);
+    assert_eq!(ran.status, 1);
+    let said = ": records that are no call, of an unknown kind or cut: 3, the first at byte 12, \
+                which is record 2; 14 bytes are left out\n";
+    assert!(
+        ran.said.starts_with("milch: warning: ") && ran.said.ends_with(said),
+        "{}",
+        ran.said
+    );
+    assert!(ran.out.ends_with("the endings are alike\n"));
+}
+
+#[test]
+fn names() {
+    let names = file("diff.names", b"0 home\n1 seats\n");
+    let first = file("diff_names_1", &recording(TWO, &[(1, 0, 0), (2, 0, 0)]));
+    let second = file("diff_names_2", &recording(TWO, &[(1, 0, 0), (2, 1, 0)]));
+    let ran = run(&["diff", &first, &second, "--names", &names]);
+    assert_eq!((ran.status, ran.said.as_str()), (1, ""));
+    let out: Vec<String> = ran.out.lines().map(squeezed).collect();
+    assert_eq!(out[2], "RECORD 2: start home | RECORD 2: start seats");
+    assert!(out.contains(&"Hist #1: home mode=standard | Hist #0: seats mode=single-task".into()));
 }

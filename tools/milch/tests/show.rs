@@ -2,7 +2,7 @@
 
 mod common;
 
-use common::{failed, file, in_repository, recording, run, run_on, wrote, TWO};
+use common::{failed, file, in_repository, recording, run, run_on, warned, wrote, TWO};
 
 const SAMPLE: [&str; 8] = [
     "     1  launch                      *0:[0]  | 1 0 0 0 1 1 1 0 8 0\n",
@@ -57,14 +57,19 @@ fn no_record() {
     wrote(run_on(&["show", "-"], TWO), "");
 }
 
-/// Where the player stops, its line in words.
+/// Where the player stops, its line in words and a warning.
 #[test]
 fn no_table() {
     let line = "     0  no table  refusal 1: the table's length does not fit its number of \
                 screens, or that is not 1 to 64  | 0 1 0 0 0 0 0 0 0 0\n";
     for bytes in [&[][..], &[0, 0], &[65], &[2, 0, 0, 1, 2], &TWO[..1]] {
-        wrote(run_on(&["show", "-"], bytes), line);
+        let refusal = "refusal 1: the table's length does not fit its number of screens, \
+                       or that is not 1 to 64";
+        let said = format!("milch: warning: - begins with no table: {refusal}\n");
+        warned(run_on(&["show", "-"], bytes), line, &said);
     }
+    let none = "milch: - has no record 1: it has none\n";
+    failed(run_on(&["show", "-", "--to", "1"], &[]), none);
 }
 
 /// Under a table with refusal 2 each record has 2, and 9 where 9 applies.
@@ -104,12 +109,37 @@ fn no_history() {
     ];
     let lines = "     1  launch                      *0:[0]  | 1 0 0 0 1 1 1 0 8 0\n     \
          2  start 1 NO_HISTORY          1:[1] *0:[0]  no history  R6  | 2 0 1 1 1 2 2 0 8 1\n     \
-         3  start 0 NEW_TASK            *0:[0,0]  closed 1: 1  R17, found at place 2 by root  \
-         | 2 0 0 0 2 1 1 1 8 0\n     \
+         3  start 0 NEW_TASK            *0:[0,0]  closed 1: 1  the caller closed  \
+         R17, found at place 2 by root  | 2 0 0 0 2 1 1 1 8 0\n     \
          4  start 1 0x80000001          *0:[0,0]  refusal 4: a start's flag word has a bit \
          that is none of the seven flags  \
          | 2 4 0 0 0 0 0 0 0 0\n";
     wrote(run_on(&["show", "-"], &recording(TWO, &records)), lines);
+}
+
+/// A marked screen that starts itself closes, and its task with it; by R7 nothing
+/// does.
+#[test]
+fn a_marked_caller() {
+    let records = [
+        (1, 0, 0),
+        (2, 1, 0x4000_0000),
+        (2, 1, 0),
+        (2, 1, 0x4000_0000),
+        (2, 0, 0),
+    ];
+    let lines = "     1  launch                      *0:[0]  | 1 0 0 0 1 1 1 0 8 0\n     \
+         2  start 1 NO_HISTORY          1:[1] *0:[0]  no history  R6  | 2 0 1 1 1 2 2 0 8 1\n     \
+         3  start 1                     *0:[0]  closed 1: 1  the caller closed  \
+         R4, found at place 1 by root  | 2 0 0 0 1 1 1 1 8 0\n     \
+         4  start 1 NO_HISTORY          1:[1] *0:[0]  no history  R6  | 2 0 1 1 1 2 2 0 8 1\n     \
+         5  start 0                     1:[0] *0:[0]  closed 1: 1  the caller closed  R10  \
+         | 2 0 0 1 1 2 2 1 8 0\n";
+    wrote(run_on(&["show", "-"], &recording(TWO, &records)), lines);
+    let top = [1, 0, 1, 1];
+    let records = [(1, 0, 0), (2, 0, 0x4000_0000), (2, 0, 0)];
+    let ran = run_on(&["show", "-"], &recording(&top, &records));
+    assert!(!ran.out.contains("caller"), "{}", ran.out);
 }
 
 /// Edition 7 empties the main task by R9; in edition 6 a task is found by affinity.
@@ -143,12 +173,12 @@ fn editions() {
 
 #[test]
 fn names() {
-    let names = file("show_names", "1 seat map\n\n 0\thome \n".as_bytes());
+    let names = file("show_names", "1 seats\n\n 0\thome siteA \n".as_bytes());
     let bytes = recording(TWO, &[(1, 0, 0), (2, 1, 0), (2, 9, 0)]);
     let lines = "     1  launch                      *home:[home]  | 1 0 0 0 1 1 1 0 8 0\n     \
-         2  start seat map              seat map:[seat map] *home:[home]  R6  \
+         2  start seats                 seats:[seats] *home:[home]  R6  \
          | 2 0 1 1 1 2 2 0 8 0\n     \
-         3  start 9                     seat map:[seat map] *home:[home]  \
+         3  start 9                     seats:[seats] *home:[home]  \
          refusal 3: a start names a screen that the table does not have  | 2 3 0 0 0 0 0 0 0 0\n";
     wrote(run_on(&["show", "-", "--names", &names], &bytes), lines);
 }

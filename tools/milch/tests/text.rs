@@ -3,10 +3,16 @@
 
 mod common;
 
-use common::{in_repository, recording, run, run_on, wrote, TWO};
-use milch::grammar::{bytes_of, bytes_of_file};
+use common::{failed, file, in_repository, recording, run, run_on, wrote, TWO};
+use milch::cursor::Wrong;
+use milch::grammar;
+use milch::names::Names;
 
 const TABLE: &str = "table main 0\nscreen 0 standard affinity 1\nscreen 1 single-task affinity 2\n";
+
+fn bytes_of(text: &str) -> Result<Vec<u8>, Wrong> {
+    grammar::bytes_of(text, &Names::none())
+}
 
 /// The text of these bytes, and back.
 fn both(bytes: &[u8], text: &str) {
@@ -215,6 +221,70 @@ fn wrong_records() {
 fn nothing_is_written() {
     let text = format!("{TABLE}{}wrong\n", "back\n".repeat(100_000));
     wrong(&text, &format!("100004:1: expected {RECORDS}, not 'wrong'"));
-    let found = bytes_of_file(b"raw 00\nraw \xff").expect_err("no text");
+    let found = grammar::bytes_of_file(b"raw 00\nraw \xff", &Names::none()).expect_err("no text");
     assert_eq!((found.line, found.column), (2, 5));
+}
+
+/// Names stand in the place of numbers, and come back; numbers may stand there too.
+#[test]
+fn names() {
+    let names = file("text.names", b"\xef\xbb\xbf# site B\n1 B.home\n");
+    let bytes = recording(TWO, &[(1, 0, 0), (2, 1, 0), (3, 0, 0), (2, 9, 0)]);
+    let text = "table main 0\nscreen 0 standard affinity 1\nscreen B.home single-task affinity 2\n\
+        launch\nstart B.home\nfinish-start 0\nstart 9\n";
+    wrote(run_on(&["text", "-", "--names", &names], &bytes), text);
+    let numbers = text.replace("B.home", "1");
+    for text in [text, &numbers, &format!("\u{feff}{text}")] {
+        let read = Names::read("names", "1 B.home\n").expect("names");
+        assert_eq!(grammar::bytes_of(text, &read), Ok(bytes.clone()));
+    }
+    let main = file("main.names", b"0 A.home");
+    let text = "table main A.home\nscreen A.home standard affinity 1\n\
+        screen 1 single-task affinity 2\n";
+    wrote(run_on(&["text", "-", "--names", &main], TWO), text);
+    let ran = run_on(&["bytes", "-", "--names", &main], text.as_bytes());
+    assert_eq!((ran.status, ran.out.as_bytes()), (0, TWO));
+}
+
+#[test]
+fn names_that_do_not_fit() {
+    let names = file("unfit.names", b"0 A.home\n2 B.home\n");
+    let said = format!("milch: {names}:2: 2 is no screen: the table has 2\n");
+    failed(run_on(&["text", "-", "--names", &names], TWO), &said);
+    let bytes = run_on(&["bytes", "-", "--names", &names], TABLE.as_bytes());
+    assert_eq!(bytes.out, "");
+    failed(bytes, &said);
+    let none = format!("milch: {names}:1: 0 is no screen: the table has 0\n");
+    failed(run_on(&["text", "-", "--names", &names], &[]), &none);
+    failed(run_on(&["bytes", "-", "--names", &names], b"raw 00"), &none);
+    let text = format!("{TABLE}start B.home\n");
+    let screen = "expected a screen by its name, or by its number, 0 to 255";
+    failed(
+        run_on(
+            &["bytes", "-", "--names", &file("a.names", b"0 A")],
+            text.as_bytes(),
+        ),
+        &format!("milch: -:4:7: {screen}, not 'B.home'\n"),
+    );
+}
+
+/// A recording is written whole, or not at all; what is there stays.
+#[test]
+fn bytes_to_a_file() {
+    let place = common::fresh("bytes.recording");
+    let text = file("bytes.txt", TABLE.as_bytes());
+    wrote(run(&["bytes", &text, "--out", &place]), "");
+    assert_eq!(std::fs::read(&place).expect("a file"), TWO);
+    let said = format!("milch: {place} is there: --force replaces it\n");
+    failed(run(&["bytes", &text, "--out", &place]), &said);
+    let more = file("more.txt", format!("{TABLE}back\n").as_bytes());
+    wrote(run(&["bytes", &more, "--out", &place, "--force"]), "");
+    let bytes = recording(TWO, &[(4, 0, 0)]);
+    assert_eq!(std::fs::read(&place).expect("a file"), bytes);
+    let bad = file("bad.txt", format!("{TABLE}Back\n").as_bytes());
+    assert_eq!(run(&["bytes", &bad, "--out", &place, "--force"]).status, 2);
+    assert_eq!(std::fs::read(&place).expect("a file"), bytes);
+    let said = format!("milch: {text} is read, and stays\n");
+    failed(run(&["bytes", &text, "--out", &text, "--force"]), &said);
+    assert_eq!(common::parts(&place), 0);
 }

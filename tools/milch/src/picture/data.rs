@@ -9,6 +9,10 @@ pub struct Book {
     pub screens: Vec<ScreenRow>,
     /// The number of the table's main screen.
     pub main_screen: u8,
+    /// Whether records before or behind these are left out.
+    pub part: bool,
+    /// The tasks that stand before the first moment.
+    pub before: Vec<TaskView>,
     /// One moment a record, in order.
     pub moments: Vec<Moment>,
 }
@@ -39,6 +43,8 @@ pub struct Moment {
     pub rule: u8,
     /// How many screens the record closed.
     pub closed: u8,
+    /// Which, in the order of those that stood.
+    pub gone: Vec<u8>,
     /// The tasks, front first. A refused record has those before it.
     pub tasks: Vec<TaskView>,
     /// The place of the main task, 1 for the front; 0 where it is gone.

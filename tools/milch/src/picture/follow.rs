@@ -1,7 +1,6 @@
 //! Follows each task along the recording, by what stands before and after a record.
 
 use super::data::{Moment, TaskView};
-use crate::closed;
 
 /// The front task is the one that was in front.
 pub const STAYS: usize = 0;
@@ -20,12 +19,9 @@ pub struct Step {
     pub came: usize,
     /// Whether the front screen was opened by the record.
     pub opened: bool,
-    /// The screens that closed, from the front.
-    pub gone: Vec<u8>,
 }
 
 /// The tasks that stand, with their numbers.
-#[derive(Default)]
 pub struct Follower<'a> {
     tasks: &'a [TaskView],
     ids: Vec<u64>,
@@ -33,6 +29,16 @@ pub struct Follower<'a> {
 }
 
 impl<'a> Follower<'a> {
+    /// Begins with these tasks.
+    pub fn new(tasks: &'a [TaskView]) -> Follower<'a> {
+        let made = tasks.len() as u64;
+        Follower {
+            tasks,
+            ids: (1..=made).collect(),
+            made,
+        }
+    }
+
     /// Goes on to the next record.
     pub fn step(&mut self, moment: &'a Moment) -> Step {
         if moment.refusal.is_some() {
@@ -40,15 +46,10 @@ impl<'a> Follower<'a> {
                 ids: self.ids.clone(),
                 came: STAYS,
                 opened: false,
-                gone: Vec::new(),
             };
         }
         let places = trace(self.tasks, moment);
         let opened = height(&moment.tasks) + usize::from(moment.closed) > height(self.tasks);
-        let (before, after) = (standing(self.tasks), standing(&moment.tasks));
-        // A screen that was opened is in front.
-        let front = after.clone().next().unwrap_or_default();
-        let gone = closed::screens(before, after, front, moment.closed);
         let came = match places.first() {
             None | Some(Some(0)) => STAYS,
             Some(None) => NEW,
@@ -60,7 +61,6 @@ impl<'a> Follower<'a> {
             ids: self.ids.clone(),
             came,
             opened,
-            gone,
         }
     }
 
@@ -118,9 +118,4 @@ fn fits(before: &[TaskView], now: &[TaskView], places: &[usize]) -> bool {
             let old = &before[place];
             task.root == old.root && (at == 0 || place == 0 || task.screens == old.screens)
         })
-}
-
-/// All screens that stand, front first.
-fn standing(tasks: &[TaskView]) -> impl Iterator<Item = u8> + Clone + '_ {
-    tasks.iter().flat_map(|task| task.screens.iter().copied())
 }

@@ -8,8 +8,6 @@ mod tests;
 
 pub use data::{Book, Moment, ScreenRow, TaskView};
 
-use std::io::{Result, Write};
-
 const PAGE: &str = include_str!("page.html");
 const STYLE: &[&str] = &[include_str!("page.css"), include_str!("strip.css")];
 const SCRIPT: &[&str] = &[
@@ -22,20 +20,31 @@ const SCRIPT: &[&str] = &[
     include_str!("page.js"),
 ];
 
-/// Writes the page of a recording.
-pub fn write_page(book: &Book, out: &mut impl Write) -> Result<()> {
+/// A page has this among its first bytes, by which it is known.
+const MADE: &str = "<meta name=\"generator\" content=\"milch picture\">";
+
+/// Whether a file that begins with these bytes is a page of a recording.
+pub fn is_page(beginning: &[u8]) -> bool {
+    let mut places = beginning.windows(MADE.len());
+    beginning.starts_with(b"<!DOCTYPE html>") && places.any(|place| place == MADE.as_bytes())
+}
+
+/// The page of a recording.
+pub fn page(book: &Book) -> Vec<u8> {
+    let mut page = Vec::new();
     let mut parts = PAGE.split("@@");
     while let Some(markup) = parts.next() {
-        out.write_all(markup.as_bytes())?;
+        page.extend_from_slice(markup.as_bytes());
         match parts.next() {
-            Some("title") => out.write_all(escape(&book.title).as_bytes())?,
-            Some("style") => out.write_all(STYLE.concat().as_bytes())?,
-            Some("script") => out.write_all(SCRIPT.concat().as_bytes())?,
-            Some("book") => pack::write_data(book, out)?,
+            Some("made") => page.extend_from_slice(MADE.as_bytes()),
+            Some("title") => page.extend_from_slice(escape(&book.title).as_bytes()),
+            Some("style") => page.extend_from_slice(STYLE.concat().as_bytes()),
+            Some("script") => page.extend_from_slice(SCRIPT.concat().as_bytes()),
+            Some("book") => pack::add_data(book, &mut page),
             _ => {}
         }
     }
-    Ok(())
+    page
 }
 
 /// A stranger's text as HTML text.

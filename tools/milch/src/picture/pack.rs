@@ -2,9 +2,9 @@
 
 use super::data::{Book, Moment, ScreenRow};
 use super::follow::Follower;
+use crate::names::hides;
 use std::collections::HashMap;
 use std::hash::Hash;
-use std::io::{Result, Write};
 
 /// Values numbered from 1 as they first appear; 0 stands for none.
 struct Shared<T> {
@@ -41,36 +41,33 @@ struct Pack {
     rows: Vec<[u64; 12]>,
 }
 
-/// Writes the book as JSON that may stand inside a script element.
-pub fn write_data(book: &Book, out: &mut impl Write) -> Result<()> {
-    let pack = pack(&book.moments);
-    write!(
-        out,
-        "{{\"title\":{},\"main\":{}",
-        text(&book.title),
-        book.main_screen
-    )?;
-    write_list(out, "screens", &book.screens, screen)?;
-    write_list(out, "words", &pack.words.values, |word| text(word))?;
-    write_list(out, "tasks", &pack.tasks.values, |(id, root, screens)| {
+/// Adds the book as JSON that may stand inside a script element.
+pub fn add_data(book: &Book, page: &mut Vec<u8>) {
+    let pack = pack(book);
+    let (title, main, part) = (text(&book.title), book.main_screen, book.part);
+    let head = format!("{{\"title\":{title},\"main\":{main},\"part\":{part}");
+    page.extend_from_slice(head.as_bytes());
+    add_list(page, "screens", &book.screens, screen);
+    add_list(page, "words", &pack.words.values, |word| text(word));
+    add_list(page, "tasks", &pack.tasks.values, |(id, root, screens)| {
         format!("[{id},{root},{}]", numbers(screens))
-    })?;
-    write_list(out, "stacks", &pack.stacks.values, |stack| numbers(stack))?;
-    write_list(out, "gone", &pack.gone.values, |screens| numbers(screens))?;
-    write_list(out, "moments", &pack.rows, |row| numbers(row))?;
-    write!(out, "}}")
+    });
+    add_list(page, "stacks", &pack.stacks.values, |stack| numbers(stack));
+    add_list(page, "gone", &pack.gone.values, |screens| numbers(screens));
+    add_list(page, "moments", &pack.rows, |row| numbers(row));
+    page.push(b'}');
 }
 
-fn pack(moments: &[Moment]) -> Pack {
+fn pack(book: &Book) -> Pack {
     let mut pack = Pack {
         words: Shared::new(),
         tasks: Shared::new(),
         stacks: Shared::new(),
         gone: Shared::new(),
-        rows: Vec::with_capacity(moments.len()),
+        rows: Vec::with_capacity(book.moments.len()),
     };
-    let mut follower = Follower::default();
-    for moment in moments {
+    let mut follower = Follower::new(&book.before);
+    for moment in &book.moments {
         let row = pack.row(moment, &mut follower);
         pack.rows.push(row);
     }
@@ -98,10 +95,9 @@ impl Pack {
             moment.mark.into(),
             step.came as u64,
             step.opened.into(),
-            if step.gone.is_empty() {
-                0
-            } else {
-                self.gone.number(step.gone) as u64
+            match moment.gone.is_empty() {
+                true => 0,
+                false => self.gone.number(moment.gone.clone()) as u64,
             },
         ]
     }
@@ -119,18 +115,15 @@ fn screen(row: &ScreenRow) -> String {
     format!("[{},{},{}]", text(&row.name), text(&row.mode), row.affinity)
 }
 
-fn write_list<T>(
-    out: &mut impl Write,
-    name: &str,
-    list: &[T],
-    each: impl Fn(&T) -> String,
-) -> Result<()> {
-    write!(out, ",\n\"{name}\":[")?;
+fn add_list<T>(page: &mut Vec<u8>, name: &str, list: &[T], each: impl Fn(&T) -> String) {
+    page.extend_from_slice(format!(",\n\"{name}\":[").as_bytes());
     for (at, value) in list.iter().enumerate() {
-        let comma = if at == 0 { "" } else { "," };
-        write!(out, "{comma}{}", each(value))?;
+        if at > 0 {
+            page.push(b',');
+        }
+        page.extend_from_slice(each(value).as_bytes());
     }
-    write!(out, "]")
+    page.push(b']');
 }
 
 fn numbers<N: ToString>(list: &[N]) -> String {
@@ -154,14 +147,6 @@ fn text(word: &str) -> String {
 
 /// The same with controls, and what turns the direction of writing, made visible.
 pub fn shown(word: &str) -> String {
-    let hides = |letter: char| {
-        letter.is_control()
-            || matches!(
-                letter,
-                '\u{61c}' | '\u{200b}' | '\u{200e}' | '\u{200f}' | '\u{2028}'..='\u{202e}'
-            )
-            || matches!(letter, '\u{2060}'..='\u{206f}' | '\u{feff}')
-    };
     word.chars().fold(String::new(), |mut all, letter| {
         if hides(letter) {
             all.push_str(&format!("\\u{{{:x}}}", letter as u32));

@@ -2,7 +2,7 @@
 
 use super::data::{Book, Moment, ScreenRow, TaskView};
 use super::follow::{Follower, Step, NEW, STAYS};
-use super::write_page;
+use super::{is_page, page as page_of};
 
 fn screen(name: &str, mode: &str, affinity: u8) -> ScreenRow {
     ScreenRow {
@@ -47,6 +47,7 @@ fn small() -> Book {
     moments[1].reason = "R18: no task is found for it".into();
     moments[2].mark = true;
     moments[2].refusal = Some("22: a task is there".into());
+    moments[3].gone = vec![1];
     let screens = vec![
         screen("Prices", "standard", 1),
         screen("Seats", "single-task", 2),
@@ -54,15 +55,15 @@ fn small() -> Book {
     Book {
         title: "two.recording".into(),
         screens,
-        main_screen: 0,
         moments,
+        ..Book::default()
     }
 }
 
 fn page(book: &Book) -> String {
-    let mut out = Vec::new();
-    write_page(book, &mut out).expect("memory takes it");
-    String::from_utf8(out).expect("the page is text")
+    let page = page_of(book);
+    assert!(is_page(&page[..1024]));
+    String::from_utf8(page).expect("the page is text")
 }
 
 fn data(page: &str) -> &str {
@@ -77,7 +78,7 @@ fn a_small_book_is_in_the_page() {
     assert!(page.contains("<title>two.recording · stacks</title>"));
     assert_eq!(
         data(&page),
-        "{\"title\":\"two.recording\",\"main\":0,\n\
+        "{\"title\":\"two.recording\",\"main\":0,\"part\":false,\n\
          \"screens\":[[\"Prices\",\"standard\",1],[\"Seats\",\"single-task\",2]],\n\
          \"words\":[\"launch\",\"start Seats NEW_TASK\",\"R18: no task is found for it\",\"22: a task is there\",\"back\"],\n\
          \"tasks\":[[1,0,[0]],[2,1,[1]]],\n\
@@ -152,26 +153,25 @@ fn an_empty_recording_is_a_page() {
 }
 
 fn follow(moments: &[Moment]) -> Vec<Step> {
-    let mut follower = Follower::default();
+    let mut follower = Follower::new(&[]);
     moments.iter().map(|moment| follower.step(moment)).collect()
 }
 
-fn step(ids: &[u64], came: usize, opened: bool, gone: &[u8]) -> Step {
+fn step(ids: &[u64], came: usize, opened: bool) -> Step {
     Step {
         ids: ids.to_vec(),
         came,
         opened,
-        gone: gone.to_vec(),
     }
 }
 
 #[test]
 fn tasks_are_followed() {
     let steps = follow(&small().moments);
-    assert_eq!(steps[0], step(&[1], NEW, true, &[]));
-    assert_eq!(steps[1], step(&[2, 1], NEW, true, &[]));
-    assert_eq!(steps[2], step(&[2, 1], STAYS, false, &[]));
-    assert_eq!(steps[3], step(&[1], 2, false, &[1]));
+    assert_eq!(steps[0], step(&[1], NEW, true));
+    assert_eq!(steps[1], step(&[2, 1], NEW, true));
+    assert_eq!(steps[2], step(&[2, 1], STAYS, false));
+    assert_eq!(steps[3], step(&[1], 2, false));
 }
 
 #[test]
@@ -189,8 +189,8 @@ fn the_third_task_comes_and_the_caller_goes() {
         moment(2, "finish-start 6", 1, &after, 2),
         moment(3, "start 6 CLEAR_TASK", 3, &cleared, 2),
     ]);
-    assert_eq!(steps[1], step(&[3, 2, 4], 3, true, &[4]));
-    assert_eq!(steps[2], step(&[3, 2, 4], STAYS, true, &[6, 5, 2]));
+    assert_eq!(steps[1], step(&[3, 2, 4], 3, true));
+    assert_eq!(steps[2], step(&[3, 2, 4], STAYS, true));
 }
 
 #[test]
@@ -199,5 +199,14 @@ fn a_new_task_of_the_same_root_is_another() {
     let mut again = moment(2, "finish-start 1 MULTIPLE_TASK", 1, &alone, 0);
     again.rule = 11;
     let steps = follow(&[moment(1, "as it was", 0, &alone, 1), again]);
-    assert_eq!(steps[1], step(&[2], NEW, true, &[1]));
+    assert_eq!(steps[1], step(&[2], NEW, true));
+}
+
+/// A part begins with the tasks that stand before it.
+#[test]
+fn a_part_is_followed() {
+    let book = small();
+    let both = [task(1, &[1]), task(0, &[0])];
+    let mut follower = Follower::new(&both);
+    assert_eq!(follower.step(&book.moments[3]), step(&[2], 2, false));
 }

@@ -49,6 +49,12 @@ pub fn wrote(ran: Ran, out: &str) {
     assert_eq!(ran.out, out);
 }
 
+/// It is done, wrote this and warned so.
+pub fn warned(ran: Ran, out: &str, said: &str) {
+    assert_eq!((ran.status, ran.said.as_str()), (0, said), "{}", ran.out);
+    assert_eq!(ran.out, out);
+}
+
 /// It failed with this message.
 pub fn failed(ran: Ran, said: &str) {
     assert_eq!((ran.status, ran.said.as_str()), (2, said));
@@ -75,4 +81,22 @@ pub fn recording(table: &[u8], records: &[(u8, u8, u32)]) -> Vec<u8> {
         bytes.extend(word.to_be_bytes());
     }
     bytes
+}
+
+/// The name of a file that is not there.
+pub fn fresh(name: &str) -> String {
+    let path = PathBuf::from(env!("CARGO_TARGET_TMPDIR")).join(name);
+    // It is there where the tests ran before.
+    let _ = fs::remove_file(&path);
+    path.to_str().expect("a name").to_string()
+}
+
+/// How many parts of a file stand beside it.
+pub fn parts(file: &str) -> usize {
+    let path = Path::new(file);
+    let name = path.file_name().expect("a name").to_string_lossy();
+    let beside = fs::read_dir(path.parent().expect("a folder")).expect("a folder");
+    let names = beside.filter_map(|found| found.ok()?.file_name().into_string().ok());
+    let parts = names.filter(|found| found.starts_with(&*name) && found.ends_with(".part"));
+    parts.count()
 }

@@ -2,8 +2,11 @@
 
 use std::collections::BTreeSet;
 use std::io::Write;
-use std::process::{Command, Stdio};
-use std::thread;
+use std::path::Path;
+use std::process::{self, Command, Stdio};
+use std::{env, fs, thread};
+
+use milchkompass::Refusal;
 
 use crate::make;
 use crate::random::Random;
@@ -24,8 +27,23 @@ struct Seen {
     marks: BTreeSet<u8>,
 }
 
-/// Shows and plays random recordings of so many records together.
+/// Shows and plays random recordings of so many records together, every other one
+/// with names.
 pub fn check(player: &str, milch: &str, records: usize, seed: u64) -> Result<String, String> {
+    let names = env::temp_dir().join(format!("milch-names-{}", process::id()));
+    let checked = check_with(player, milch, records, seed, &names);
+    // Where something was wrong early, it may not be there.
+    let _ = fs::remove_file(&names);
+    checked
+}
+
+fn check_with(
+    player: &str,
+    milch: &str,
+    records: usize,
+    seed: u64,
+    names: &Path,
+) -> Result<String, String> {
     let mut random = Random::new(seed);
     let mut seen = Seen::default();
     let mut recordings = 0;
@@ -35,6 +53,10 @@ pub fn check(player: &str, milch: &str, records: usize, seed: u64) -> Result<Str
         let played = output(Command::new(player), &recording)?;
         let mut command = Command::new(milch);
         command.args(["show", "-"]);
+        if let Some(text) = make::names(&recording).filter(|_| recordings % 2 == 0) {
+            fs::write(names, text).map_err(|error| error.to_string())?;
+            command.arg("--names").arg(names);
+        }
         let shown = output(command, &recording)?;
         recordings += 1;
         compare(&played, &shown, &mut seen)
@@ -42,7 +64,7 @@ pub fn check(player: &str, milch: &str, records: usize, seed: u64) -> Result<Str
     }
     seen.missing()?;
     Ok(format!(
-        "show carries the player's numbers: {} lines of {recordings} recordings",
+        "show carries the player's numbers: {} lines of {recordings} recordings, half with names",
         seen.lines
     ))
 }
@@ -86,8 +108,7 @@ impl Seen {
         let numbers: Result<Vec<u8>, _> = played.split(' ').map(str::parse).collect();
         let numbers = numbers.ok().filter(|numbers| numbers.len() == 10)?;
         if numbers[0] == 0 && numbers[1] == 1 {
-            let stopped = "     0  no table  refusal 1: the table's length does not fit its \
-                           number of screens, or that is not 1 to 64";
+            let stopped = format!("     0  no table  {}", Refusal::TableLength);
             (shown == format!("{stopped}  | {played}")).then_some(())?;
         } else {
             let line = said::parts(shown)?;

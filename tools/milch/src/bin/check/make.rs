@@ -1,5 +1,6 @@
 //! Random recordings: good ones, and ones that are wrong in each way.
 
+use milch::opening::{self, Opening};
 use milchkompass::Flags;
 
 use crate::random::Random;
@@ -141,4 +142,13 @@ pub fn typical(random: &mut Random, records: usize) -> Vec<u8> {
         bytes.extend(record(random, &MOODS[0], 6));
     }
     bytes
+}
+
+/// Names of the screens of a recording, `n0` and so on, if it begins with a table.
+pub fn names(recording: &[u8]) -> Option<String> {
+    let Opening::Table(replay) = opening::begin(recording) else {
+        return None;
+    };
+    let lines = (0..replay.rows().len()).map(|screen| format!("{screen} n{screen}\n"));
+    Some(lines.collect())
 }

@@ -1,6 +1,7 @@
 //! What a line of `show` says in words, as the numbers of the player's line.
 
-/// The parts of a line of `show`, which is made without names.
+/// The parts of a line of `show`, which is made without names, or with `n0` for 0
+/// and so on.
 pub struct Line<'a> {
     pub number: u64,
     pub stacks: &'a str,
@@ -47,7 +48,8 @@ impl Line<'_> {
         let main = main.map_or(0, |place| place as u8 + 1);
         let (root, screens) = tasks[0].trim_start_matches('*').split_once(":[")?;
         let screens: Vec<&str> = screens.strip_suffix(']')?.split(',').collect();
-        let (screen, root) = (screens[0].parse().ok()?, root.parse().ok()?);
+        let number = |screen: &str| screen.trim_start_matches('n').parse().ok();
+        let (screen, root) = (number(screens[0])?, number(root)?);
         let (height, tasks) = (screens.len() as u8, tasks.len() as u8);
         Some([0, screen, root, height, tasks, main, closed, edition, mark])
     }
