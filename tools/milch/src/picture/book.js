@@ -29,10 +29,13 @@ function isRefused(at) {
   return book.moments[at][2] !== 0;
 }
 
+const firstNumber = count ? book.moments[0][0] : 0;
+const lastNumber = count ? book.moments[count - 1][0] : 0;
+
 // The place of a record's number among the moments, or -1.
 function place(number) {
-  if (count && book.moments[number - 1] && book.moments[number - 1][0] === number) return number - 1;
-  return book.moments.findIndex((row) => row[0] === number);
+  const at = number - firstNumber;
+  return Number.isInteger(at) && at >= 0 && at < count ? at : -1;
 }
 
 function givenName(screen) {

@@ -30,6 +30,7 @@ function showMoment(m) {
   numberBox.value = m.number;
   later('live', 200, () => { find('live').textContent = spoken(m); });
   later('address', 300, () => history.replaceState(null, '', '#' + m.number));
+  later('printed', 300, drawPrinted);
 }
 
 function choose(at) {
@@ -47,7 +48,9 @@ function drawAll() {
   showWindow();
 }
 
+// Keys move from record to record, but in what needs them itself.
 function onKey(event) {
+  if (event.target instanceof Element && event.target.closest('#number, #slider, #stacks')) return;
   const [first, last] = inSight();
   const page = Math.max(1, last - first - 1);
   const steps = { ArrowLeft: -1, ArrowRight: 1, PageUp: -page, PageDown: page, Home: -count, End: count };
@@ -102,7 +105,7 @@ function resize(size) {
 }
 
 function listen() {
-  strip.addEventListener('keydown', onKey);
+  addEventListener('keydown', onKey);
   strip.addEventListener('scroll', () => soon(drawAll));
   strip.addEventListener('click', (event) => {
     const box = columnAt(event.target);
@@ -110,6 +113,7 @@ function listen() {
   });
   strip.addEventListener('mousemove', showTip);
   strip.addEventListener('mouseleave', hideTip);
+  heights.addEventListener('click', (event) => choose(nearest(event.offsetX)));
   slider.addEventListener('input', () => choose(Number(slider.value)));
   numberBox.addEventListener('change', toNumber);
   find('previous').addEventListener('click', () => choose(view.chosen - 1));
@@ -123,6 +127,7 @@ function listen() {
   });
   addEventListener('keydown', (event) => event.key === 'Escape' && hideTip());
   addEventListener('hashchange', fromAddress);
+  addEventListener('beforeprint', drawPrinted);
   addEventListener('resize', () => {
     bringIntoSight(view.chosen);
     soon(drawAll);
@@ -135,7 +140,8 @@ function summary() {
   const refused = book.moments.filter((row) => row[2]).length;
   const most = book.stacks.reduce((all, stack) => Math.max(all, stack.length), 0);
   const records = count === 1 ? '1 record' : count + ' records';
-  return `${records} · ${refused} refused · ${book.screens.length} screens · at most ${most} ${most === 1 ? 'task' : 'tasks'} at once`;
+  const part = book.part ? `, ${firstNumber} to ${lastNumber} of more` : '';
+  return `${records}${part} · ${refused} refused · ${book.screens.length} screens · at most ${most} ${most === 1 ? 'task' : 'tasks'} at once`;
 }
 
 function begin() {
@@ -147,14 +153,15 @@ function begin() {
     return;
   }
   slider.max = count - 1;
-  numberBox.min = book.moments[0][0];
-  numberBox.max = book.moments[count - 1][0];
-  find('last').textContent = 'of ' + book.moments[count - 1][0];
+  numberBox.min = firstNumber;
+  numberBox.max = lastNumber;
+  find('last').textContent = (book.part ? 'of ' + firstNumber + ' to ' : 'of ') + lastNumber;
   redraw();
   drawOverview();
   fromAddress();
   drawAll();
   listen();
+  strip.focus({ preventScroll: true });
   document.documentElement.dataset.ready = Math.round(performance.now());
 }
 

@@ -5,6 +5,7 @@ const lines = document.getElementById('lines');
 const wide = { width: 157, narrow: false };
 const slim = { width: 60, narrow: true };
 const spare = 2;
+const beside = 2;
 // Browsers bound the width of a page: of a longer recording the strip holds so many columns, from `base`.
 const span = 50000;
 const view = { size: wide, whole: false, chosen: 0, base: 0, boxes: new Map() };
@@ -108,6 +109,19 @@ function redraw() {
   canvas.style.width = Math.min(span, count) * view.size.width + 'px';
   strip.classList.toggle('narrow', view.size.narrow);
   drawColumns();
+}
+
+// What is printed: the columns around the chosen record, with their whole stacks.
+function drawPrinted() {
+  const boxes = [];
+  const last = Math.min(count - 1, view.chosen + beside);
+  for (let at = Math.max(0, view.chosen - beside); at <= last; at += 1) {
+    const box = columnBox(at, 0, true);
+    box.removeAttribute('id');
+    markChosen(box, at);
+    boxes.push(box);
+  }
+  document.getElementById('printed').replaceChildren(...boxes);
 }
 
 // Draws with the next frame, and once in it.

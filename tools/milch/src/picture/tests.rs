@@ -146,6 +146,18 @@ fn the_page_needs_nothing_else() {
     assert!(!page.contains("@@"));
 }
 
+/// On paper the columns around the chosen record stand in the place of the strip.
+#[test]
+fn the_page_has_a_form_for_paper() {
+    let page = page(&small());
+    let (_, paper) = page.split_once("@media print {").expect("a form for paper");
+    let (paper, _) = paper.split_once("\n}\n").expect("its end");
+    assert!(paper.contains("#strip, #time, #tip, #legend { display: none; }"));
+    assert!(paper.contains("#printed { display: flex;"));
+    assert!(page.contains("#printed { display: none; }"));
+    assert!(page.contains("<div id=\"printed\" aria-hidden=\"true\"></div>"));
+}
+
 #[test]
 fn an_empty_recording_is_a_page() {
     let page = page(&Book::default());

@@ -2,7 +2,7 @@
 function stackText(m) {
   const parts = ['RECORD ' + m.number + ': ', isolated(m.call), '\n'];
   if (m.refusal || m.reason) parts.push('  ' + (m.refusal || m.reason) + '\n');
-  if (m.closed) parts.push('  closed ' + m.closed + '\n');
+  if (m.closed) parts.push('  closed ' + m.closed + ': ', ...listed(m.gone), '\n');
   parts.push('STACKS: tasks=' + m.tasks.length + ' edition=' + m.edition + ' mark=' + (m.mark ? 'no-history' : 'none') + '\n');
   m.tasks.forEach((task, at) => parts.push(...taskText(task, at + 1, m)));
   return parts;
@@ -18,6 +18,11 @@ function taskText(task, place, m) {
     parts.push('    Hist #' + (size - 1 - depth) + ': ', shortName(screen), ' mode=' + screenMode(screen) + '\n');
   });
   return parts;
+}
+
+// Screens as `milch show` lists them.
+function listed(screens) {
+  return screens.flatMap((screen, at) => (at ? [',', shortName(screen)] : [shortName(screen)]));
 }
 
 function shortName(screen) {

@@ -36,7 +36,7 @@ function taskWords(task, at, main) {
 
 function spoken(m) {
   const stand = m.tasks.map((task, at) => taskWords(task, at, m.main));
-  const parts = ['Record ' + m.number + ' of ' + book.moments[count - 1][0], m.call];
+  const parts = ['Record ' + m.number + ' of ' + lastNumber, m.call];
   if (m.refusal) parts.push('Refused, ' + m.refusal, 'Nothing changed');
   if (m.reason) parts.push(m.reason);
   parts.push(...changes(m));
