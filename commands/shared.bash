@@ -1,9 +1,9 @@
-# What the commands share. A command sources this file, sets `usage`, and then calls, in this order:
+# What the commands share. `milch` sources this file and then that of the command, which sets `usage` and calls, in this order:
 #
-#   arguments N "$@"    there are N names, or with N.. at least N; else the usage
+#   take "$@"           reads the arguments by the usage, and names what is wrong with them
 #   readable NAME       for each file that the program opens: a message where it cannot be read
 #   take_input NAME     for one that it gets as its standard input: the same, and opens it
-#   build PROGRAM ..    proves and builds the program, unless it was built from these sources by this kit
+#   build PROGRAM       sets `built` to the program; in a checkout it proves and builds it first, unless that is done
 #   run ARGUMENT..      runs it
 #
 # A command ends with status 0 where all is done. Anything else is a message on standard error and status 2.
@@ -18,6 +18,7 @@
 set -uo pipefail
 unset CDPATH
 command=${0##*/}
+asked=''
 about=''
 
 say() { printf '%s: %s\n' "$command" "$1" >&2; }
@@ -35,32 +36,149 @@ input_closed=''
 
 here=$(cd "$(dirname "$(readlink -f "${BASH_SOURCE[0]}")")/.." && pwd) || fail 'cannot tell where it stands'
 
-# ---- arguments
+# Where it was installed: the file that tells what of. Then the programs stand here and nothing is built; and the texts name the
+# command and the sample as they are found there.
+installed=''
+own=./milch
+if [ -e "$here/installed" ]; then
+    installed=$here/installed
+    own=milch
+fi
 
-refuse() {
-    printf '%s\n' "$usage" >&2
-    exit 2
-}
+# ---- texts
 
 # Writes a text to standard output, or fails: in a process of its own, which a closed pipe may end.
 print() {
     (printf '%s\n' "$1" 2>/dev/null) || fail 'standard output cannot be written'
 }
 
-arguments() { # N ARGUMENT..
-    local wanted=$1 name
-    shift
-    if [ $# -eq 1 ] && [ "$1" = --help ]; then
-        print "$usage"
+# A text as it holds where this stands.
+placed() { # TEXT
+    local text=$1
+    if [ -n "$installed" ]; then
+        text=${text//.\/milch/milch}
+        text=${text// sample.recording/ "${here%/lib/milchkompass}/share/milchkompass/sample.recording"}
+    fi
+    printf '%s\n' "$text"
+}
+
+# The help of the whole, or of a command of the program in tools/milch, which has it too.
+text_of() { # NAME
+    local folder=$here/tools/milch/src/usage
+    [ -z "$installed" ] || folder=$here/usage
+    cat "$folder/$1.txt" 2>/dev/null || fail "$folder/$1.txt cannot be read"
+}
+
+# ---- arguments
+
+known=''
+refuse() { # MESSAGE
+    fail "${known:+$asked: }$1; '$own ${known:+$asked }--help' says what it takes"
+}
+
+# Reads the first lines of the usage, up to one that begins with a letter. There a WORD is an argument, [--option] and
+# [--option WORD] may be left out, --option WORD may not, and ... is for more of the last. Sets `wanted` to the arguments,
+# `kind` of each option to its WORD or 'nothing', and `due` to the options that may not be left out.
+synopsis() {
+    local text=$usage line words='' word next=''
+    while [ -n "$text" ]; do
+        line=${text%%$'\n'*}
+        case $line in "usage: "* | ' '*) words+=" $line" ;; *) break ;; esac
+        text=${text#"$line"}
+        text=${text#$'\n'}
+    done
+    set -f
+    # shellcheck disable=SC2086
+    set -- ${words#" usage: ./milch $asked"}
+    set +f
+    for word; do
+        if [ -n "$next" ]; then
+            kind[$next]=${word%]}
+            next=''
+            continue
+        fi
+        case $word in
+            '[--'*']') word=${word#[} && kind[${word%]}]=nothing ;;
+            '[--'*) next=${word#[} ;;
+            --*) next=$word && due+=("$word") ;;
+            *) wanted+=("$word") ;;
+        esac
+    done
+}
+
+# Fails where a value is not of its kind: K is the number of a record, anything else the name of a file.
+fits() { # WHAT KIND VALUE
+    case $2 in
+        K) [[ $3 =~ ^0*[1-9][0-9]*$ ]] || refuse "$1 '$3' is no record's number, of which the first is 1" ;;
+        *) [ -n "$3" ] || refuse "$1 is an empty name" ;;
+    esac
+}
+
+# Reads the arguments by the usage. Sets `plain` to those that are no options, `option` of each option that is given to its
+# value or 'yes', and `files` to the names of what is read.
+declare -a plain=() files=()
+declare -A option=()
+take() { # ARGUMENT..
+    local -a wanted=() due=()
+    local -A kind=()
+    local name
+    known=yes
+    if [ $# -eq 1 ] && [[ $1 = --help || $1 = -h ]]; then
+        print "$(placed "$usage")"
         exit 0
     fi
-    case $wanted in
-        *..) [ $# -ge "${wanted%..}" ] || refuse ;;
-        *) [ $# -eq "$wanted" ] || refuse ;;
-    esac
-    for name; do
-        case $name in '' | -?*) refuse ;; esac
+    synopsis
+    while [ $# -gt 0 ]; do
+        case $1 in
+            -?*)
+                take_option "$@"
+                [ "${kind[$1]}" = nothing ] || shift
+                ;;
+            *) take_plain "$1" ;;
+        esac
+        shift
     done
+    for name in "${wanted[@]:${#plain[@]}}"; do [ "$name" = ... ] || refuse "$name is missing"; done
+    for name in "${due[@]}"; do [ -n "${option[$name]-}" ] || refuse "$name ${kind[$name]} is missing"; done
+    in_order
+    read_once
+}
+
+take_option() { # OPTION [VALUE..]
+    local kind_of=${kind[$1]-}
+    [[ $1 != --help && $1 != -h ]] || refuse "$1 stands alone behind the command"
+    [ -n "$kind_of" ] || refuse "no option $1 is known"
+    [ -z "${option[$1]-}" ] || refuse "$1 is given twice"
+    if [ "$kind_of" = nothing ]; then
+        option[$1]=yes
+        return
+    fi
+    [ $# -ge 2 ] || refuse "$kind_of is missing behind $1"
+    fits "$1" "$kind_of" "$2"
+    option[$1]=$2
+    [ "$kind_of" != NAMES ] || files+=("$2")
+}
+
+take_plain() { # ARGUMENT
+    local at=${#plain[@]}
+    [ "${wanted[at]-...}" != ... ] || at=$((${#wanted[@]} - 2))
+    [ "${#plain[@]}" -lt "${#wanted[@]}" ] || [ "${wanted[-1]}" = ... ] || refuse "'$1' is one argument too many"
+    fits "${wanted[at]}" "${wanted[at]}" "$1"
+    plain+=("$1")
+    [ "${wanted[at]}" = K ] || files+=("$1")
+}
+
+# --to K is not before --from K. Numbers of more digits than these the program compares.
+in_order() {
+    local from=${option[--from]-1} to=${option[--to]-}
+    [ -n "$to" ] && [ "${#from}" -le 18 ] && [ "${#to}" -le 18 ] || return 0
+    [ "$((10#$from))" -le "$((10#$to))" ] || refuse "--to $to is before --from $from"
+}
+
+read_once() {
+    local name inputs=0
+    for name in "${files[@]}"; do ! names_input "$name" || inputs=$((inputs + 1)); done
+    [ "$inputs" -le 1 ] || refuse 'standard input can be read once only'
 }
 
 # Whether a name is that of standard input.
@@ -73,7 +191,7 @@ readable() { # NAME
         file=/dev/fd/0
     fi
     [ -e "$file" ] || fail "$1: no such file"
-    [ ! -d "$file" ] || fail "$1 is a directory, and no recording"
+    [ ! -d "$file" ] || fail "$1 is a directory, and no file"
     [ -r "$file" ] || fail "$1 may not be read"
 }
 
@@ -88,96 +206,14 @@ take_input() { # NAME
 
 # ---- the program
 
-# The crates that a program is made of: itself and those that it reaches.
-crates_of() { # PROGRAM
-    awk -v program="$1" '
-        { sub(/#.*/, ""); colon = index($0, ":") }
-        colon { name = substr($0, 1, colon - 1); gsub(/[ \t]/, "", name); below[name] = substr($0, colon + 1) }
-        END {
-            todo[count = 1] = program
-            for (i = 1; i <= count; i++) {
-                name = todo[i]
-                if (!(name in below) || name in seen) continue
-                seen[name]
-                print name
-                many = split(below[name], names, " ")
-                for (k = 1; k <= many; k++) todo[++count] = names[k]
-            }
-        }' "$here/crates.txt"
-}
-
-# What a program is built from, as one number: the kit, of each crate its line and its files, and FILEs beside them, whatever
-# their times.
-sources_of() { # CRATE [FILE..]
-    (
-        cd "$here" || exit
-        mapfile -t crates < <(crates_of "$1" | sort)
-        shift
-        {
-            printf '%s\n' "$kit"
-            for crate in "${crates[@]}"; do grep "^$crate:" crates.txt; done
-            find "${crates[@]/#/crates/}" "$@" -type f ! -path '*/must-fail/*' ! -path '*/target/*' -print0 |
-                LC_ALL=C sort -z | xargs -0 sha256sum
-        } | sha256sum | cut -d ' ' -f 1
-    )
-}
-
-# Says how far a build is: on a terminal in one line that changes.
-progress() { # PROGRAM DONE ALL
-    local end='\n'
-    [ ! -t 2 ] || end='\r'
-    printf "%s: proving and building '%s' from its sources, which happens once: %d of %d crates are proved$end" \
-        "$command" "$1" "$2" "$3" >&2
-}
-
-# Keeps a copy of what was built, under its sources' number, so that it is there whole or not at all.
-keep() { # PROGRAM FILE
-    [ "$built" = "$here/.built/$1-$(sources_of "${sources[@]}")" ] || fail 'the sources changed while they were proved: try again'
-    rm -f "$here/.built/$1-"*
-    cp "$2" "$here/.built/$1.new" && mv "$here/.built/$1.new" "$built" || fail "'$1' could not be kept in .built"
-}
-
-# Proves and builds a program. A command whose program is made in another way has a function of its own in its place.
-prove() { # PROGRAM
-    local program=$1 log=$here/.built/$1.log all done=0 line
-    all=$(crates_of "$program" | wc -l)
-    progress "$program" 0 "$all"
-    (cd "$here" && rt check "$program" 2>&1 </dev/null) | tee "$log" | while IFS= read -r line; do
-        case $line in
-            'rt: '*' proved (unchanged'*) done=$((done + 1)) ;;
-            'rt: '*' proved ('*) done=$((done + 1)) && progress "$program" "$done" "$all" ;;
-        esac
-    done
-    local status=$?
-    [ ! -t 2 ] || printf '\n' >&2
-    if [ "$status" -ne 0 ]; then
-        grep -E '^rt: .*(NOT PROVED|FAILED)' "$log" >&2
-        fail "'$program' could not be proved and built; what rt said stands in .built/$program.log"
-    fi
-    keep "$program" "$here/target/bin/$program"
-}
-
-# Sets `built` to the program, which is made of the crate of its name or of CRATE, and of FILEs. One build goes on at a time,
-# under a lock which stands outside of target/, and the others wait.
-build() { # PROGRAM [CRATE FILE..]
-    local program=$1 kit lock
-    local -a sources=("${@:2}")
-    [ $# -gt 1 ] || sources=("$program")
-    kit=$(rt version 2>/dev/null </dev/null) || fail "the kit's command 'rt' cannot be run: README.md names the kit"
-    built=$here/.built/$program-$(sources_of "${sources[@]}")
-    [ ! -x "$built" ] || return 0
-    if ! { mkdir -p "$here/.built" "$here/target" && [ -w "$here/.built" ] && [ -w "$here/target" ] &&
-        exec {lock}>>"$here/.built/lock"; } 2>/dev/null; then
-        fail "'$program' has yet to be built from these sources, and $here cannot be written"
-    fi
-    if ! flock -n "$lock"; then
-        say 'waiting for another build'
-        flock "$lock" || fail 'the lock .built/lock cannot be had'
-    fi
-    built=$here/.built/$program-$(sources_of "${sources[@]}")
-    [ -x "$built" ] || prove "$program"
-    exec {lock}>&-
-}
+if [ -n "$installed" ]; then
+    build() { # PROGRAM
+        built=$here/programs/$1
+        [ -x "$built" ] || fail "$built is missing: install it again"
+    }
+else
+    . "$here/commands/build.bash" || fail "$here/commands/build.bash cannot be read"
+fi
 
 run() { # ARGUMENT..
     local said status=0 line failed=''
