@@ -20,24 +20,22 @@ free_for() { # DIR
     [ -z "$found" ] || refuse "$1 is not empty, and no earlier install"
 }
 
-# A proved program for other machines: its object with the kit's C code and a C library.
-link_program() { # FILE
-    local kit_code
+# Links the proved programs for other machines: their objects with the kit's C code and a C library.
+link_programs() { # FOLDER
+    local program kit_code
     kit_code=$(dirname "$(readlink -f "$(command -v rt)")")/../lib/libos_c.a
     [ -r "$kit_code" ] || fail "the kit has no $kit_code"
-    cc -static -o "$1" "$built.o" "$kit_code" >&2 || fail "$built.o cannot be linked"
+    for program in player explain depth same; do
+        cc -static -o "$1/$program" "${made[$program]}.o" "$kit_code" >&2 || fail "'$program' cannot be linked"
+    done
 }
 
 # Lays everything out as it will stand.
 lay_out() { # FOLDER
-    local own=$1/lib/milchkompass program
+    local own=$1/lib/milchkompass
     mkdir -p "$own/programs" "$own/usage" "$1/bin" "$1/share/milchkompass" || return
-    for program in player explain depth same; do
-        build "$program"
-        link_program "$own/programs/$program"
-    done
-    build milch
-    cp "$built" "$own/programs/milch" && cp -R "$built.library/." "$1" && cp "$here/milch" "$1/bin/" &&
+    link_programs "$own/programs"
+    cp "${made[milch]}" "$own/programs/milch" && cp -R "${made[milch]}.library/." "$1" && cp "$here/milch" "$1/bin/" &&
         cp -R "$here/commands" "$own/" && cp "$here/tools/milch/src/usage/"*.txt "$own/usage/" &&
         cp "$here/sample.recording" "$here/prices.recording" "$here/prices.names" "$1/share/milchkompass/" || return
     rm "$own/commands/build.bash" "$own/commands/library.bash" && version >"$own/installed"
@@ -49,7 +47,11 @@ folder=${plain[0]}
 free_for "$folder"
 type cc >/dev/null 2>&1 || fail "the C compiler 'cc' cannot be run, which links the programs for other machines"
 static_c || fail "'cc' has no libc.a, which the programs are linked with for other machines (Debian: libc6-dev)"
-for program in player explain depth same milch; do build "$program"; done
+declare -A made=()
+for program in player explain depth same milch; do
+    build "$program"
+    made[$program]=$built
+done
 mkdir -p "$folder" 2>/dev/null && new=$(mktemp -d "$folder/.new.XXXXXX" 2>/dev/null) || fail "$folder cannot be made or written"
 trap 'rm -rf "$new"; rmdir "$folder" 2>/dev/null' EXIT
 lay_out "$new" || fail "$folder cannot be written"

@@ -153,7 +153,8 @@ take_option() { # OPTION [VALUE..]
         option[$1]=yes
         return
     fi
-    [ $# -ge 2 ] || refuse "$kind_of is missing behind $1"
+    [ $# -ge 2 ] || refuse "behind $1 $kind_of is missing"
+    [ "$1 $2" != '--out -' ] || refuse "$1 - is no file to be written"
     fits "$1" "$kind_of" "$2"
     option[$1]=$2
     [ "$kind_of" != NAMES ] || files+=("$2")

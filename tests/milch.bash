@@ -20,6 +20,9 @@ check 'milch --version and more' 2 '' "milch: 'more' is too much: --version stan
 name='one command at the root' status=0
 [ "$(find . -maxdepth 1 -type f -perm /111)" = ./milch ] || wrong "not $(find . -maxdepth 1 -type f -perm /111)"
 printf 'ok: %s\n' "$name"
+name='README is short' status=0
+[ "$(wc -c <README.md)" -le 10240 ] || wrong "it has $(wc -c <README.md) bytes"
+printf 'ok: %s\n' "$name"
 name='every command is in the help' status=0
 for asked in show at picture play explain same diff depth text bytes install; do
     grep -q "^       ./milch $asked " "$texts/whole.txt" || wrong "$asked is not"
@@ -67,7 +70,7 @@ check 'milch show without a file' 2 '' "$(refused show 'FILE is missing')" ./mil
 check 'milch show with an unknown option' 2 '' "$(refused show 'no option --fast is known')" ./milch show "$sample" --fast
 check 'milch show with an option of no command' 2 '' "$(refused show 'no option --out is known')" ./milch show "$sample" --out page
 check 'milch show with a number twice' 2 '' "$(refused show '--to is given twice')" ./milch show "$sample" --to 3 --to 4
-check 'milch show without a number' 2 '' "$(refused show 'K is missing behind --from')" ./milch show "$sample" --from
+check 'milch show without a number' 2 '' "$(refused show 'behind --from K is missing')" ./milch show "$sample" --from
 check 'milch show --from 08' 0 "$(./milch show "$sample" | tail -n 1)" '' ./milch show "$sample" --from 08 --to 008
 check 'milch show of a missing file' 2 '' 'milch: nothing-here: no such file' ./milch show nothing-here
 check 'milch show of a folder' 2 '' 'milch: crates is a directory, and no file' ./milch show crates
@@ -76,6 +79,7 @@ check 'milch show with standard input closed' 2 '' 'milch: standard input is clo
 check 'milch show onto a full disk' 2 '' 'milch: standard output*' bash -c "./milch show '$sample' >/dev/full"
 check 'milch show into a closed pipe' 0 '' '' \
     bash -c "{ sleep 0.5; ./milch show '$sample'; echo \$? >'$work/status'; } | true; exit \$(cat '$work/status')"
+check 'milch picture to standard output' 2 '' "$(refused picture '--out - is no file to be written')" ./milch picture "$sample" --out -
 check 'milch at without a number' 2 '' "$(refused at 'K is missing')" ./milch at "$sample"
 check 'milch at a record beyond the last' 2 '' "milch: $sample has no record 9: the last is 8" ./milch at "$sample" 9
 check 'milch bytes of no text' 2 '' 'milch: -:1:1: expected *' bash -c 'echo start 0 | ./milch bytes -'

@@ -1,9 +1,13 @@
 # Part of tests/commands: what docs/PROMISES.md names is there: each function in the source of its crate, each clause in its
 # contract, each definition in the file that is linked.
 
-# The contract of a function, from its name to its body.
+# Sets `contract` to that of a function, from its name to its body.
+declare -A contracts=()
 contract_of() { # CRATE FUNCTION
-    cat "crates/$1/src/"*.rt | awk -v name="fn $2(" 'index($0, name) { on = 1 } on { print } on && /^ *\{$/ { exit }'
+    contract=${contracts[$1::$2]-}
+    [ -z "$contract" ] || return 0
+    contract=$(cat "crates/$1/src/"*.rt | awk -v name="fn $2(" 'index($0, name) { on = 1 } on { print } on && /^ *\{$/ { exit }')
+    contracts[$1::$2]=$contract
 }
 # The words in backticks of a text.
 quoted() { grep -o '`[^`]*`' | tr -d '`'; }
@@ -15,13 +19,13 @@ while IFS='|' read -r _ _ functions clauses definitions _; do
     rows=$((rows + 1))
     while read -r function; do
         case $function in
-            milchkompass_*) contract=$(contract_of lent "$function") ;;
-            *::*) contract=$(contract_of "${function%%::*}" "${function#*::}") ;;
+            milchkompass_*) contract_of lent "$function" ;;
+            *::*) contract_of "${function%%::*}" "${function#*::}" ;;
             *) continue ;;
         esac
         [ -n "$contract" ] || wrong "there is no function $function"
         while read -r clause; do
-            grep -q "ensures $clause " <<<"$contract" || wrong "$function has no clause $clause"
+            [[ $contract == *"ensures $clause {"* ]] || wrong "$function has no clause $clause"
         done < <(quoted <<<"$clauses")
     done < <(quoted <<<"$functions")
     while read -r linked; do
