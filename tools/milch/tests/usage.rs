@@ -130,6 +130,21 @@ fn options_that_do_not_go_together() {
     );
 }
 
+/// Arguments are tested before a file is opened.
+#[test]
+fn arguments_come_first() {
+    wrong(
+        &["show", "nothing-here", "--to", "3", "--from", "7"],
+        "--to 3 is before --from 7",
+    );
+    wrong(
+        &["at", "nothing-here", "x"],
+        "K 'x' is no record's number, of which the first is 1",
+    );
+    let picture = ["picture", "nothing-here", "--names", "nothing-there"];
+    wrong(&picture, "--out FILE.html is missing");
+}
+
 #[test]
 fn what_cannot_be_read() {
     for command in ["show", "text", "bytes"] {

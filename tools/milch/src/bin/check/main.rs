@@ -3,9 +3,11 @@
 //! ```text
 //! check lines PLAYER MILCH RECORDS    `show` carries the player's numbers
 //! check round FILES                   text and back gives every file again
+//! check callers RECORDS               what is told of tasks found and of callers is so
 //! check make RECORDS                  writes a recording to standard output
 //! ```
 
+mod callers;
 mod lines;
 mod make;
 mod random;
@@ -26,9 +28,11 @@ fn main() -> ExitCode {
             count(records).and_then(|records| lines::check(player, milch, records as usize, SEED))
         }
         ["round", files] => count(files).and_then(|files| round::check(files, SEED)),
+        ["callers", records] => count(records).and_then(|records| callers::check(records, SEED)),
         ["make", records] => count(records).and_then(|records| make(records as usize)),
         _ => {
-            Err("usage: check lines PLAYER MILCH RECORDS, round FILES or make RECORDS".to_string())
+            let usage = "usage: check lines PLAYER MILCH RECORDS, round FILES, callers RECORDS";
+            Err(format!("{usage} or make RECORDS"))
         }
     };
     match done {
