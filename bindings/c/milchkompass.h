@@ -135,6 +135,9 @@ typedef struct milchkompass_session {
  * there: under a good table every call on them is refused with 20. */
 #define MILCHKOMPASS_SESSION_FRESH {{{0, 0, {0}}}, 0, 0, MILCHKOMPASS_EDITION_8, 0}
 
+/* The same session, from the library. */
+milchkompass_session milchkompass_fresh(void);
+
 /* An answer: the refusal (0 if none), after the call the front screen, the root and the height of the front task, the
  * number of tasks and the main place, all 0 where the session is empty; how many screens the call closed, which is 0
  * for launch, look and restore; and after the call the session's edition, which is 8 where it is empty, and its

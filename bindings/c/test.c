@@ -30,6 +30,7 @@ static void fresh_and_texts(void) {
     expect(!same(fresh, zeros), "a fresh session is not all zeros");
     zeros.edition = E8;
     expect(same(fresh, zeros), "a fresh session is zeros and edition 8");
+    expect(same(fresh, milchkompass_fresh()), "a fresh session is the library's");
     expect(strcmp(milchkompass_refusal_text(MILCHKOMPASS_ACCEPTED), "the call is accepted") == 0, "the text of 0");
     expect(strcmp(milchkompass_refusal_text(22), "a launch, and a task is there") == 0, "the text of 22");
     for (int i = 0; i < 256; i++) {

@@ -32,21 +32,6 @@ pub struct Session {
     pub no_history: u8,
 }
 
-impl Session {
-    /// No task, edition 8, and no mark.
-    pub const FRESH: Session = Session {
-        tasks: [Task {
-            screens: [0; SCREENS],
-            root: 0,
-            height: 0,
-        }; TASKS],
-        n: 0,
-        main: 0,
-        edition: 8,
-        no_history: 0,
-    };
-}
-
 /// An answer: nine numbers.
 #[repr(C)]
 #[derive(Clone, Copy)]
@@ -107,6 +92,7 @@ pub struct Ending {
 
 extern "C" {
     fn milchkompass_abi() -> u32;
+    fn milchkompass_fresh() -> Session;
     fn milchkompass_launch(
         table: *const u8,
         table_length: usize,
@@ -191,6 +177,12 @@ pub fn check_abi() {
         "libmilchkompass.a and the crate milchkompass differ in their interface: \
          take both from one checkout"
     );
+}
+
+/// No task, edition 8, and no mark. The interface is compared before.
+pub fn fresh() -> Session {
+    check_abi();
+    unsafe { milchkompass_fresh() }
 }
 
 pub fn launch(table: &[u8], s: &mut Session, edition: u8) -> Answer {

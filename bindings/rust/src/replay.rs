@@ -78,10 +78,9 @@ impl Replay {
     ///
     /// If the library that is linked has another interface than this crate.
     pub fn new(table: &[u8]) -> Replay {
-        raw::check_abi();
         Replay {
             table: table.to_vec(),
-            stored: raw::Session::FRESH,
+            stored: raw::fresh(),
         }
     }
 

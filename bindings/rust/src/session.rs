@@ -62,7 +62,7 @@ impl Session {
     pub fn new(table: Table) -> Session {
         Session {
             table,
-            stored: raw::Session::FRESH,
+            stored: raw::fresh(),
         }
     }
 

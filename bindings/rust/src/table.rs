@@ -126,8 +126,7 @@ impl Table {
 
     /// A look at a fresh session is refused only by the table.
     fn checked(bytes: Vec<u8>) -> Result<Table, Refusal> {
-        raw::check_abi();
-        let answer = raw::look(&bytes, &raw::Session::FRESH);
+        let answer = raw::look(&bytes, &raw::fresh());
         Refusal::check(answer.refusal)?;
         Ok(Table(bytes))
     }

@@ -28,6 +28,15 @@ fn seen(s: &Session, closed: u8) -> Answer {
     Answer { closed, ..s.look() }
 }
 
+/// The library's fresh session.
+#[test]
+fn fresh() {
+    let session = Session::new(table_t());
+    assert_eq!(session.save(), [0, 0, 0, 0, 8, 0x42]);
+    assert_eq!(session.look(), answer(0, 0, 0, 0, 0, 0));
+    assert_eq!(session.to_string(), "m 0");
+}
+
 #[test]
 fn the_players_example() {
     let mut s = Session::new(table_t());

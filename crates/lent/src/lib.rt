@@ -15,7 +15,7 @@ ghost use Rattle.model.specs.Reasons.{noReason, FitsFirst, IsFoundAt};
 ghost use Rattle.model.specs.Affinity.{AffinityZero};
 ghost use Rattle.model.specs.Editions.{EditionSeeks};
 ghost use Rattle.model.specs.NoHistory.{MarksBy, withoutNoHistory};
-ghost use Rattle.session.specs.Stored.{view};
+ghost use Rattle.session.specs.Stored.{view, freshSession};
 ghost use Rattle.reasons.specs.StoredReasons.{whyStored, CarriesOut};
 ghost use Rattle.navigator.specs.Promise3.{KeepsPromise3};
 ghost use Rattle.navigator.specs.Records.{playedStored};
@@ -41,6 +41,14 @@ pub extern "C" fn milchkompass_abi() -> u32
     ensures { λ r. ⌜ r ≡ abiNumber ⌝ }
 {
     ABI
+}
+
+// A session in which no task stands, as every session begins.
+#[no_mangle]
+pub extern "C" fn milchkompass_fresh() -> Session
+    ensures { λ r. ⌜ r ≡ freshSession ⌝ }
+{
+    Session::fresh()
 }
 
 // Look: the answer of the session as it is, which stays.

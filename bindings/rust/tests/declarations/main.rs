@@ -153,10 +153,6 @@ fn editions() {
         number(fresh)
     );
     has_line(&header(), &format!("#define MILCHKOMPASS_{in_c}"));
-    has(
-        &declared_in_rust(),
-        &format!("main: 0, edition: {fresh}, no_history: 0, }};"),
-    );
 }
 
 /// Android's name for a constant of the header, which has it with the prefix,
