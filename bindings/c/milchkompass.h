@@ -133,7 +133,7 @@ typedef struct milchkompass_session {
 
 /* A fresh session: no task, edition 8, and every other byte is 0. Zeros alone are no session, since 0 is no edition
  * there: under a good table every call on them is refused with 20. */
-#define MILCHKOMPASS_SESSION_FRESH {{{0, 0, {0}}}, 0, 0, MILCHKOMPASS_EDITION_8, 0}
+#define MILCHKOMPASS_SESSION_FRESH {{{{0}, 0, 0}}, 0, 0, MILCHKOMPASS_EDITION_8, 0}
 
 /* The same session, from the library. */
 milchkompass_session milchkompass_fresh(void);
