@@ -17,7 +17,7 @@ use Rattle.model.specs.Search.{placeOf, isFound, isFoundByRoot, holds}
 use Rattle.model.specs.Rules.{rulesOf, isSingle, isApart, groupOf, soughtBy, fits, chooseIn, choose}
 use Rattle.session.specs.declared.Task.{Task}
 use Rattle.session.specs.Stored.{viewTask}
-use Rattle.rules.specs.Shows.{Shows}
+use Rattle.rules.specs.Shows.{Shows, readBy}
 use Rattle.rules.specs.Groups.{ruleOf}
 
 -- ---- the rules of a group
@@ -97,6 +97,15 @@ module _ (tb : List ℕ) (s : State ℕ) (b : ℕ) (f : Flags) {mode : ℕ} (m :
     pub group-near : apart ≡ false → groupOf tb s b f ≡ Group.NotApart
     unfolding groupOf isSingleInstance isSingleTask isApart
     group-near t = rw (← e, t, ← m, ne-eqb mode 3 n₃, ne-eqb mode 2 n₂)
+
+-- what the rules of a group read of a session is the task that the group found, or the front task where it found none
+pub read-found : (tb : List ℕ) (s : State ℕ) (b : ℕ) (f : Flags) (g : Group) {t : Found} (u : Task) → t ≡ soughtBy tb s b f g → Shows s t u
+    → Shows s (readBy g t) u
+unfolding soughtBy
+read-found tb s b f Group.Instance u e h = h
+read-found tb s b f Group.Task u e h = h
+read-found tb s b f Group.NotApart u e h = rw e at h
+read-found tb s b f Group.Apart u e h = h
 
 -- the choice in a group
 pub chosen-in : (tb : List ℕ) (s : State ℕ) (b : ℕ) (f : Flags) (g : Group) → groupOf tb s b f ≡ g

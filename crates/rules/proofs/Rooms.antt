@@ -21,6 +21,7 @@ use Rattle.model.proofs.Logic.{if-elim}
 use Rattle.session.specs.declared.Task.{Task}
 use Rattle.session.proofs.TaskLaws.{view-height}
 use Rattle.rules.specs.Shows.{Shows}
+use Rattle.rules.specs.Rooms.{roomBy}
 
 -- ---- only the group that seeks no task changes the front task
 
@@ -58,12 +59,6 @@ module _ (tb : List ℕ) (v : State ℕ) (b : ℕ) (f : Flags) where
 one-check : (k : ℕ) (b : Bool) → (if b then check k b else accepted) .number ≡ (if b then k else 0)
 one-check k true = refl
 one-check k false = refl
-
--- with n tasks, and h screens in the task that the effect changes
-abbrev pub roomBy : ℕ → ℕ → Effect → ℕ
-roomBy n h Effect.New = if eqb n mostTasks then 23 else 0
-roomBy n h (Effect.InFront x) = if isPush x && eqb h mostHeight then 24 else 0
-roomBy n h (Effect.MoveAnd x) = if isPush x && eqb h mostHeight then 24 else 0
 
 module _ (v : State ℕ) (t : Task) (l : t .height ≤ length (t .screens)) where
   room-by : (found : Found) (d : Effect) → FrontUnsought found d → Shows v found t

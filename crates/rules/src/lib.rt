@@ -7,18 +7,18 @@ ghost use mathlib.Core.List.{List};
 ghost use lib.Dec.{eqb};
 ghost use lib.ListN.{length};
 ghost use Rattle.model.specs.Lists.{if_then_else_};
-ghost use Rattle.model.specs.Refusals.{refusal};
 ghost use Rattle.model.specs.Table.{isSingleTop, isSingleInstance};
-ghost use Rattle.model.specs.Session.{State, frontScreen, count, mostHeight};
+ghost use Rattle.model.specs.Session.{State, frontScreen, mostHeight};
 ghost use Rattle.model.specs.Search.{placeOf, isFound, isFoundByRoot, holds};
-ghost use Rattle.model.specs.Rules.{numberOf, isR7, groupOf, soughtBy, choose as chooseRule};
+ghost use Rattle.model.specs.Rules.{numberOf, isR7, groupOf, soughtBy};
 ghost use Rattle.model.specs.Effects.{reordered as reorderedBy, effectOf};
-ghost use Rattle.model.specs.Calls.{effectIn, isPush, roomChecks};
+ghost use Rattle.model.specs.Calls.{isPush};
 ghost use Rattle.session.specs.Stored.{view, viewTask};
 ghost use Rattle.search.specs.Numbers.{foundOf};
 ghost use Rattle.rules.specs.Seeks.{isInstance, seeksIn};
 ghost use Rattle.rules.specs.Startable.{Startable};
-ghost use Rattle.rules.specs.Shows.{indexOf, Shows, Filled};
+ghost use Rattle.rules.specs.Shows.{indexOf, Shows, readBy, Filled};
+ghost use Rattle.rules.specs.Rooms.{roomBy};
 ghost use Rattle.rules.specs.Groups.{ruleOf};
 use model::Change;
 use model::Effect;
@@ -308,11 +308,11 @@ fn apart_rule(table: &[u8], t: Task, main: u8, b: u8, f: Flags, found: Found) ->
     Rule::R17
 }
 
-// The first rule of the group that fits, where t is the task found, or the front task where none was found.
+// The first rule of the group that fits; t is the task that the group's rules read: the task found, or the front task where none
+// was found or the group seeks none.
 pub fn rule_in(table: &[u8], group: Group, t: Task, main: u8, b: u8, f: Flags, found: Found) -> Rule
     requires { ⌜ Filled t × (2 + 2 * b < length (now table)) ⌝ }
-    ensures { λ r. ⌜ ((v : State ℕ) → Shows v found t → v .main ≡ main → found ≡ soughtBy (now (table .entry)) v b f group
-        → r ≡ ruleOf group (now (table .entry)) v b f found) ⌝ }
+    ensures { λ r. ⌜ ((v : State ℕ) → Shows v (readBy group found) t → v .main ≡ main → r ≡ ruleOf group (now (table .entry)) v b f found) ⌝ }
 {
     match group {
         Group::Instance => instance_rule(found),
@@ -345,13 +345,9 @@ fn push_refusal(t: Task, change: Change) -> u8
     0
 }
 
-// 23 where a new task is needed and n is 16, 24 for a push onto a task of 32, else 0; t is the task found, or the front
-// task where none was found.
+// 23 where a new task is needed and n is 16, 24 for a push onto a task of 32, else 0; t is the task that the effect changes.
 pub fn room_refusal(n: u8, t: Task, effect: Effect) -> u8
-    requires { ⌜ Filled t ⌝ }
-    ensures { λ r. ⌜ ((tb : List ℕ) (v : State ℕ) (b : ℕ) (f : Flags)
-        → Shows v (chooseRule tb v b f .found) t → count v ≡ n → effect ≡ effectIn v (chooseRule tb v b f)
-        → r ≡ refusal (roomChecks (chooseRule tb v b f) v)) ⌝ }
+    ensures { λ r. ⌜ r ≡ roomBy n (t .height) effect ⌝ }
 {
     match effect {
         Effect::New => {

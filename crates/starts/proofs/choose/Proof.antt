@@ -1,7 +1,9 @@
 -- `starts::choose` meets its contract: the rule and the task found are the definition's, and so are the effect and the number.
-use Prim.Native.Nat.{_<_}
+use Prim.Native.Nat.{_≤_, _<_}
 use mathlib.Core.Path.{_≡_, sym, _∙_, ap, subst}
+use native.Mathlib.Omega.{arith}
 use borrow.Author.Needs.{needs}
+use lib.ListN.{length}
 use Rattle.model.specs.declared.Choice.{Choice}
 use Rattle.model.specs.Calls.{effectIn}
 use Rattle.model.specs.Search.{placeOf}
@@ -11,7 +13,8 @@ use Rattle.session.proofs.Known.{Sized, sized}
 use Rattle.session.proofs.StoredLaws.{view-main}
 use Rattle.rules.specs.Shows.{indexOf, Shows, Filled}
 use Rattle.rules.proofs.Tasks.{own-row, task-filled, counted, stored-shows, index-stands}
-use Rattle.rules.proofs.Groups.{chosen-in}
+use Rattle.rules.proofs.Groups.{read-found, chosen-in}
+use Rattle.rules.proofs.Rooms.{room-read}
 use Rattle.starts.proofs.choose.Statement.{statement}
 use Rattle.starts.proofs.choose.Tie as tie
 
@@ -39,8 +42,12 @@ rule-in-requires c κs =
     let a = start .args in
     (filled start, own-row (a .table .now) (a .s) (a .b) (sizes start) (start .pre .0))
 
-room-refusal-requires : tie.Need-room-refusal-requires
-room-refusal-requires c κs = filled (c .before .before .before)
+-- the task has room in storage for its height
+low : (c : tie.Start) → c .args .t .height ≤ length (c .args .t .screens)
+low c =
+    let l : length (c .args .t .screens) ≡ 32 = search needs in
+    let h = filled c in
+    omega arith
 
 -- the rule and the task found are the definition's
 chosen : (c : tie.After-rule-in)
@@ -51,7 +58,7 @@ chosen c =
     let a = start .args in
     let x = start .pre .1 in
     chosen-in (a .table .now) (view (a .s)) (a .b) (a .f) (a .sought .group) (sym (x .group)) (x .found)
-    (c .rule-in .ensures (view (a .s)) (shows start) (view-main (a .s)) (x .found))
+    (c .rule-in .ensures (view (a .s)) (read-found (a .table .now) (view (a .s)) (a .b) (a .f) (a .sought .group) (a .t) (x .found) (shows start)) (view-main (a .s)))
 
 returns : tie.Need-returns
 unfolding view
@@ -64,7 +71,8 @@ returns c =
     let e = chosen (effect .before) in
     let d = effect .effect-of .ensures ∙ ap (effectIn (view (a .s))) e in
     record {
-      number = c .before .room-refusal .ensures tb (view (a .s)) (a .b) f (subst (λ (x : Choice). Shows (view (a .s)) (x .found) (a .t)) e (shows start)) (counted tb (a .s) (a .b) (sizes start) (start .pre .0)) d;
+      number = c .before .room-refusal .ensures
+          ∙ sym (room-read (view (a .s)) (a .t) (low start) tb (a .b) f (subst (λ (x : Choice). Shows (view (a .s)) (x .found) (a .t)) e (shows start)) (counted tb (a .s) (a .b) (sizes start) (start .pre .0)) d);
       rule = ap (λ (x : Choice). x .rule) e;
       effect = d;
       place = c .place-of .ensures ∙ ap (λ (x : Choice). placeOf (x .found)) e;
@@ -72,4 +80,4 @@ returns c =
     }
 
 pub choose-spec : {M : Type 1} → statement M
-choose-spec = tie.close (tie.spec rule-in-requires (λ c κs. search needs) room-refusal-requires (λ c κs. search needs) returns)
+choose-spec = tie.close (tie.spec rule-in-requires (λ c κs. search needs) (λ c κs. search needs) (λ c κs. search needs) returns)
