@@ -51,17 +51,7 @@ fn tell(session: &mut Result<Session, Refusal>, record: &[u8]) -> Told {
 
 fn line(kind: u8, answer: &Result<Answer, Refusal>) -> String {
     match answer {
-        Ok(a) => format!(
-            "{kind} 0 {} {} {} {} {} {} {} {}\n",
-            a.screen,
-            a.root,
-            a.height,
-            a.tasks,
-            a.main,
-            a.closed,
-            a.edition.number(),
-            u8::from(a.no_history)
-        ),
+        Ok(answer) => format!("{kind} {answer}\n"),
         Err(refusal) => format!("{kind} {} 0 0 0 0 0 0 0 0\n", refusal.number()),
     }
 }

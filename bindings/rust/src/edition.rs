@@ -1,8 +1,10 @@
 //! The edition of the rules.
 
 use std::fmt;
+use std::str::FromStr;
 
-use crate::UnknownNumber;
+use crate::unknown::named;
+use crate::{UnknownName, UnknownNumber};
 
 /// Whose rules a session follows, by number. Android's API levels are other
 /// numbers.
@@ -25,8 +27,15 @@ impl Edition {
     pub const ALL: &'static [Edition] = &[Edition::Android6, Edition::Android7, Edition::Android8];
 
     /// Its number: 6, 7 or 8.
+    #[must_use]
     pub const fn number(self) -> u8 {
         self as u8
+    }
+
+    /// The edition that the library gave.
+    #[inline]
+    pub(crate) fn given(number: u8) -> Edition {
+        Edition::try_from(number).expect("the library gives no other number")
     }
 }
 
@@ -49,5 +58,20 @@ impl TryFrom<u8> for Edition {
 impl fmt::Display for Edition {
     fn fmt(&self, f: &mut fmt::Formatter) -> fmt::Result {
         write!(f, "Android {}.0", self.number())
+    }
+}
+
+/// The edition that displays so.
+///
+/// ```
+/// use milchkompass::Edition;
+///
+/// assert_eq!("Android 7.0".parse(), Ok(Edition::Android7));
+/// ```
+impl FromStr for Edition {
+    type Err = UnknownName;
+
+    fn from_str(name: &str) -> Result<Edition, UnknownName> {
+        named(Edition::ALL, name, "edition")
     }
 }

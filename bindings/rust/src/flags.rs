@@ -1,7 +1,10 @@
 //! The flag word of a start.
 
 use std::fmt;
-use std::ops::{BitAnd, BitAndAssign, BitOr, BitOrAssign};
+use std::ops::{BitAnd, BitAndAssign, BitOr, BitOrAssign, Not, Sub, SubAssign};
+use std::str::FromStr;
+
+use crate::UnknownName;
 
 /// The flags of a start, as Android publishes them, by the conventions of the
 /// crate `bitflags`. Any of the seven may be set together.
@@ -37,11 +40,13 @@ impl Flags {
     ];
 
     /// No flag.
+    #[must_use]
     pub const fn empty() -> Flags {
         Flags::NONE
     }
 
     /// All seven flags.
+    #[must_use]
     pub const fn all() -> Flags {
         let mut word = 0;
         let mut i = 0;
@@ -53,6 +58,7 @@ impl Flags {
     }
 
     /// The flags of a whole word, or none where it has a bit outside the seven.
+    #[must_use]
     pub const fn from_bits(word: u32) -> Option<Flags> {
         if word & !Flags::all().0 == 0 {
             Some(Flags(word))
@@ -63,11 +69,13 @@ impl Flags {
 
     /// The flags of a whole word, as an intent or a recording holds it. With a
     /// bit outside the seven, a start is refused.
+    #[must_use]
     pub const fn from_bits_retain(word: u32) -> Flags {
         Flags(word)
     }
 
     /// The flag of this name, such as `NEW_TASK`.
+    #[must_use]
     pub fn from_name(name: &str) -> Option<Flags> {
         let named = Flags::NAMED.iter().find(|(known, _)| *known == name);
         named.map(|(_, flag)| *flag)
@@ -90,18 +98,58 @@ impl Flags {
     }
 
     /// The whole word.
+    #[must_use]
     pub const fn bits(self) -> u32 {
         self.0
     }
 
     /// No bit is set.
+    #[must_use]
     pub const fn is_empty(self) -> bool {
         self.0 == 0
     }
 
     /// All of the other's bits are set.
+    #[must_use]
     pub const fn contains(self, other: Flags) -> bool {
         self.0 & other.0 == other.0
+    }
+
+    /// One of the other's bits is set.
+    #[must_use]
+    pub const fn intersects(self, other: Flags) -> bool {
+        self.0 & other.0 != 0
+    }
+
+    /// Sets the other's bits.
+    pub fn insert(&mut self, other: Flags) {
+        self.0 |= other.0;
+    }
+
+    /// Clears the other's bits.
+    pub fn remove(&mut self, other: Flags) {
+        self.0 &= !other.0;
+    }
+
+    /// The names of the flags that are set, and the other bits as a number.
+    fn parts(self) -> Vec<String> {
+        let names = self.iter_names();
+        let mut parts: Vec<String> = names.map(|(name, _)| name.to_string()).collect();
+        let other = self - Flags::all();
+        if !other.is_empty() {
+            parts.push(format!("{:#x}", other.0));
+        }
+        parts
+    }
+
+    /// What is one part of a text of flags.
+    fn from_part(part: &str) -> Option<Flags> {
+        let Some(digits) = part.strip_prefix("0x") else {
+            return Flags::from_name(part);
+        };
+        let hex = digits.bytes().all(|digit| digit.is_ascii_hexdigit());
+        let word = u32::from_str_radix(digits, 16).ok();
+        word.filter(|_| hex).map(Flags)
     }
 }
 
@@ -133,15 +181,70 @@ impl BitAndAssign for Flags {
     }
 }
 
-/// The names of the flags, and the other bits as a number.
+/// Those of the seven that are not set.
+impl Not for Flags {
+    type Output = Flags;
+
+    fn not(self) -> Flags {
+        Flags::all() - self
+    }
+}
+
+/// Without the other's bits.
+impl Sub for Flags {
+    type Output = Flags;
+
+    fn sub(self, other: Flags) -> Flags {
+        Flags(self.0 & !other.0)
+    }
+}
+
+impl SubAssign for Flags {
+    fn sub_assign(&mut self, other: Flags) {
+        *self = *self - other;
+    }
+}
+
+/// `Flags(NEW_TASK | SINGLE_TOP | 0x1)`
 impl fmt::Debug for Flags {
     fn fmt(&self, f: &mut fmt::Formatter) -> fmt::Result {
-        let names = self.iter_names();
-        let mut parts: Vec<String> = names.map(|(name, _)| name.to_string()).collect();
-        let other = self.0 & !Flags::all().0;
-        if other != 0 || parts.is_empty() {
-            parts.push(format!("{other:#x}"));
+        match self.is_empty() {
+            true => f.write_str("Flags(0x0)"),
+            false => write!(f, "Flags({})", self.parts().join(" | ")),
         }
-        write!(f, "Flags({})", parts.join(" | "))
+    }
+}
+
+/// `NEW_TASK|SINGLE_TOP|0x1`, as `show` writes it; no flag is no text.
+impl fmt::Display for Flags {
+    fn fmt(&self, f: &mut fmt::Formatter) -> fmt::Result {
+        f.pad(&self.parts().join("|"))
+    }
+}
+
+/// The flags that display so. Spaces around each part are passed over.
+///
+/// ```
+/// use milchkompass::Flags;
+///
+/// assert_eq!("NEW_TASK | CLEAR_TOP".parse(), Ok(Flags::NEW_TASK | Flags::CLEAR_TOP));
+/// assert_eq!("".parse(), Ok(Flags::NONE));
+/// ```
+impl FromStr for Flags {
+    type Err = UnknownName;
+
+    fn from_str(text: &str) -> Result<Flags, UnknownName> {
+        let mut flags = Flags::NONE;
+        if text.trim().is_empty() {
+            return Ok(flags);
+        }
+        for part in text.split('|').map(str::trim) {
+            let unknown = || UnknownName {
+                name: part.to_string(),
+                of: "flag",
+            };
+            flags |= Flags::from_part(part).ok_or_else(unknown)?;
+        }
+        Ok(flags)
     }
 }

@@ -38,25 +38,33 @@
 //! The library is libmilchkompass.a, which `bindings/library` makes in the
 //! checkout; `MILCHKOMPASS_LIB_DIR` names another folder of it.
 
+#![deny(missing_debug_implementations)]
 #![warn(missing_docs)]
 
+mod answer;
 mod edition;
 mod flags;
-mod number;
+mod launch_mode;
 mod raw;
 mod reason;
+mod recording;
 mod refusal;
 mod replay;
 mod session;
 mod table;
 mod tally;
+mod unknown;
 
+pub use answer::Answer;
 pub use edition::Edition;
 pub use flags::Flags;
-pub use number::UnknownNumber;
+pub use launch_mode::LaunchMode;
+pub use raw::IMAGE_MAX;
 pub use reason::{Found, FoundBy, Reason, Rule};
+pub use recording::Recording;
 pub use refusal::Refusal;
 pub use replay::{same_ending, Played, Replay, Row};
-pub use session::{Answer, Session, Task};
-pub use table::{LaunchMode, Screen, Table};
+pub use session::{Session, Task};
+pub use table::{Screen, Table};
 pub use tally::{Report, Tally};
+pub use unknown::{UnknownName, UnknownNumber};

@@ -8,7 +8,8 @@ const ABI: u32 = 5;
 const TASKS: usize = 16;
 const SCREENS: usize = 32;
 
-/// The longest image of a session.
+/// The length of the longest image of a session, in bytes: a buffer of so many
+/// is never too short for a save.
 pub const IMAGE_MAX: usize = TASKS * (2 + SCREENS) + 6;
 
 /// A task, its screens bottom first.
@@ -34,7 +35,7 @@ pub struct Session {
 
 /// An answer: nine numbers.
 #[repr(C)]
-#[derive(Clone, Copy)]
+#[derive(Clone, Copy, Debug)]
 pub struct Answer {
     pub refusal: u8,
     pub screen: u8,

@@ -21,6 +21,7 @@ macro_rules! rules {
             pub const ALL: &'static [Rule] = &[$(Rule::$name),*];
 
             /// What it does, in one plain sentence.
+            #[must_use]
             pub const fn sentence(self) -> &'static str {
                 match self {
                     $(Rule::$name => $text,)*
@@ -53,6 +54,7 @@ rules! {
 
 impl Rule {
     /// Its number, 1 to 18.
+    #[must_use]
     pub const fn number(self) -> u8 {
         self as u8
     }
@@ -82,6 +84,16 @@ pub enum FoundBy {
     Root = 1,
     /// Its root has the screen's affinity.
     Affinity = 2,
+}
+
+/// `root` or `affinity`
+impl fmt::Display for FoundBy {
+    fn fmt(&self, f: &mut fmt::Formatter) -> fmt::Result {
+        f.pad(match self {
+            FoundBy::Root => "root",
+            FoundBy::Affinity => "affinity",
+        })
+    }
 }
 
 /// The task that is found for a start.
@@ -115,5 +127,17 @@ impl Reason {
             }
             .map(|by| Found { place, by }),
         })
+    }
+}
+
+/// The rule, the task that is found, and the rule's sentence:
+/// `R17, found at place 2 by affinity: a task is found for it: ..`
+impl fmt::Display for Reason {
+    fn fmt(&self, f: &mut fmt::Formatter) -> fmt::Result {
+        write!(f, "R{}", self.rule.number())?;
+        if let Some(Found { place, by }) = self.found {
+            write!(f, ", found at place {place} by {by}")?;
+        }
+        write!(f, ": {}", self.rule)
     }
 }

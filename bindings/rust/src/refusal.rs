@@ -21,6 +21,7 @@ macro_rules! refusals {
             pub const ALL: &'static [Refusal] = &[$(Refusal::$name),*];
 
             /// What the rules say of it.
+            #[must_use]
             pub const fn condition(self) -> &'static str {
                 match self {
                     $(Refusal::$name => $text,)*
@@ -51,6 +52,7 @@ refusals! {
 
 impl Refusal {
     /// Its number.
+    #[must_use]
     pub const fn number(self) -> u8 {
         self as u8
     }

@@ -1,7 +1,9 @@
 //! Recordings, record by record.
 
+use std::fmt;
+
 use crate::raw;
-use crate::session::{edition_of, outcome, tasks_of};
+use crate::session::tasks_of;
 use crate::{Answer, Edition, Flags, LaunchMode, Reason, Refusal, Task, UnknownNumber};
 
 /// A session that plays the records of a recording, one after the other, as the
@@ -55,8 +57,15 @@ impl Clone for Replay {
     }
 }
 
+/// `Replay(3:[3] 0:[1,0], m 2)`
+impl fmt::Debug for Replay {
+    fn fmt(&self, f: &mut fmt::Formatter) -> fmt::Result {
+        write!(f, "Replay({})", self.stored)
+    }
+}
+
 /// What a record came to.
-#[derive(Clone, Copy)]
+#[derive(Clone, Copy, Debug)]
 pub struct Played {
     answer: raw::Answer,
     used: usize,
@@ -77,6 +86,7 @@ impl Replay {
     /// # Panics
     ///
     /// If the library that is linked has another interface than this crate.
+    #[must_use]
     pub fn new(table: &[u8]) -> Replay {
         Replay {
             table: table.to_vec(),
@@ -104,6 +114,16 @@ impl Replay {
         }
     }
 
+    /// Look: what is in front now.
+    ///
+    /// # Errors
+    ///
+    /// The table's: [`TableLength`](Refusal::TableLength) or
+    /// [`TableContent`](Refusal::TableContent).
+    pub fn look(&self) -> Result<Answer, Refusal> {
+        Answer::given(raw::look(&self.table, &self.stored))
+    }
+
     /// Why a start, or a finishing start, of this screen would go as it does now.
     ///
     /// # Errors
@@ -116,11 +136,13 @@ impl Replay {
     }
 
     /// The table's bytes.
+    #[must_use]
     pub fn table(&self) -> &[u8] {
         &self.table
     }
 
     /// The table's rows, by the number of their screen.
+    #[must_use]
     pub fn rows(&self) -> impl DoubleEndedIterator<Item = Row> + ExactSizeIterator + '_ {
         let rows = self.table.get(2..).unwrap_or_default();
         rows.chunks_exact(2).map(|row| Row {
@@ -130,24 +152,28 @@ impl Replay {
     }
 
     /// The tasks, front first.
+    #[must_use]
     #[inline]
     pub fn tasks(&self) -> impl DoubleEndedIterator<Item = Task<'_>> + ExactSizeIterator + Clone {
         tasks_of(&self.stored)
     }
 
     /// The place (from 1) of the task made by launch, 0 if it is gone.
+    #[must_use]
     #[inline]
     pub fn main_place(&self) -> u8 {
         self.stored.main
     }
 
     /// The session's edition, Android 8.0 where it is empty.
+    #[must_use]
     #[inline]
     pub fn edition(&self) -> Edition {
-        edition_of(self.stored.edition)
+        Edition::given(self.stored.edition)
     }
 
     /// The session's No-History mark.
+    #[must_use]
     #[inline]
     pub fn no_history(&self) -> bool {
         self.stored.no_history != 0
@@ -156,6 +182,7 @@ impl Replay {
 
 impl Played {
     /// The nine numbers of the answer, as the player prints them behind the kind.
+    #[must_use]
     #[inline]
     pub fn numbers(&self) -> [u8; 9] {
         let a = &self.answer;
@@ -179,22 +206,25 @@ impl Played {
     /// The refusal: [`BadRecord`](Refusal::BadRecord) for a record of an unknown
     /// kind or a cut one, the table's, or that of the call.
     pub fn answer(&self) -> Result<Answer, Refusal> {
-        outcome(self.answer)
+        Answer::given(self.answer)
     }
 
     /// Why the record was refused, if it was.
+    #[must_use]
     #[inline]
     pub fn refusal(&self) -> Option<Refusal> {
         Refusal::check(self.answer.refusal).err()
     }
 
     /// How many screens the record closed.
+    #[must_use]
     #[inline]
     pub fn closed(&self) -> u8 {
         self.answer.closed
     }
 
     /// How many bytes the record took.
+    #[must_use]
     #[inline]
     pub fn used(&self) -> usize {
         self.used

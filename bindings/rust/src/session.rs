@@ -3,37 +3,7 @@
 use std::fmt;
 
 use crate::raw;
-use crate::{Edition, Flags, Reason, Refusal, Table};
-
-/// What an accepted call leaves in front, all zeros where the session is empty,
-/// how many screens it closed, and the session's edition and No-History mark.
-#[derive(Clone, Copy, Debug, Default, PartialEq, Eq, Hash)]
-pub struct Answer {
-    /// The front screen.
-    pub screen: u8,
-    /// The screen that created the front task.
-    pub root: u8,
-    /// How many screens the front task has.
-    pub height: u8,
-    /// How many tasks there are.
-    pub tasks: u8,
-    /// The place (from 1) of the task made by launch, 0 if it is gone.
-    pub main: u8,
-    /// How many screens the call closed; 0 for launch, look and restore.
-    pub closed: u8,
-    /// The session's edition after the call, Android 8.0 where it is empty.
-    pub edition: Edition,
-    /// The session's No-History mark after the call, as
-    /// [`Session::no_history`] gives it.
-    pub no_history: bool,
-}
-
-impl Answer {
-    /// The session is empty: no screen is in front.
-    pub const fn is_empty(self) -> bool {
-        self.tasks == 0
-    }
-}
+use crate::{Answer, Edition, Flags, Reason, Refusal, Table};
 
 /// A task of a session.
 #[derive(Clone, Copy, Debug, PartialEq, Eq, Hash)]
@@ -59,6 +29,7 @@ pub struct Session {
 
 impl Session {
     /// A fresh session: no task, and the edition of an empty session.
+    #[must_use]
     pub fn new(table: Table) -> Session {
         Session {
             table,
@@ -67,29 +38,34 @@ impl Session {
     }
 
     /// The table.
+    #[must_use]
     pub fn table(&self) -> &Table {
         &self.table
     }
 
     /// The tasks, front first.
+    #[must_use]
     pub fn tasks(&self) -> impl DoubleEndedIterator<Item = Task<'_>> + ExactSizeIterator + Clone {
         tasks_of(&self.stored)
     }
 
     /// The place (from 1) of the task made by launch, 0 if it is gone.
+    #[must_use]
     pub fn main_place(&self) -> u8 {
         self.stored.main
     }
 
     /// The edition: the one of its launch, or of the image that was restored,
     /// and Android 8.0 where the session is empty.
+    #[must_use]
     pub fn edition(&self) -> Edition {
-        edition_of(self.stored.edition)
+        Edition::given(self.stored.edition)
     }
 
     /// The No-History mark: the front screen was pushed or made new by a start
     /// with [`Flags::NO_HISTORY`]. The next start closes that screen, unless it
     /// is a plain one by R7.
+    #[must_use]
     pub fn no_history(&self) -> bool {
         self.stored.no_history != 0
     }
@@ -112,7 +88,7 @@ impl Session {
     /// The first that applies: [`NotEmpty`](Refusal::NotEmpty),
     /// [`NoSuchEdition`](Refusal::NoSuchEdition).
     pub fn launch_byte(&mut self, edition: u8) -> Result<Answer, Refusal> {
-        outcome(raw::launch(self.table.bytes(), &mut self.stored, edition))
+        Answer::given(raw::launch(self.table.bytes(), &mut self.stored, edition))
     }
 
     /// Start of a screen, by the first of the rules R1 to R18 that fits in the
@@ -127,7 +103,7 @@ impl Session {
     /// [`TasksFull`](Refusal::TasksFull) or [`TaskFull`](Refusal::TaskFull).
     pub fn start(&mut self, screen: u8, flags: Flags) -> Result<Answer, Refusal> {
         let table = self.table.bytes();
-        outcome(raw::start(table, &mut self.stored, screen, flags.bits()))
+        Answer::given(raw::start(table, &mut self.stored, screen, flags.bits()))
     }
 
     /// Finishing start: by the rules of a [`start`](Session::start), and then
@@ -138,7 +114,7 @@ impl Session {
     /// Those of a start, before anything is removed.
     pub fn finish_start(&mut self, screen: u8, flags: Flags) -> Result<Answer, Refusal> {
         let (table, word) = (self.table.bytes(), flags.bits());
-        outcome(raw::finish_start(table, &mut self.stored, screen, word))
+        Answer::given(raw::finish_start(table, &mut self.stored, screen, word))
     }
 
     /// Why a [`start`](Session::start), or a
@@ -161,15 +137,17 @@ impl Session {
     ///
     /// [`Empty`](Refusal::Empty).
     pub fn back(&mut self) -> Result<Answer, Refusal> {
-        outcome(raw::back(self.table.bytes(), &mut self.stored))
+        Answer::given(raw::back(self.table.bytes(), &mut self.stored))
     }
 
     /// Look: what is in front now.
+    #[must_use]
     pub fn look(&self) -> Answer {
-        outcome(raw::look(self.table.bytes(), &self.stored)).expect(NEVER)
+        Answer::given(raw::look(self.table.bytes(), &self.stored)).expect(NEVER)
     }
 
     /// Save: the session's image.
+    #[must_use]
     pub fn save(&self) -> Vec<u8> {
         let mut image = vec![0; raw::IMAGE_MAX];
         let length = self.save_into(&mut image).expect(NEVER);
@@ -198,7 +176,7 @@ impl Session {
     /// [`ImageTasks`](Refusal::ImageTasks), then
     /// [`ImageUnsound`](Refusal::ImageUnsound).
     pub fn restore(&mut self, image: &[u8]) -> Result<Answer, Refusal> {
-        outcome(raw::restore(self.table.bytes(), &mut self.stored, image))
+        Answer::given(raw::restore(self.table.bytes(), &mut self.stored, image))
     }
 }
 
@@ -217,42 +195,29 @@ pub(crate) fn tasks_of(
     })
 }
 
-#[inline]
-pub(crate) fn edition_of(number: u8) -> Edition {
-    Edition::try_from(number).expect("the library gives no other number")
-}
-
-pub(crate) fn outcome(answer: raw::Answer) -> Result<Answer, Refusal> {
-    Refusal::check(answer.refusal)?;
-    Ok(Answer {
-        screen: answer.screen,
-        root: answer.root,
-        height: answer.height,
-        tasks: answer.tasks,
-        main: answer.main,
-        closed: answer.closed,
-        edition: edition_of(answer.edition),
-        no_history: answer.no_history != 0,
-    })
-}
-
-impl fmt::Display for Session {
+impl fmt::Display for raw::Session {
     fn fmt(&self, f: &mut fmt::Formatter) -> fmt::Result {
-        for (i, task) in self.tasks().enumerate() {
+        for (i, task) in tasks_of(self).enumerate() {
             let screens: Vec<String> = task.screens.iter().rev().map(u8::to_string).collect();
             let space = if i == 0 { "" } else { " " };
             write!(f, "{space}{}:[{}]", task.root, screens.join(","))?;
         }
-        let comma = if self.tasks().len() == 0 { "" } else { ", " };
-        write!(f, "{comma}m {}", self.main_place())?;
-        match self.edition() {
+        let comma = if self.n == 0 { "" } else { ", " };
+        write!(f, "{comma}m {}", self.main)?;
+        match Edition::given(self.edition) {
             Edition::Android8 => (),
             other => write!(f, ", edition {}", other.number())?,
         }
-        if self.no_history() {
+        if self.no_history != 0 {
             f.write_str(", no history")?;
         }
         Ok(())
+    }
+}
+
+impl fmt::Display for Session {
+    fn fmt(&self, f: &mut fmt::Formatter) -> fmt::Result {
+        self.stored.fmt(f)
     }
 }
 

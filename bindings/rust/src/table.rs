@@ -1,45 +1,7 @@
 //! The screen table.
 
 use crate::raw;
-use crate::{Refusal, UnknownNumber};
-
-/// A screen's launch mode, under the names of Android's manifest.
-#[derive(Clone, Copy, Debug, Default, PartialEq, Eq, Hash)]
-#[repr(u8)]
-pub enum LaunchMode {
-    /// `standard`
-    #[default]
-    Standard = 0,
-    /// `singleTop`
-    SingleTop = 1,
-    /// `singleTask`
-    SingleTask = 2,
-    /// `singleInstance`
-    SingleInstance = 3,
-}
-
-impl LaunchMode {
-    const ALL: [LaunchMode; 4] = [
-        LaunchMode::Standard,
-        LaunchMode::SingleTop,
-        LaunchMode::SingleTask,
-        LaunchMode::SingleInstance,
-    ];
-}
-
-/// The mode of this number, as Android's `ActivityInfo` and a table's bytes
-/// have it.
-impl TryFrom<u8> for LaunchMode {
-    type Error = UnknownNumber;
-
-    fn try_from(number: u8) -> Result<LaunchMode, UnknownNumber> {
-        let mode = LaunchMode::ALL.get(usize::from(number));
-        mode.copied().ok_or(UnknownNumber {
-            number,
-            of: "launch mode",
-        })
-    }
-}
+use crate::{LaunchMode, Refusal};
 
 /// A row of the table.
 #[derive(Clone, Copy, Debug, PartialEq, Eq, Hash)]
@@ -53,6 +15,7 @@ pub struct Screen {
 
 impl Screen {
     /// A screen of this mode and affinity.
+    #[must_use]
     pub const fn new(mode: LaunchMode, affinity: u8) -> Screen {
         Screen { mode, affinity }
     }
@@ -80,7 +43,7 @@ impl Table {
         let n = u8::try_from(screens.len()).unwrap_or(u8::MAX);
         let mut bytes = vec![n, main];
         for screen in screens {
-            bytes.extend([screen.mode as u8, screen.affinity]);
+            bytes.extend([screen.mode.number(), screen.affinity]);
         }
         Table::checked(bytes)
     }
@@ -101,22 +64,26 @@ impl Table {
     }
 
     /// The table's bytes.
+    #[must_use]
     pub fn bytes(&self) -> &[u8] {
         &self.0
     }
 
     /// How many screens there are: 1 to 64.
+    #[must_use]
     #[allow(clippy::len_without_is_empty)] // it is never empty
     pub fn len(&self) -> usize {
         usize::from(self.0[0])
     }
 
     /// The main screen.
+    #[must_use]
     pub fn main(&self) -> u8 {
         self.0[1]
     }
 
     /// The screens, by number.
+    #[must_use]
     pub fn screens(&self) -> impl DoubleEndedIterator<Item = Screen> + ExactSizeIterator + '_ {
         self.0[2..].chunks_exact(2).map(|row| {
             let mode = LaunchMode::try_from(row[0]).expect("the table is good");
@@ -129,5 +96,14 @@ impl Table {
         let answer = raw::look(&bytes, &raw::fresh());
         Refusal::check(answer.refusal)?;
         Ok(Table(bytes))
+    }
+}
+
+/// As [`Table::from_bytes`].
+impl TryFrom<&[u8]> for Table {
+    type Error = Refusal;
+
+    fn try_from(bytes: &[u8]) -> Result<Table, Refusal> {
+        Table::from_bytes(bytes)
     }
 }

@@ -52,6 +52,7 @@ pub struct Report {
 
 impl Tally {
     /// The tally of no answer.
+    #[must_use]
     pub const fn new() -> Tally {
         Tally {
             sum: 0,

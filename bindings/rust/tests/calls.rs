@@ -7,7 +7,9 @@ use std::thread;
 
 use common::flags::{CTK, CTP, MTK, NOH, NTK, RTF, STP};
 use common::{image, session, table_t};
-use milchkompass::{Answer, Edition, Flags, LaunchMode, Refusal, Screen, Session, Table, Task};
+use milchkompass::{
+    Answer, Edition, Flags, LaunchMode, Refusal, Replay, Screen, Session, Table, Task, IMAGE_MAX,
+};
 
 /// An answer in edition 8, without a mark.
 fn answer(screen: u8, root: u8, height: u8, tasks: u8, main: u8, closed: u8) -> Answer {
@@ -28,13 +30,19 @@ fn seen(s: &Session, closed: u8) -> Answer {
     Answer { closed, ..s.look() }
 }
 
-/// The library's fresh session.
+/// The library's fresh session, in a session and in a replay.
 #[test]
 fn fresh() {
-    let session = Session::new(table_t());
+    let table = table_t();
+    let replay = Replay::new(table.bytes());
+    let session = Session::new(table);
     assert_eq!(session.save(), [0, 0, 0, 0, 8, 0x42]);
     assert_eq!(session.look(), answer(0, 0, 0, 0, 0, 0));
-    assert_eq!(session.to_string(), "m 0");
+    assert_eq!(replay.look(), Ok(session.look()));
+    assert_eq!(
+        format!("{session:?} {replay:?}"),
+        "Session(m 0) Replay(m 0)"
+    );
 }
 
 #[test]
@@ -112,6 +120,10 @@ fn the_longest_image() {
     let full = session(&tasks, 0);
     assert_eq!(full.save().len(), 550);
     assert_eq!(full.save(), image(&tasks, 0));
+    let mut buffer = [0; IMAGE_MAX];
+    assert_eq!(full.save_into(&mut buffer), Ok(IMAGE_MAX));
+    let short = &mut buffer[1..];
+    assert_eq!(full.save_into(short), Err(Refusal::BufferShort));
 }
 
 #[test]

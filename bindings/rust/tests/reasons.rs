@@ -83,7 +83,8 @@ fn refusals() {
     assert_eq!(screens.why(1, NONE), Err(Refusal::TaskFull));
 }
 
-/// The rule that is told displays its sentence.
+/// The rule that is told displays its sentence, and the reason how the task was
+/// found before it.
 #[test]
 fn sentence_of_a_start() {
     let p4 = session(&[(4, &[4]), (3, &[3]), (0, &[1, 0])], 3);
@@ -94,4 +95,18 @@ fn sentence_of_a_start() {
         "a task found for it holds the screen, and CLEAR_TOP is set: it comes to the front, \
          and what lay above the screen closes"
     );
+    assert_eq!(
+        reason.to_string(),
+        format!("R13, found at place 3 by affinity: {}", reason.rule)
+    );
+    let alone = session(&[(0, &[0])], 1);
+    let texts = [(0, NTK | STP), (1, NONE)].map(|(screen, flags)| {
+        let reason = alone.why(screen, flags).expect("accepted");
+        reason.to_string()
+    });
+    assert_eq!(
+        texts[0],
+        format!("R16, found at place 1 by root: {}", Rule::R16)
+    );
+    assert_eq!(texts[1], "R10: the screen opens on top of the front task");
 }

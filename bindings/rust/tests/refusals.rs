@@ -20,8 +20,11 @@ fn tables() {
     for bytes in [&[][..], &[1], &[1, 0, 0], &[1, 0, 0, 0, 0]] {
         assert_eq!(Table::from_bytes(bytes), Err(Refusal::TableLength));
     }
-    let above_3 = Table::from_bytes(&[1, 0, 4, 0]);
-    assert_eq!(above_3, Err(Refusal::TableContent));
+    let above_3: &[u8] = &[1, 0, 4, 0];
+    assert_eq!(Table::from_bytes(above_3), Err(Refusal::TableContent));
+    assert_eq!(Table::try_from(above_3), Err(Refusal::TableContent));
+    assert_eq!(Table::try_from(&above_3[..3]), Err(Refusal::TableLength));
+    assert_eq!(Table::try_from(table_t().bytes()), Ok(table_t()));
 }
 
 /// A start and a finishing start are both refused so, and change nothing.
@@ -108,7 +111,10 @@ fn images() {
 #[test]
 fn errors() {
     let error: Box<dyn std::error::Error> = Box::new(Refusal::NotEmpty);
-    assert_eq!(error.to_string(), "refusal 22: a launch, and a task is there");
+    assert_eq!(
+        error.to_string(),
+        "refusal 22: a launch, and a task is there"
+    );
     let numbers: Vec<u8> = Refusal::ALL.iter().map(|r| r.number()).collect();
     let known = [1, 2, 3, 4, 5, 6, 7, 8, 9, 20, 21, 22, 23, 24, 30, 31];
     assert_eq!(numbers, known);

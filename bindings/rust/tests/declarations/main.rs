@@ -7,7 +7,7 @@ mod render;
 mod source;
 mod texts;
 
-use milchkompass::{Edition, Flags, LaunchMode};
+use milchkompass::{Edition, Flags, LaunchMode, IMAGE_MAX};
 use source::read;
 
 /// Without white space and without a comma after the last of a list.
@@ -126,6 +126,7 @@ fn limits() {
         );
     }
     let longest = 16 * (2 + 32) + 6;
+    assert_eq!(IMAGE_MAX, longest);
     has_line(
         &header,
         &format!("#define MILCHKOMPASS_IMAGE_MAX {longest}"),
@@ -220,4 +221,21 @@ fn prefix() {
     for name in always.lines().filter_map(|l| l.strip_prefix("#define ")) {
         assert!(name.starts_with("MILCHKOMPASS_"), "{name}");
     }
+}
+
+/// A function that changes nothing has `must_use`, unless what it gives has it: a
+/// `Result` or an iterator.
+#[test]
+fn must_use() {
+    let mut asked = 0;
+    for (head, attributes) in source::public_functions() {
+        let gives = head.split_once(" -> ").map_or("Result", |(_, gives)| gives);
+        let own = gives.starts_with("Result") || gives.starts_with("impl Iterator");
+        if own || head.contains("&mut self") {
+            continue;
+        }
+        assert!(attributes.contains("#[must_use"), "{head}");
+        asked += 1;
+    }
+    assert!(asked > 30, "{asked} functions");
 }

@@ -37,6 +37,29 @@ fn entries(folder: &str) -> impl Iterator<Item = PathBuf> {
     entries.map(|entry| entry.expect("an entry").path())
 }
 
+/// The crate's public functions, but for the declarations': the head of each, and
+/// its attributes.
+pub fn public_functions() -> Vec<(String, String)> {
+    let mut found = Vec::new();
+    for file in entries("bindings/rust/src").filter(|file| !file.ends_with("raw.rs")) {
+        let source = fs::read_to_string(file).expect("a source");
+        let mut attributes = String::new();
+        for line in source.lines().map(str::trim) {
+            if line.starts_with("#[") {
+                attributes.push_str(line);
+                continue;
+            }
+            let head = line.strip_prefix("pub fn ");
+            if let Some(head) = head.or(line.strip_prefix("pub const fn ")) {
+                assert!(head.ends_with('{'), "a head of several lines: {head}");
+                found.push((head.to_string(), attributes.clone()));
+            }
+            attributes.clear();
+        }
+    }
+    found
+}
+
 /// The text of all libraries; a program has no `lib.rt`.
 fn libraries() -> String {
     let text = |folder: PathBuf| fs::read_to_string(folder.join("src/lib.rt")).ok();
