@@ -1,95 +1,140 @@
 #!/usr/bin/env python3
-"""Plays the same recording through the proved player and through the second navigator's player, in one run.
+"""Measures the proved programs and the calls of the static library beside the second navigator's, in one run.
 
-Usage: bench/run.py [RECORDS]     (10,000,000 if left out)
+Usage: bench/run.py [--records N] [--rounds N] [--instructions]
 
-Both are built first (for release). Five turns each, in alternation, output to /dev/null: records a second of the best
-turn, the ratio, the spread of the turns, peak memory, and instructions a record by valgrind's callgrind (100,000 records).
+All is built first (for release). In each round (7 if left out) the player, explain and depth play the same recording
+(5,000,000 records if left out), the proved one and then the second's, output to /dev/null, by processor time; then calls_bench of
+second/lent makes the calls on a small, a typical and a full session, the two in turns. Of all rounds the least time counts, since noise
+only adds to it. Printed are nanoseconds a record or a call, and then a table of the proved ones' times as parts of the second
+navigator's. With --instructions also instructions a record and a call by valgrind's callgrind, and how many calls of memcpy
+and memmove a call of the library makes.
 """
+import argparse
 import os
+import re
 import subprocess
 import sys
 import tempfile
-import time
+
+from recording import write_recording
 
 ROOT = os.path.dirname(os.path.dirname(os.path.abspath(__file__)))
-PLAYERS = {"proved": "target/bin/player", "second": "target/second/release/player"}
-TABLE = bytes.fromhex("0600000100010101020203010002")
-FLAGS = [0, 0, 0, 0, 0x10000000, 0x20000000, 0x04000000, 0x00020000, 0x18000000, 0x10008000, 0x14000000]
-KINDS = [1] * 6 + [2] * 58 + [3] * 8 + [4] * 24 + [5] * 4
+SECOND = "target/second/release"
+BENCH = f"{SECOND}/calls_bench"
+PROGRAMS = ["player", "explain", "depth"]
+CALLS = ["start", "finishing start", "Back", "look", "save", "restore"]
+SIZES = ["small", "typical", "full"]
+COUNTED_RECORDS = 100_000
+COUNTED_CALLS = 640
+LINE = re.compile(r"(.{15}) (\S+) +([\d.]+) +\(\d+\) +([\d.]+) +\(\d+\)")
 
 
-def write_recording(file, count):
-    """A table and `count` records, from a fixed generator: 100,000 of them, again and again."""
-    state, block = 0x2545F491, bytearray()
-    for _ in range(min(count, 100_000)):
-        state ^= state << 13 & 0xFFFFFFFF
-        state ^= state >> 17
-        state ^= state << 5 & 0xFFFFFFFF
-        kind = KINDS[state % 100]
-        screen = 0 if kind == 1 else (state >> 8) % 6  # a launch's names the edition, and 0 is 8
-        block += bytes((kind, screen)) + FLAGS[(state >> 16) % len(FLAGS)].to_bytes(4, "big")
-    whole, rest = divmod(count, len(block) // 6)
-    file.write(TABLE)
-    for _ in range(whole):
-        file.write(block)
-    file.write(block[: 6 * rest])
-    file.flush()
+def build():
+    """The proved programs and the library, and the second navigator's."""
+    quiet = dict(check=True, stdout=subprocess.DEVNULL, stderr=subprocess.DEVNULL)
+    subprocess.run(["rt", "check", *PROGRAMS], **quiet)
+    subprocess.run(["rt", "staticlib", "lent"], **quiet)
+    env = dict(os.environ, CARGO_TARGET_DIR=os.path.join(ROOT, "target/second"), LENT=os.path.join(ROOT, "target/staticlib"))
+    for manifest in ("second/Cargo.toml", "second/lent/Cargo.toml"):
+        subprocess.run(["cargo", "build", "--release", "--offline", "--quiet", "--manifest-path", manifest], check=True, env=env)
 
 
-def peak(pid):
-    """Peak memory in KiB so far, of the program alone; 0 when it has ended."""
-    try:
-        with open(f"/proc/{pid}/status") as status:
-            return next((int(line.split()[1]) for line in status if line.startswith("VmHWM")), 0)
-    except OSError:
-        return 0
-
-
-def turn(player, path):
-    """Seconds and peak memory in KiB of one run, looked at a hundred times a second."""
-    most = 0
-    begun = time.perf_counter()
-    with open(path, "rb") as stdin, open(os.devnull, "wb") as null:
-        child = subprocess.Popen([player], stdin=stdin, stdout=null)
-        while child.poll() is None:
-            most = max(most, peak(child.pid))
-            time.sleep(0.01)
+def played(program, path):
+    """Seconds of processor time that a program takes for a recording."""
+    with open(path, "rb") as stdin:
+        child = subprocess.Popen([program], stdin=stdin, stdout=subprocess.DEVNULL, stderr=subprocess.DEVNULL)
+        _, child.returncode, used = os.wait4(child.pid, 0)
     if child.returncode:
-        sys.exit(f"{player} failed")
-    return time.perf_counter() - begun, most
+        sys.exit(f"{program} failed")
+    return used.ru_utime + used.ru_stime
 
 
-def instructions(player, path):
-    with tempfile.NamedTemporaryFile() as out, open(path, "rb") as stdin:
-        told = subprocess.run(
-            ["valgrind", "--tool=callgrind", f"--callgrind-out-file={out.name}", player],
-            stdin=stdin, stdout=subprocess.DEVNULL, stderr=subprocess.PIPE, text=True, check=True)
-    return int(next(line for line in told.stderr.splitlines() if "Collected" in line).split(":")[1])
+def rounds(path, records, count):
+    """Of each program, and of each call and size, the least nanoseconds of the proved one and of the second's."""
+    least = {}
+
+    def keep(what, who, nanoseconds):
+        times = least.setdefault(what, [float("inf"), float("inf")])
+        times[who] = min(times[who], nanoseconds)
+
+    for number in range(count):
+        print(f"round {number + 1} of {count}", file=sys.stderr)
+        for name in PROGRAMS:
+            for who, folder in enumerate(("target/bin", SECOND)):
+                keep((name, ""), who, played(f"{folder}/{name}", path) / records * 1e9)
+        told = subprocess.run([BENCH], check=True, stdout=subprocess.PIPE, text=True).stdout
+        for row in filter(None, map(LINE.match, told.splitlines())):
+            for who in (0, 1):
+                keep((row[1].strip(), row[2]), who, float(row[3 + who]))
+    return least
+
+
+def print_times(least):
+    print("nanoseconds a record or a call    proved   second")
+    for (name, size), (proved, second) in least.items():
+        print(f"{name:<16} {size:<14} {proved:>8.1f} {second:>8.1f}")
+    print()
+    print("| | small | typical | full |")
+    print("|---|---|---|---|")
+    for name in CALLS:
+        ratios = [least[name, size][0] / least[name, size][1] for size in SIZES]
+        print(f"| {name} | " + " | ".join(f"{ratio:.2f}" for ratio in ratios) + " |")
+    for name in PROGRAMS:
+        proved, second = least[name, ""]
+        print(f"| `{name}`, a recording | {proved / second:.2f} | | |")
+
+
+def collected(arguments, out, **rest):
+    """The instructions that callgrind counts of a command."""
+    told = subprocess.run(["valgrind", "--tool=callgrind", f"--callgrind-out-file={out}", *arguments],
+                          stdout=subprocess.DEVNULL, stderr=subprocess.PIPE, check=True, text=True, **rest)
+    return int(re.search(r"Collected : (\d+)", told.stderr)[1])
+
+
+def counted_records(program, path):
+    with open(path, "rb") as stdin:
+        return collected([program], os.devnull, stdin=stdin) / COUNTED_RECORDS
+
+
+def counted_calls(who, call, size):
+    """Instructions a call, inside of the measured function alone, and calls of memcpy and memmove in it."""
+    with tempfile.NamedTemporaryFile() as out:
+        made = collected(["--compress-strings=no", f"--toggle-collect=*measured_{who}*",
+                          BENCH, "--once", who, call, size, str(COUNTED_CALLS)], out.name)
+        copies = re.findall(r"^cfn=.*mem(?:cpy|move).*\ncalls=(\d+)", open(out.name).read(), re.M)
+    return made / COUNTED_CALLS, sum(map(int, copies)) / COUNTED_CALLS
+
+
+def print_instructions():
+    print()
+    print("instructions a record or a call   proved   second  ratio  memcpy")
+    with tempfile.NamedTemporaryFile() as file:
+        write_recording(file, COUNTED_RECORDS)
+        for name in PROGRAMS:
+            proved, second = (counted_records(f"{folder}/{name}", file.name) for folder in ("target/bin", SECOND))
+            print(f"{name:<31} {proved:>8.0f} {second:>8.0f} {proved / second:>6.2f}", flush=True)
+    for call in CALLS:
+        for size in SIZES:
+            (proved, copies), (second, _) = (counted_calls(who, call, size) for who in ("lent", "second"))
+            print(f"{call:<16} {size:<14} {proved:>8.0f} {second:>8.0f} {proved / second:>6.2f} {copies:>7.1f}", flush=True)
 
 
 def main():
+    parser = argparse.ArgumentParser(usage="bench/run.py [--records N] [--rounds N] [--instructions]")
+    parser.add_argument("--records", type=int, default=5_000_000)
+    parser.add_argument("--rounds", type=int, default=7)
+    parser.add_argument("--instructions", action="store_true")
+    asked = parser.parse_args()
+    if asked.records < 1 or asked.rounds < 1:
+        parser.error("there is at least one record and one round")
     os.chdir(ROOT)
-    count = int(sys.argv[1]) if len(sys.argv) > 1 else 10_000_000
-    subprocess.run(["rt", "check", "player"], check=True, stdout=subprocess.DEVNULL)
-    env = dict(os.environ, CARGO_TARGET_DIR=os.path.join(ROOT, "target/second"))
-    subprocess.run(["cargo", "build", "--release", "--offline", "--quiet", "--manifest-path", "second/Cargo.toml"],
-                   check=True, env=env)
-    with tempfile.NamedTemporaryFile() as long, tempfile.NamedTemporaryFile() as short:
-        write_recording(long, count)
-        write_recording(short, 100_000)
-        turns = {name: [] for name in PLAYERS}
-        for _ in range(5):
-            for name, player in PLAYERS.items():
-                turns[name].append(turn(player, long.name))
-        best = {}
-        for name, player in PLAYERS.items():
-            seconds = [s for s, _ in turns[name]]
-            best[name] = min(seconds)
-            print(f"{name}: {count / best[name] / 1e6:.1f} million records a second "
-                  f"(turns {min(seconds):.2f} to {max(seconds):.2f} s), peak {max(m for _, m in turns[name])} KiB, "
-                  f"{instructions(player, short.name) / 100_000:.0f} instructions a record")
-        print(f"the proved player takes {best['proved'] / best['second']:.2f} of the second one's time")
+    build()
+    with tempfile.NamedTemporaryFile() as file:
+        write_recording(file, asked.records)
+        print_times(rounds(file.name, asked.records, asked.rounds))
+    if asked.instructions:
+        print_instructions()
 
 
 main()

@@ -40,6 +40,15 @@ pub struct Reason {
     found: u8,
 }
 
+/// What two lists of calls are to each other: the refusal's number, or 0, and 1 where
+/// they end alike. C's bool is a byte, which is read here as it comes.
+#[repr(C)]
+#[derive(Clone, Copy)]
+struct Ending {
+    refusal: u8,
+    alike: u8,
+}
+
 extern "C" {
     fn milchkompass_abi() -> u32;
 
@@ -93,11 +102,40 @@ extern "C" {
         screen: u8,
         flags: u32,
     ) -> Reason;
+
+    fn milchkompass_record_length(calls: *const u8, calls_length: usize) -> usize;
+
+    fn milchkompass_call_length(calls: *const u8, calls_length: usize) -> usize;
+
+    fn milchkompass_play(
+        table: *const u8,
+        table_length: usize,
+        session: *mut Stored,
+        calls: *const u8,
+        calls_length: usize,
+    ) -> Answer;
+
+    fn milchkompass_play_call(
+        table: *const u8,
+        table_length: usize,
+        session: *mut Stored,
+        calls: *const u8,
+        calls_length: usize,
+    ) -> Answer;
+
+    fn milchkompass_same_ending(
+        table: *const u8,
+        table_length: usize,
+        first: *const u8,
+        first_length: usize,
+        second: *const u8,
+        second_length: usize,
+    ) -> Ending;
 }
 
 impl Answer {
     /// The nine numbers in their order.
-    pub fn numbers(self) -> [u8; 9] {
+    fn numbers(self) -> [u8; 9] {
         [
             self.refusal,
             self.screen,
@@ -174,4 +212,56 @@ pub fn save(table: &[u8], session: &Stored, buffer: &mut [u8]) -> (u8, usize) {
 pub fn why(table: &[u8], session: &Stored, screen: u8, flags: u32) -> [u8; 4] {
     let reason = unsafe { milchkompass_why(table.as_ptr(), table.len(), *session, screen, flags) };
     [reason.refusal, reason.rule, reason.place, reason.found]
+}
+
+// Of a list of calls, the first record: its length and the record played, without
+// restores and with them.
+
+pub fn record_length(list: &[u8]) -> usize {
+    unsafe { milchkompass_record_length(list.as_ptr(), list.len()) }
+}
+
+pub fn call_length(list: &[u8]) -> usize {
+    unsafe { milchkompass_call_length(list.as_ptr(), list.len()) }
+}
+
+pub fn play(table: &[u8], session: &mut Stored, list: &[u8]) -> [u8; 9] {
+    unsafe {
+        milchkompass_play(
+            table.as_ptr(),
+            table.len(),
+            session,
+            list.as_ptr(),
+            list.len(),
+        )
+    }
+    .numbers()
+}
+
+pub fn play_call(table: &[u8], session: &mut Stored, list: &[u8]) -> [u8; 9] {
+    unsafe {
+        milchkompass_play_call(
+            table.as_ptr(),
+            table.len(),
+            session,
+            list.as_ptr(),
+            list.len(),
+        )
+    }
+    .numbers()
+}
+
+/// The refusal's number, or 0, and 1 where both lists end alike.
+pub fn same_ending(table: &[u8], first: &[u8], second: &[u8]) -> [u8; 2] {
+    let ending = unsafe {
+        milchkompass_same_ending(
+            table.as_ptr(),
+            table.len(),
+            first.as_ptr(),
+            first.len(),
+            second.as_ptr(),
+            second.len(),
+        )
+    };
+    [ending.refusal, ending.alike]
 }

@@ -2,12 +2,12 @@
 
 use std::time::Instant;
 
+use lent_calls::sizes::Size;
 use lent_calls::stored::SESSION;
 
 use crate::lot::{
     self, measured_by_value, measured_copy, measured_lent, measured_second, Lot, CALLS,
 };
-use crate::sizes::Size;
 
 /// How many turns each of the two takes.
 const TURNS: usize = 500;
@@ -42,7 +42,7 @@ pub fn print_table() {
         for size in Size::ALL {
             let [lent, second, by_value] = alternate(&Lot::new(kind, size));
             print!(
-                "{:<15} {:<8} {:>7.0} {:>8} {:>7.0} {:>8} {:>6.2}",
+                "{:<15} {:<8} {:>7.1} {:>8} {:>7.1} {:>8} {:>6.2}",
                 kind.name(),
                 size.name(),
                 lent.best(),
@@ -55,7 +55,7 @@ pub fn print_table() {
                 println!();
             } else {
                 println!(
-                    " {:>7.0} {:>8}",
+                    " {:>7.1} {:>8}",
                     by_value.best(),
                     format!("({:.0})", by_value.middle())
                 );

@@ -34,7 +34,7 @@ pub struct Ended {
 /// What is asked of both.
 #[derive(Clone)]
 pub enum Asked {
-    Play(Played),
+    Play(Box<Played>),
     End(Ended),
 }
 
@@ -85,7 +85,7 @@ impl<L: Library> Checker<L> {
         let answer = lists::play_call(&played.table, &mut session, &played.list);
         self.counts.steps.add(&Step::new(&played, &answer));
         self.calls += 4;
-        self.compare(what, Asked::Play(played))?;
+        self.compare(what, Asked::Play(Box::new(played)))?;
         Ok(session)
     }
 
@@ -126,11 +126,12 @@ impl<L: Library> Checker<L> {
 /// What the library gives, and whether it wrote outside of what it may write.
 fn by_library(library: &impl Library, asked: &Asked) -> (Given, bool) {
     match asked {
-        Asked::Play(Played {
-            table,
-            session,
-            list,
-        }) => {
+        Asked::Play(played) => {
+            let Played {
+                table,
+                session,
+                list,
+            } = &**played;
             let mut lent = [Guarded::new(*session), Guarded::new(*session)];
             let ((lengths, answers), kept) = lending([table, list], |[table, list]| {
                 let [plain, whole] = &mut lent;
@@ -181,11 +182,12 @@ fn lending<T, const N: usize>(
 /// What the second navigator gives.
 fn by_second(asked: &Asked) -> Given {
     match asked {
-        Asked::Play(Played {
-            table,
-            session,
-            list,
-        }) => {
+        Asked::Play(played) => {
+            let Played {
+                table,
+                session,
+                list,
+            } = &**played;
             let plain = played_by_second(lists::play, table, session, list);
             let whole = played_by_second(lists::play_call, table, session, list);
             Given::Play {

@@ -19,6 +19,7 @@ pub fn smallest(mut asked: Asked, differs: impl Fn(&Asked) -> bool) -> Asked {
 fn smaller(asked: &Asked) -> Vec<Asked> {
     match asked {
         Asked::Play(played) => {
+            let played = &**played;
             let lists = shorter(&played.list).into_iter().map(|list| Played {
                 list,
                 ..played.clone()
@@ -29,7 +30,8 @@ fn smaller(asked: &Asked) -> Vec<Asked> {
                     session,
                     ..played.clone()
                 });
-            lists.chain(sessions).map(Asked::Play).collect()
+            let both = lists.chain(sessions);
+            both.map(|fewer| Asked::Play(Box::new(fewer))).collect()
         }
         Asked::End(Ended { table, lists }) => {
             let [first, second] = lists;
