@@ -4,11 +4,11 @@
 Usage: bench/run.py [--records N] [--rounds N] [--instructions]
 
 All is built first (for release). In each round (7 if left out) the player, explain and depth play the same recording
-(5,000,000 records if left out), the proved one and then the second's, output to /dev/null, by processor time; then calls_bench of
-second/lent makes the calls on a small, a typical and a full session, the two in turns. Of all rounds the least time counts, since noise
-only adds to it. Printed are nanoseconds a record or a call, and then a table of the proved ones' times as parts of the second
-navigator's. With --instructions also instructions a record and a call by valgrind's callgrind, and how many calls of memcpy
-and memmove a call of the library makes.
+(5,000,000 records if left out), the proved one and then the second's, output to /dev/null, by processor time; then calls_bench
+of second/lent makes the calls on a small, a typical and a full session, the two in turns. Of all rounds the least time counts,
+since noise only adds to it. Printed are nanoseconds a record or a call, and then a table of the proved ones' times as parts of
+the second navigator's. With --instructions also instructions a record and a call by valgrind's callgrind, and how many calls
+of memcpy and memmove a call of the library makes.
 """
 import argparse
 import os
@@ -17,7 +17,8 @@ import subprocess
 import sys
 import tempfile
 
-from recording import write_recording
+sys.dont_write_bytecode = True
+from recording import write_recording  # noqa: E402
 
 ROOT = os.path.dirname(os.path.dirname(os.path.abspath(__file__)))
 SECOND = "target/second/release"

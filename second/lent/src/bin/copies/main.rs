@@ -5,9 +5,8 @@
 //! One line for each call: its name, and the most copies of a session, or of most of
 //! its tasks, that one such call makes: on a small and a typical session, and of starts
 //! each one that is accepted. (On a full one a move of all tasks by one place would be
-//! taken for a copy.) Where the library passes a session by value, the
-//! compiler may leave a copy out; whether it does is not promised, and so it is
-//! counted. Save and why are passed a session by value, which is one copy.
+//! taken for a copy.) Where the library passes a session by value, the compiler may
+//! leave a copy out; whether it does is not promised, and so it is counted.
 
 mod counted;
 
