@@ -13,16 +13,23 @@ use Rattle.model.specs.Session.{fresh}
 use Rattle.model.specs.Player.{textOf, startsWithTable, tableIn, recordBytes, playerText, longestLine}
 use Rattle.play.specs.Fitting.{fitting}
 use Rattle.play.proofs.BlockLaws.{fitting-all}
-use Rattle.input.specs.Texts.{stopLine, fittingText, Roomy}
+use Rattle.input.specs.Texts.{stopLine, stopWritten, fittingText, Roomy}
+
+-- ---- the line with which the player stops
+
+module _ (out : List ℕ) where
+  pub stop-line : longestLine ≤ length out → stopWritten out ≡ stopLine
+  stop-line h = rw (le-leb longestLine (length out) h)
+
+  pub stop-none : length out < longestLine → stopWritten out ≡ []
+  stop-none h = rw (lt-leb longestLine (length out) h)
+
+-- ---- the text
 
 module _ (input out : List ℕ) where
-  pub text-stop : startsWithTable input ≡ false → longestLine ≤ length out → fittingText input out ≡ stopLine
+  pub text-stop : startsWithTable input ≡ false → fittingText input out ≡ stopWritten out
   unfolding fittingText
-  text-stop e h = rw (e, le-leb longestLine (length out) h)
-
-  pub text-none : startsWithTable input ≡ false → length out < longestLine → fittingText input out ≡ []
-  unfolding fittingText
-  text-none e h = rw (e, lt-leb longestLine (length out) h)
+  text-stop e = rw e
 
   pub text-table : startsWithTable input ≡ true → fittingText input out ≡ textOf (tableIn input) fresh (fitting (recordBytes input) out)
   unfolding fittingText

@@ -9,14 +9,12 @@ use lib.Seq.{length-take-le}
 use Rattle.model.specs.Table.{sizeOf}
 use Rattle.model.specs.Session.{fresh}
 use Rattle.model.specs.Player.{startsWithTable}
-use Rattle.model.specs.Written.{written}
-use Rattle.model.proofs.WrittenLaws.{written-nil}
 use Rattle.session.specs.Stored.{view}
 use Rattle.session.proofs.StoredLaws.{view-fresh}
 use Rattle.table.specs.declared.Beginning.{Beginning}
 use Rattle.table.proofs.BeginningLaws.{told, starts-with, starts-otherwise}
 use Rattle.play.proofs.Replies.{fresh-playable}
-use Rattle.input.proofs.TextLaws.{text-stop, text-none, text-table, text-whole, table-part, records-part}
+use Rattle.input.proofs.TextLaws.{text-stop, text-table, text-whole, table-part, records-part}
 use Rattle.input.proofs.player_text.Statement.{statement}
 use Rattle.input.proofs.player_text.Tie as tie
 
@@ -28,17 +26,11 @@ otherwise c =
 
 returns : tie.Need-returns
 returns c =
-    let a = c .before .before .before .before .before .args in
-    let t = text-none (a .input .now) (a .out .now) (otherwise (c .before)) (omega arith) in
-    (ap length (sym t), (sym (written-nil (a .out .now) 0) ∙ ap (written (a .out .now) 0) (sym t), text-whole (a .input .now) (a .out .now)))
-
-returns-2 : tie.Need-returns-2
-returns-2 c =
-    let told = c .before .before .before .before .before in
+    let told = c .before .before .before .before in
     let a = told .before .before .before .before .args in
-    let w = c .before .before .write-stop .ensures in
-    let t = text-stop (a .input .now) (a .out .now) (otherwise told) (omega arith) in
-    (rw t (w .0), (rw t (w .1 .0), text-whole (a .input .now) (a .out .now)))
+    let w = c .before .before .stop .ensures in
+    let t = text-stop (a .input .now) (a .out .now) (otherwise told) in
+    (rw t (w .0), (rw t (w .1), text-whole (a .input .now) (a .out .now)))
 
 -- the table stands in the input
 begun : (c : tie.After-long)
@@ -65,8 +57,8 @@ part-play-start c = within (c .before .before .before)
 play-requires : tie.Need-play-requires
 play-requires c κs = rw (c .before .before .fresh .ensures) (fresh-playable _)
 
-returns-3 : tie.Need-returns-3
-returns-3 c =
+returns-2 : tie.Need-returns-2
+returns-2 c =
     let long = c .before .before .before .before .before .before .before .before in
     let a = long .before .before .before .before .before .args in
     let b = begun long in
@@ -83,10 +75,9 @@ player-text-spec =
     (tie.spec
     (λ c κs. search needs)
     (λ c. search needs)
-    returns
     (λ c κs. search needs)
     (λ c. search needs)
-    returns-2
+    returns
     slice-aggregate-play
     (λ c κs. search needs)
     sub-play
@@ -94,4 +85,4 @@ player-text-spec =
     (λ c. search needs)
     play-requires
     (λ c. search needs)
-    returns-3)
+    returns-2)
