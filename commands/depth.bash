@@ -13,7 +13,7 @@ status=0
 for name in "${plain[@]}"; do
     (readable "$name") || { status=2 && continue; }
     [ -n "$built" ] || build depth
-    [ -z "$named" ] || about="$name: "
+    about="$name: "
     # no line where the recording was not read to its end
     numbers=$(take_input "$name" && run) || { status=2 && continue; }
     if ! [[ $numbers =~ ^[0-9]+(\ [0-9]+){3}$ ]]; then

@@ -1,4 +1,4 @@
-//! What `./explain --words` prints of a recording, by this crate alone: reads
+//! What `./milch explain --words` prints of a recording, by this crate alone: reads
 //! standard input, writes standard output.
 
 use std::io::{self, Read, Write};

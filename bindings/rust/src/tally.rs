@@ -35,7 +35,7 @@ pub struct Tally {
     pub greatest: u8,
 }
 
-/// What is told of a tally. It displays the four numbers as `./depth` prints
+/// What is told of a tally. It displays the four numbers as `depth` prints
 /// them: accepted, refused, greatest, tenths.
 #[derive(Clone, Copy, Debug, Default, PartialEq, Eq, Hash)]
 pub struct Report {
