@@ -55,6 +55,17 @@ enum milchkompass_edition {
 #define MILCHKOMPASS_LAUNCH_SINGLE_TASK 2
 #define MILCHKOMPASS_LAUNCH_SINGLE_INSTANCE 3
 
+/* The name of a launch mode. */
+static inline const char *milchkompass_mode_name(uint8_t mode) {
+    switch (mode) {
+    case MILCHKOMPASS_LAUNCH_MULTIPLE: return "standard";
+    case MILCHKOMPASS_LAUNCH_SINGLE_TOP: return "single-top";
+    case MILCHKOMPASS_LAUNCH_SINGLE_TASK: return "single-task";
+    case MILCHKOMPASS_LAUNCH_SINGLE_INSTANCE: return "single-instance";
+    default: return "no launch mode";
+    }
+}
+
 /* The seven flags of a start, under the names and numbers of Android's Intent. Any of them may be set together. */
 #define MILCHKOMPASS_FLAG_ACTIVITY_NEW_TASK UINT32_C(0x10000000)
 #define MILCHKOMPASS_FLAG_ACTIVITY_SINGLE_TOP UINT32_C(0x20000000)
@@ -66,6 +77,20 @@ enum milchkompass_edition {
 
 /* All seven together. A flag word with any other bit is refused with 4. */
 #define MILCHKOMPASS_FLAGS UINT32_C(0x7c028000)
+
+/* The name of a flag. A word of several has none. */
+static inline const char *milchkompass_flag_name(uint32_t flag) {
+    switch (flag) {
+    case MILCHKOMPASS_FLAG_ACTIVITY_NEW_TASK: return "NEW_TASK";
+    case MILCHKOMPASS_FLAG_ACTIVITY_SINGLE_TOP: return "SINGLE_TOP";
+    case MILCHKOMPASS_FLAG_ACTIVITY_MULTIPLE_TASK: return "MULTIPLE_TASK";
+    case MILCHKOMPASS_FLAG_ACTIVITY_CLEAR_TOP: return "CLEAR_TOP";
+    case MILCHKOMPASS_FLAG_ACTIVITY_REORDER_TO_FRONT: return "REORDER_TO_FRONT";
+    case MILCHKOMPASS_FLAG_ACTIVITY_CLEAR_TASK: return "CLEAR_TASK";
+    case MILCHKOMPASS_FLAG_ACTIVITY_NO_HISTORY: return "NO_HISTORY";
+    default: return "no flag";
+    }
+}
 
 /* The refusals; milchkompass_refusal_text says what each means. 9 is the player's alone, and 31 a tally's. */
 enum milchkompass_refusal {
@@ -88,7 +113,7 @@ enum milchkompass_refusal {
     MILCHKOMPASS_NOT_TALLIED = 31
 };
 
-/* The condition of a refusal, as the rules say it. */
+/* What a refusal means, in one plain sentence. */
 static inline const char *milchkompass_refusal_text(uint8_t refusal) {
     switch (refusal) {
     case MILCHKOMPASS_ACCEPTED: return "the call is accepted";
@@ -176,6 +201,31 @@ typedef struct milchkompass_reason {
     uint8_t place;
     uint8_t found;
 } milchkompass_reason;
+
+/* What a rule does, in one plain sentence. */
+static inline const char *milchkompass_rule_text(uint8_t rule) {
+    switch (rule) {
+    case 1: return "the single-instance screen has its task: that task comes to the front";
+    case 2: return "the single-instance screen has no task: a new task of it alone comes to the front";
+    case 3: return "a task found for the single-task screen is cleared: it comes to the front, all in it closes, and the screen opens in it";
+    case 4: return "a task found for it holds the screen: it comes to the front, and what lay above the screen closes";
+    case 5: return "a task found for it does not hold the screen: it comes to the front, and the screen opens on top";
+    case 6: return "no task is found for the single-task screen: a new task of it alone comes to the front";
+    case 7: return "the screen is in front already: the start moves nothing";
+    case 8: return "the front task holds the screen, and CLEAR_TOP is set: what lay above the screen closes";
+    case 9: return "the front task holds the screen, and REORDER_TO_FRONT is set: it comes to the top; edition 7 empties a main task first";
+    case 10: return "the screen opens on top of the front task";
+    case 11: return "MULTIPLE_TASK is set: a new task of the screen alone comes to the front";
+    case 12: return "a task is found for it, and CLEAR_TASK is set: it comes to the front, all in it closes, and the screen opens in it";
+    case 13: return "a task found for it holds the screen, and CLEAR_TOP is set: it comes to the front, and what lay above the screen closes";
+    case 14: return "a task found for it does not hold the screen, and CLEAR_TOP is set: it comes to the front, and the screen opens on top";
+    case 15: return "a task that began with the screen is found, and is not the main one: it comes to the front as it is";
+    case 16: return "a task found for it has the screen on top already: it comes to the front as it is";
+    case 17: return "a task is found for it: it comes to the front, and the screen opens on top";
+    case 18: return "no task is found for it: a new task of the screen alone comes to the front";
+    default: return "no rule";
+    }
+}
 
 /* What two lists of calls are to each other: the refusal of the table (0 if none), and whether they end alike. */
 typedef struct milchkompass_ending {

@@ -24,19 +24,43 @@ static void number(void) {
     expect(milchkompass_abi() == MILCHKOMPASS_ABI, "the library's number");
 }
 
-static void fresh_and_texts(void) {
+static void fresh_session(void) {
     session fresh = MILCHKOMPASS_SESSION_FRESH, zeros;
     memset(&zeros, 0, sizeof zeros);
     expect(!same(fresh, zeros), "a fresh session is not all zeros");
     zeros.edition = E8;
     expect(same(fresh, zeros), "a fresh session is zeros and edition 8");
     expect(same(fresh, milchkompass_fresh()), "a fresh session is the library's");
-    expect(strcmp(milchkompass_refusal_text(MILCHKOMPASS_ACCEPTED), "the call is accepted") == 0, "the text of 0");
-    expect(strcmp(milchkompass_refusal_text(22), "a launch, and a task is there") == 0, "the text of 22");
+}
+
+static bool says(const char *text, const char *wanted) {
+    return strcmp(text, wanted) == 0;
+}
+
+/* Each number has its text or its name, and no other has one. */
+static void texts(void) {
+    expect(says(milchkompass_refusal_text(MILCHKOMPASS_ACCEPTED), "the call is accepted"), "the text of 0");
+    expect(says(milchkompass_refusal_text(22), "a launch, and a task is there"), "the text of 22");
+    expect(says(milchkompass_rule_text(10), "the screen opens on top of the front task"), "the text of R10");
+    expect(says(milchkompass_mode_name(LAUNCH_SINGLE_TASK), "single-task"), "the name of a launch mode");
     for (int i = 0; i < 256; i++) {
-        bool known = i <= 9 || (20 <= i && i <= 24) || i == 30 || i == 31;
-        bool named = strcmp(milchkompass_refusal_text((uint8_t)i), "no refusal of a call") != 0;
-        expect(known == named, "a text for each refusal, and for no other number");
+        uint8_t number = (uint8_t)i;
+        bool refusal = i <= 9 || (20 <= i && i <= 24) || i == 30 || i == 31, rule = 1 <= i && i <= 18, mode = i <= 3;
+        expect(says(milchkompass_refusal_text(number), "no refusal of a call") != refusal, "a text for each refusal");
+        expect(says(milchkompass_rule_text(number), "no rule") != rule, "a text for each rule");
+        expect(says(milchkompass_mode_name(number), "no launch mode") != mode, "a name for each launch mode");
+    }
+}
+
+/* Each bit of the mask has a name, and no other word has one. */
+static void names_of_flags(void) {
+    expect(says(milchkompass_flag_name(NOH), "NO_HISTORY"), "the name of a flag");
+    expect(says(milchkompass_flag_name(0), "no flag"), "the name of no flag");
+    expect(says(milchkompass_flag_name(NTK | STP), "no flag"), "the name of two flags");
+    for (int i = 0; i < 32; i++) {
+        uint32_t bit = UINT32_C(1) << i;
+        bool flag = (bit & MILCHKOMPASS_FLAGS) != 0;
+        expect(says(milchkompass_flag_name(bit), "no flag") != flag, "a name for each flag");
     }
 }
 
@@ -263,7 +287,9 @@ static void full(void) {
 
 int main(void) {
     number();
-    fresh_and_texts();
+    fresh_session();
+    texts();
+    names_of_flags();
     example(0, E8);
     example(E8, E8);
     example(E7, E7);

@@ -1,7 +1,7 @@
 //! The texts that people read: the crate, the header, the proved sentences of
 //! `explain` and the tables of the documents say the same words.
 
-use milchkompass::{Refusal, Rule};
+use milchkompass::{Flags, LaunchMode, Refusal, Rule};
 
 use crate::source::{exists, read};
 use crate::{header, names_of, render};
@@ -45,6 +45,13 @@ fn cases_of(function: &str) -> Vec<(String, String)> {
     lines.map(case).collect()
 }
 
+/// What a function of the header returns: these texts, and this for any other.
+fn returns(function: &str, texts: impl Iterator<Item = (String, String)>, other: &str) {
+    let other = ("default".to_string(), other.to_string());
+    let wanted: Vec<(String, String)> = texts.chain([other]).collect();
+    assert_eq!(cases_of(function), wanted);
+}
+
 /// The table's words are the crate's, by number, and no number is left out.
 #[test]
 fn refusals() {
@@ -69,17 +76,24 @@ fn refusals_in_c() {
         let name = render::snake(&format!("{refusal:?}")).to_uppercase();
         format!("MILCHKOMPASS_{name}")
     };
-    let mut cases = vec![(
+    let accepted = (
         "MILCHKOMPASS_ACCEPTED".to_string(),
         "the call is accepted".to_string(),
-    )];
+    );
+    let refused = Refusal::ALL
+        .iter()
+        .map(|refusal| (named(refusal), refusal.condition().to_string()));
+    returns(
+        "milchkompass_refusal_text",
+        [accepted].into_iter().chain(refused),
+        "no refusal of a call",
+    );
     let mut declared = vec!["MILCHKOMPASS_ACCEPTED = 0".to_string()];
-    for refusal in Refusal::ALL {
-        cases.push((named(refusal), refusal.condition().to_string()));
-        declared.push(format!("{} = {}", named(refusal), refusal.number()));
-    }
-    cases.push(("default".to_string(), "no refusal of a call".to_string()));
-    assert_eq!(cases_of("milchkompass_refusal_text"), cases);
+    declared.extend(
+        Refusal::ALL
+            .iter()
+            .map(|refusal| format!("{} = {}", named(refusal), refusal.number())),
+    );
     let names = names_of("refusal");
     let names: Vec<&str> = names.split(',').map(str::trim).collect();
     assert_eq!(names, declared);
@@ -124,4 +138,33 @@ fn rules() {
         assert_eq!(Rule::try_from(rule.number()), Ok(*rule));
     }
     assert!(Rule::try_from(0).is_err() && Rule::try_from(19).is_err());
+}
+
+#[test]
+fn rules_in_c() {
+    let rules = Rule::ALL.iter();
+    let texts = rules.map(|rule| (rule.number().to_string(), rule.to_string()));
+    returns("milchkompass_rule_text", texts, "no rule");
+}
+
+#[test]
+fn modes_in_c() {
+    let names = ["MULTIPLE", "SINGLE_TOP", "SINGLE_TASK", "SINGLE_INSTANCE"];
+    let modes = names.iter().zip(LaunchMode::ALL);
+    let texts = modes.map(|(name, mode)| (format!("MILCHKOMPASS_LAUNCH_{name}"), mode.to_string()));
+    returns("milchkompass_mode_name", texts, "no launch mode");
+}
+
+/// The flags by their names, in the header and in the table.
+#[test]
+fn flags() {
+    let flags = || Flags::all().iter_names();
+    let in_c = |name| format!("MILCHKOMPASS_FLAG_ACTIVITY_{name}");
+    let texts = flags().map(|(name, flag)| (in_c(name), flag.to_string()));
+    returns("milchkompass_flag_name", texts, "no flag");
+    let rows = rows_under("| Flag, in hex | Android's name | What it asks for |");
+    assert_eq!(rows.len(), flags().count());
+    for (row, (name, flag)) in rows.iter().zip(flags()) {
+        assert_eq!(row[..2], [format!("{:08x}", flag.bits()), name.to_string()]);
+    }
 }
