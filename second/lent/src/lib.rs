@@ -8,14 +8,12 @@
 //!   up, how many screens were closed, and how often there was a No-History front
 //! - `sessions`, `damage`: random good and bad tables, sessions and images
 //! - `starts`: random screens and flag words
-//! - `sizes`: the sessions that are measured, small, typical and full
 //! - `run`: options and endings of the comparing programs
 //!
 //! The programs: `images` compares save and restore, `calls` all calls, `reasons`
 //! why and start, `lists` records played one by one and the endings of lists of
 //! them, `tallies` the tally's step and its report, `fuzz` makes calls on any bytes
-//! at the edges of memory, `calls_bench` measures,
-//! `copies` counts how often a call copies a session.
+//! at the edges of memory, `calls_bench` measures.
 
 pub mod call;
 pub mod check;
@@ -25,6 +23,5 @@ pub mod library;
 pub mod no_history;
 pub mod run;
 pub mod sessions;
-pub mod sizes;
 pub mod starts;
 pub mod stored;

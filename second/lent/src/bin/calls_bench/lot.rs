@@ -3,14 +3,15 @@
 use std::hint::black_box;
 
 use second::session::{MAX_HEIGHT, MAX_TASKS};
-use second::Session;
+use second::table::flag_word;
+use second::{calls, Session};
 
 use lent_calls::call::{by_library, on_session, Call, Kind, Reply};
 use lent_calls::sessions::{held, T};
-use lent_calls::sizes::{accepted_starts, Size};
 use lent_calls::stored::Stored;
 
 use crate::by_value;
+use crate::sizes::Size;
 
 /// The calls that are measured. Launch is left out: it has but one session. Why
 /// is left out: it is a start's choice.
@@ -100,6 +101,15 @@ impl Lot {
         };
         (0..CALLS).map(with_room).collect()
     }
+}
+
+/// Of each screen with each set of the six flags that choose rules, those that are
+/// accepted.
+fn accepted_starts(session: &Session) -> Vec<(u8, u32)> {
+    let sets = (0..64).map(flag_word);
+    sets.flat_map(|flags| (0..T[0]).map(move |screen| (screen, flags)))
+        .filter(|&(screen, flags)| calls::why(&T, session, screen, flags).refusal == 0)
+        .collect()
 }
 
 #[inline(never)]

@@ -2,12 +2,12 @@
 
 use std::time::Instant;
 
-use lent_calls::sizes::Size;
 use lent_calls::stored::SESSION;
 
 use crate::lot::{
     self, measured_by_value, measured_copy, measured_lent, measured_second, Lot, CALLS,
 };
+use crate::sizes::Size;
 
 /// How many turns each of the two takes.
 const TURNS: usize = 500;

@@ -1,11 +1,8 @@
-//! The sessions that are measured, sound under the table of the paper's examples,
-//! and the starts from them.
+//! The sessions that are measured, sound under the table of the paper's
+//! examples.
 
 use second::session::{MAX_HEIGHT, MAX_TASKS};
-use second::table::flag_word;
-use second::{calls, Session, Task};
-
-use crate::sessions::T;
+use second::{Session, Task};
 
 #[derive(Clone, Copy)]
 pub enum Size {
@@ -56,13 +53,4 @@ fn task(place: usize, height: usize) -> Task {
     let mut screens: Vec<u8> = (0..height).map(|at| [2, 1, 0, 5][at % 4]).collect();
     screens[height - 1] = root;
     Task::new(root, &screens)
-}
-
-/// Of each screen with each set of the six flags that choose rules, those that are
-/// accepted.
-pub fn accepted_starts(session: &Session) -> Vec<(u8, u32)> {
-    let sets = (0..64).map(flag_word);
-    sets.flat_map(|flags| (0..T[0]).map(move |screen| (screen, flags)))
-        .filter(|&(screen, flags)| calls::why(&T, session, screen, flags).refusal == 0)
-        .collect()
 }
