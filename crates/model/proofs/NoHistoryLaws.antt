@@ -9,25 +9,26 @@ use lib.Dec.{eqb}
 use Rattle.model.specs.declared.Answer.{Answer}
 use Rattle.model.specs.declared.Change.{Change}
 use Rattle.model.specs.declared.Choice.{Choice}
+use Rattle.model.specs.declared.Effect.{Effect}
 use Rattle.model.specs.declared.Flags.{Flags}
 use Rattle.model.specs.declared.Found.{Found}
 use Rattle.model.specs.declared.Group.{Group}
 use Rattle.model.specs.declared.Rule.{Rule}
-use Rattle.model.specs.Lists.{if_then_else_, first, onFirst}
+use Rattle.model.specs.Lists.{if_then_else_, isEmpty, first, onFirst}
 use Rattle.model.specs.Refusals.{refusal}
 use Rattle.model.specs.Table.{tableRefusal}
 use Rattle.model.specs.Session.{Stack, State, onScreens, setNoHistory, sound}
 use Rattle.model.specs.Flags.{NTK, STP, MTK, CTP, RTF, CTK, NOH, bit, flagsOf, sevenOf, hasOtherBit}
 use Rattle.model.specs.Search.{placeOf}
 use Rattle.model.specs.Rules.{numberOf, isR7, rulesOf, isSingle, isApart, groupOf, soughtBy, fits, chooseIn, choose}
-use Rattle.model.specs.Effects.{reordered, effectOf, changed, changeFront, carryOut}
+use Rattle.model.specs.Effects.{reordered, effectOf, changed, changeFront, carryOut, taskLeft, close}
 use Rattle.model.specs.Counts.{createdIn, createdBy}
 use Rattle.model.specs.Answers.{lookAt}
 use Rattle.model.specs.Image.{image}
-use Rattle.model.specs.Calls.{start, finishingStart, chosen, effectAt, callerCloses, noHistoryAfter, startBy, started, startChecks, ownChecks, done, refusalOf}
+use Rattle.model.specs.Calls.{start, finishingStart, chosen, effectAt, callerCloses, noHistoryAfter, startBy, started, startChecks, ownChecks, closedOf, done, refusalOf}
 use Rattle.model.specs.Reasons.{reasonOf, ruleNumbered, why}
 use Rattle.model.specs.NoHistory.{pushesOrMakes, LeavesMark, MarksBy, withoutNoHistory}
-use Rattle.model.proofs.Logic.{eqb-decides, same-test, refuted}
+use Rattle.model.proofs.Logic.{eqb-decides, same-test, refuted, if-elim}
 use Rattle.model.proofs.Sound.{Sound, sound-decides}
 use Rattle.model.proofs.Keeps.{settled}
 use Rattle.model.proofs.ImageLaws.{image-injective}
@@ -213,6 +214,35 @@ module _ (tb : List ℕ) (ok : tableRefusal tb ≡ 0) (s : State ℕ) (h : Sound
         plain = rw (settled tb ok s h (start b w), e) (left-by b w (placeOf (c .found)) s false (c .rule));
         finishing = rw (settled tb ok s h (finishingStart b w), e) (left-by b w (placeOf (c .found)) s true (c .rule));
       }
+
+-- ---- from a marked front, and after a Back
+
+-- the caller of a plain start closes too, and the start leaves the mark of a finishing one
+caller-closes : (h : ℕ) (r : Rule) → h ≡ 1 → isR7 r ≡ false → callerCloses false h r ≡ callerCloses true h r
+unfolding callerCloses
+caller-closes h r marked other = rw (marked, other)
+
+mark-alike : (h : ℕ) (noh : Bool) (r : Rule) (d : Effect) → isR7 r ≡ false → noHistoryAfter false h noh r d ≡ noHistoryAfter true h noh r d
+unfolding noHistoryAfter
+mark-alike h noh r d other = rw other
+
+-- so it makes the session of the finishing start, and closes as many screens
+module _ (tb : List ℕ) (s : State ℕ) (b w : ℕ) (marked : s .noHistory ≡ 1) (other : isR7 (chosen tb s b w .rule) ≡ false) where
+  pub marked-done : done tb s (start b w) ≡ done tb s (finishingStart b w)
+  unfolding done started
+  marked-done =
+      let r = chosen tb s b w .rule in
+      rw (caller-closes (s .noHistory) r marked other, mark-alike (s .noHistory) (flagsOf w .noh) r (effectAt s r) other)
+
+  pub marked-closed : closedOf tb s (start b w) ≡ closedOf tb s (finishingStart b w)
+  unfolding closedOf
+  marked-closed = rw (caller-closes (s .noHistory) (chosen tb s b w .rule) marked other)
+
+-- a screen that closes leaves no mark
+pub close-clears : (p i : ℕ) (s : State ℕ) → close p i s .noHistory ≡ 0
+unfolding close
+close-clears p i s =
+    if-elim (λ (u : State ℕ). u .noHistory ≡ 0) (isEmpty (taskLeft p i s .screens)) _ _ (λ _. refl) (λ _. refl)
 
 -- ---- images and looks
 

@@ -6,14 +6,16 @@ use mathlib.Core.Logic.{_↔_, Iff·trans}
 use mathlib.Core.Bool.{true}
 use mathlib.Core.List.{List}
 use native.Mathlib.Omega.{arith}
+use borrow.Author.Tests.{ne-eqb}
 use lib.ListN.{length, drop}
 use lib.Seq.{take-append-seam}
 use Rattle.model.specs.Refusals.{refusal}
 use Rattle.model.specs.Table.{tableRefusal}
 use Rattle.model.specs.Session.{State, fresh}
+use Rattle.model.specs.Rules.{numberOf}
 use Rattle.model.specs.Image.{image, longestImage}
 use Rattle.model.specs.Answers.{Outcome, outcome, lookAt, settle}
-use Rattle.model.specs.Calls.{Call, look, ownChecks, done, answerTo, call}
+use Rattle.model.specs.Calls.{Call, start, finishingStart, back, look, chosen, backed, ownChecks, done, answerTo, call}
 use Rattle.model.specs.Histories.{after, AnswerAlike, byRules}
 use Rattle.model.specs.Promises.{Lifelong}
 use Rattle.model.specs.Editions.{EditionKept, NamesNoEdition}
@@ -21,14 +23,14 @@ use Rattle.model.proofs.Sound.{Sound, sound-decides}
 use Rattle.model.proofs.Keeps.{settled, fresh-sound, after-sound}
 use Rattle.model.proofs.ImageLaws.{image-short}
 use Rattle.model.proofs.EditionLaws.{edition-kept, empty-edition, editions-apart}
-use Rattle.model.proofs.NoHistoryLaws.{marks-apart}
+use Rattle.model.proofs.NoHistoryLaws.{marked-done, marked-closed, close-clears, marks-apart}
 use Rattle.model.proofs.Backs.{look-gives}
 use Rattle.model.proofs.Promise3.{sound-lifelong, lifelong-one, images-tell}
 use Rattle.session.specs.declared.Session.{Session}
 use Rattle.session.specs.Stored.{view, hold, soundStored, Ready}
 use Rattle.session.proofs.StoredLaws.{view-hold, hold-sound, sound-view}
 use Rattle.calls.specs.declared.Reply.{Reply}
-use Rattle.calls.specs.StoredCalls.{reply, callStored, byProgram}
+use Rattle.calls.specs.StoredCalls.{reply, givenBy, refusalStored, callStored, byProgram}
 use Rattle.calls.proofs.Settling.{call-settled}
 use Rattle.calls.proofs.HistoryLaws.{call-held, alike-held, after-fresh, answers-fresh}
 use Rattle.image_calls.specs.StoredSaves.{saveStored}
@@ -105,6 +107,29 @@ module _ (tb : List ℕ) (ok : tableRefusal tb ≡ 0) (v w : State ℕ) (h : Sou
       looked : (u : State ℕ) → Sound tb u → callStored tb (hold u) look .answer ≡ lookAt u
       looked u l = ap (λ (r : Reply). r .answer) (call-held tb ok u l look) ∙ ap (λ (o : Outcome). o .answer) (look-gives tb ok u l)
 
+-- ---- the mark, by one call
+
+view-mark : (c : Session) → view c .noHistory ≡ c .«no_history»
+unfolding view
+view-mark c = refl
+
+module _ (tb : List ℕ) (c : Session) where
+  marked-start : (b w : ℕ) → c .«no_history» ≡ 1 → (numberOf (chosen tb (view c) b w .rule) ≡ 7 → ⊥)
+      → callStored tb c (start b w) ≡ callStored tb c (finishingStart b w)
+  unfolding callStored refusalStored ownChecks
+  marked-start b w marked other =
+      let m = view-mark c ∙ marked in
+      let o = ne-eqb (numberOf (chosen tb (view c) b w .rule)) 7 other in
+      rw (marked-done tb (view c) b w m o, marked-closed tb (view c) b w m o)
+
+  back-clears : callStored tb c back .answer .refusal ≡ 0 → callStored tb c back .session .«no_history» ≡ 0
+  unfolding callStored hold done backed
+  back-clears = go (refusalStored tb c back)
+    where
+      go : (n : ℕ) → givenBy tb c back n .answer .refusal ≡ 0 → givenBy tb c back n .session .«no_history» ≡ 0
+      go zero e = close-clears 1 0 (view c)
+      go (suc n) e = absurd (omega (arith, e))
+
 -- ---- the promise
 
 lives : (tb : List ℕ) → tableRefusal tb ≡ 0 → (cs : List Call) → Lifelong tb (view (reached tb cs))
@@ -144,6 +169,8 @@ promise3 tb ok =
           (λ differ. apart cs ds buffer buffer′ long long′ (marks tb ok (ruled cs) (ruled ds) (sound cs) (sound ds) differ));
       marksLook = λ cs ds. rw (after-fresh tb ok cs, after-fresh tb ok ds) (looks tb ok (ruled cs) (ruled ds) (sound cs) (sound ds));
       emptyMark = λ cs. rw (after-fresh tb ok cs) (held-mark tb (ruled cs) (sound cs));
+      markedStart = marked-start tb;
+      backClears = back-clears tb;
     }
   where
     apart : (cs ds : List Call) (buffer buffer′ : List ℕ) → longestImage ≤ length buffer → longestImage ≤ length buffer′

@@ -10,8 +10,9 @@ use mathlib.Core.List.{List}
 use lib.ListN.{length, take}
 use Rattle.model.specs.Table.{affinityOf, isSingleTask, tableRefusal}
 use Rattle.model.specs.Session.{fresh}
+use Rattle.model.specs.Rules.{numberOf}
 use Rattle.model.specs.Image.{longestImage}
-use Rattle.model.specs.Calls.{Call, look}
+use Rattle.model.specs.Calls.{Call, start, finishingStart, back, look, chosen}
 use Rattle.model.specs.Histories.{after, answers, AnswerAlike, byRules}
 use Rattle.model.specs.Promises.{Lifelong, RootOfOne}
 use Rattle.model.specs.Editions.{EditionKept, NamesNoEdition}
@@ -66,6 +67,11 @@ pub record Promise3 (tb : List ℕ) : Type 0 where
   pub marksLook : (cs ds : List Call) → (reached tb cs .«no_history» ≡ reached tb ds .«no_history» → ⊥)
       → callStored tb (reached tb cs) look .answer ≡ callStored tb (reached tb ds) look .answer → ⊥
   pub emptyMark : (cs : List Call) → reached tb cs .n ≡ 0 → reached tb cs .«no_history» ≡ 0
+  -- of one call on any session: "A plain start from a marked front is done as a finishing start .., save where R7 fits", refused or
+  -- not; and of "other accepted calls clear it", that a Back does
+  pub markedStart : (c : Session) (b w : ℕ) → c .«no_history» ≡ 1 → (numberOf (chosen tb (view c) b w .rule) ≡ 7 → ⊥)
+      → callStored tb c (start b w) ≡ callStored tb c (finishingStart b w)
+  pub backClears : (c : Session) → callStored tb c back .answer .refusal ≡ 0 → callStored tb c back .session .«no_history» ≡ 0
 
 -- what every contract of a call cites
 abbrev pub KeepsPromise3 : List ℕ → Type 0
