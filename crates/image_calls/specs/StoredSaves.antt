@@ -24,6 +24,6 @@ saveStored tb c buffer = settleSave (refusal (checksIn tb (soundStored tb c) (sa
 abbrev pub BroughtBack : List ℕ → Session → List ℕ → Type 0
 BroughtBack tb c bytes = (t : Session) → soundStored tb t ≡ true → callStored tb t (restore bytes) ≡ reply c (lookAt (view c))
 
--- "Save writes a session's only image": every sound session with these bytes for an image is this one
+-- no other sound session has these bytes for its image; that a session has no other image is said by `image`, which gives it one
 abbrev pub NoOtherHas : List ℕ → Session → List ℕ → Type 0
 NoOtherHas tb c bytes = (t : Session) → soundStored tb t ≡ true → image (view t) ≡ bytes → view t ≡ view c

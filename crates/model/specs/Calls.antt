@@ -168,15 +168,14 @@ roomChecks c s =
     ∷ check 24 (overfills (effectIn s c) (placeOf (c .found)) s)
     ∷ []
 
--- "Start checks 3, 4, 21, then 23 or 24." "3: start: B not below N"; 01's "a bit outside the six" is now
--- "4: start: a bit outside the seven" (02, request 7); "21: start, Back: empty"
+-- "Start checks 3, 4, 21, then 23 or 24." "3: start: B not below N"; of 01's "4: start: a bit outside the six", "4 is now a bit
+-- outside the seven" (02, request 7); "21: start, Back: empty"
 abbrev pub startChecks : List ℕ → State ℕ → ℕ → ℕ → List Check
 startChecks tb s b w =
     check 3 (not (ltb b (sizeOf tb))) ∷ check 4 (hasOtherBit w) ∷ check 21 (isEmpty (s .tasks))
     ∷ roomChecks (chosen tb s b w) s
 
--- "22: launch: not empty", and as 01's table would have it "30: launch: edition not 0, 6, 7 or 8": "launch gives 30, after 22, for
--- another edition" (02, request 4)
+-- "22: launch: not empty"; "launch gives 30, after 22, for another edition" (02, request 4), which is not 0, 6, 7 or 8
 abbrev pub launchChecks : State ℕ → ℕ → List Check
 launchChecks s e = check 22 (not (isEmpty (s .tasks))) ∷ check 30 (not (isEdition (editionNamed e))) ∷ []
 

@@ -1,4 +1,5 @@
--- Document 02, request 1, "Agents want the reason under each start": the player's text with a line under each start.
+-- Document 02, request 1, "Agents want the reason under each start": the player's text with a line under each start. How the line
+-- looks is ours; the document does not say.
 use Prim.Native.Nat.{ℕ, _+_, _*_}
 use mathlib.Core.Bool.{Bool, true, false}
 use mathlib.Core.List.{List, [], _∷_, _++_}
@@ -12,7 +13,7 @@ use Rattle.model.specs.Player.{decimal, longestLine, Record, Request, un
 use Rattle.model.specs.Reasons.{noReason, why}
 use Rattle.model.specs.Sentences.{sentenceOf, longestSentence}
 
--- the reason of what a record of a start asks for. "A cut start record gets `9 0 0 0`"; other calls have none.
+-- the reason of what a record of a start asks for; of a cut one it is 9 and three zeros. Other calls have none.
 unfoldable pub reasonFor : List ℕ → State ℕ → Request → Reason
 reasonFor tb s unplayable = noReason 9
 reasonFor tb s (asks (start b w)) = why tb s b w
@@ -22,12 +23,12 @@ reasonFor tb s (asks back) = noReason 0
 reasonFor tb s (asks look) = noReason 0
 reasonFor tb s (asks (restore bytes)) = noReason 0
 
--- "two spaces before the four numbers"
+-- two spaces, then the four numbers
 abbrev pub fourNumbers : Reason → List ℕ
 fourNumbers r =
     ascii "  " ++ decimal (r .refusal) ++ ascii " " ++ decimal (r .rule) ++ ascii " " ++ decimal (r .place) ++ ascii " " ++ decimal (r .found)
 
--- "one line"; "`--words` adds the sentence"
+-- one line; `--words` adds the sentence
 unfoldable pub reasonLine : Bool → Reason → List ℕ
 reasonLine false r = fourNumbers r ++ ascii "\n"
 reasonLine true r = fourNumbers r ++ ascii " " ++ sentenceOf r ++ ascii "\n"
@@ -36,12 +37,12 @@ reasonLine true r = fourNumbers r ++ ascii " " ++ sentenceOf r ++ ascii "\n"
 abbrev pub longestReason : ℕ
 longestReason = 2 + 4 * 4 + longestSentence + 1
 
--- what stands under the line of a record: "under each line of a start or finishing start one line", "other and unknown kinds get
--- no second line"
+-- what stands under the line of a record: one line under that of a start or a finishing start, and none under that of another or
+-- an unknown kind
 abbrev pub underRecord : Bool → List ℕ → State ℕ → Record → List ℕ
 underRecord words tb s r = if isStart (r .kind) then reasonLine words (reasonFor tb s (r .request)) else []
 
--- "each line of the player as it is", and what stands under it. The reason is that of the session before the record.
+-- each line of the player as it is, and what stands under it. The reason is that of the session before the record.
 unfoldable pub explainedText : Bool → List ℕ → State ℕ → List Record → List ℕ
 explainedText words tb s [] = []
 explainedText words tb s (r ∷ rs) =
@@ -52,7 +53,7 @@ explainedText words tb s (r ∷ rs) =
 abbrev pub longestExplained : ℕ
 longestExplained = longestLine + longestReason
 
--- the whole input: "a table on which the player stops gives the player's one line"
+-- the whole input: of a table on which the player stops, the player's one line
 unfoldable pub explainText : Bool → List ℕ → List ℕ
 explainText words input =
     if startsWithTable input then explainedText words (tableIn input) fresh (recordsIn (recordBytes input)) else lineOf 0 (refused 1)

@@ -59,8 +59,8 @@ noHistoryIn bytes = mainByteIn bytes / 128
 abbrev pub editionIn : List ℕ → ℕ
 editionIn bytes = getD (trailerIn bytes) 4 0
 
--- not "5: restore: under 6 bytes, last two bytes not hex 06 42, 07 42 or 08 42, or length not L + 6": of 01's condition, hex 08 is
--- any edition now, "restore gives 5 when the byte is none of the three" (02, request 4)
+-- not "5: restore: under 6 bytes, last two bytes not hex 08 42, or length not L + 6", where hex 08 is any edition now: "restore gives
+-- 5 when the byte is none of the three" (02, request 4)
 unfoldable pub imageShaped : List ℕ → Bool
 imageShaped bytes =
     leb 6 (length bytes)

@@ -50,7 +50,7 @@ ruleNumbered n = getD (rulesOf Group.Instance ++ rulesOf Group.Task ++ rulesOf G
 
 -- a start of the screen b with the flag word w in the session s
 module _ (tb : List ℕ) (s : State ℕ) (b w : ℕ) where
-  -- the group that "B's mode and 'apart'" select
+  -- the group that is selected by B's mode, and by whether the start is apart
   abbrev pub groupSelected : Group
   groupSelected = groupOf tb s b (flagsOf w)
 

@@ -11,6 +11,6 @@ abbrev pub firstAsked : List Record → Request
 firstAsked [] = unplayable
 firstAsked (r ∷ rs) = r .request
 
--- the first record in the bytes, played: "an unknown kind, or a cut record" is refused with 9, before all checks of a call
+-- the first record in the bytes, played: "unknown kind, or a cut record" is refused with 9, before all checks of a call
 unfoldable pub playedStored : List ℕ → Session → List ℕ → Reply
 playedStored tb c bytes = replyStored tb c (firstAsked (recordsIn bytes))

@@ -46,8 +46,7 @@ withAnswer t refusal height =
     else record { sum = t .sum; accepted = t .accepted; refused = t .refused + 1; greatest = t .greatest }
 
 -- an answer is taken: none of "31 at the 65,536th call, for an accepted height above 32 or for a tally that no list of
--- answers gives" (02, request 6); as 01's table would have it
--- "31: tally: a 65,536th call, an accepted height above 32, or a tally that no list of answers gives"
+-- answers gives" (02, request 6)
 unfoldable pub takes : Tally → ℕ → ℕ → Bool
 takes t refusal height =
     (isTally t && (not (eqb refusal 0) || leb height mostHeight)) && ltb (t .accepted + t .refused) mostCalls
