@@ -31,7 +31,7 @@ crates_of() { # CRATE..
 }
 
 # What a program is built from, as one number: the kit, how it is linked, of each crate its line and its files, and files beside
-# them, whatever their times.
+# them, whatever their times. That of everything is of the sources alone.
 sources_of() { # PROGRAM|everything
     (
         cd "$here" || exit
@@ -40,8 +40,8 @@ sources_of() { # PROGRAM|everything
         mapfile -t crates <<<"$crates"
         read -ra beside <<<"${parts#*--}"
         {
-            printf '%s\n' "$kit" "${parts#*--}"
-            [ "${#beside[@]}" -eq 0 ] || ! static_c || echo static
+            [ "$1" = everything ] || printf '%s\n' "$kit"
+            [ "$1" != milch ] || ! static_c || echo static
             for crate in "${crates[@]}"; do grep "^$crate:" crates.txt; done
             find "${crates[@]/#/crates/}" "${beside[@]}" -type f ! -path '*/must-fail/*' ! -path '*/target/*' -print0 |
                 LC_ALL=C sort -z | xargs -0 sha256sum

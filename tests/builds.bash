@@ -77,10 +77,16 @@ check 'with later times' 0 "$played" '' ./milch play sample.recording
 rm -rf target
 check 'without target' 0 "$played" '' ./milch play sample.recording
 builds 1 'nothing of that is a build'
+one=$(./milch --version)
 echo '// changed' >>crates/model/src/lib.rt
+two=$(./milch --version)
+name='--version: a changed source' status=0
+[ "$one" != "$two" ] && [ "${one%sources*}" = "${two%sources*}" ] || wrong "$one and $two"
+printf 'ok: %s\n' "$name"
 check 'a source below it changed' 0 "$played" "$happens*" ./milch play sample.recording
 builds 2 'a changed source is a build'
 echo 'kit two' >"$work/kit/version"
+check '--version: another kit' 0 "${two/kit one/kit two}" '' ./milch --version
 check 'the kit changed' 0 "$played" "$happens*" ./milch play sample.recording
 builds 3 'a changed kit is a build'
 echo '// changed' >>crates/endings/src/lib.rt
