@@ -64,23 +64,19 @@ fn tasks(replay: &Replay) -> Vec<TaskView> {
 /// is gone no sentence says that it came to the front.
 fn reason_words(shown: &Shown, reason: Reason) -> String {
     let rule = rule_words(Some(reason));
-    let marked = shown.caller_closed();
-    let history = if marked {
-        ", which leaves no history"
-    } else {
-        ""
+    let history = match shown.caller_closed() {
+        true => ", which leaves no history",
+        false => "",
     };
     if shown.found_task_went() {
         return format!(
             "{rule}: the task found holds the caller alone{history}: it closes, and its task goes"
         );
     }
-    let then = if marked {
-        "; then the caller closes"
-    } else {
-        ""
-    };
-    format!("{rule}: {}{then}{history}", reason.rule)
+    match shown.caller_closed() {
+        true => format!("{rule}: {}; the caller closes{history}", reason.rule),
+        false => format!("{rule}: {}", reason.rule),
+    }
 }
 
 /// Plays the record at the start of these bytes, and does something with what it

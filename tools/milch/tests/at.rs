@@ -72,7 +72,7 @@ fn a_marked_caller() {
         told((2, 0, 0x1000_0000)),
         format!(
             "  R17, found at place 2 by root: a task is found for it: it comes to the front, \
-             and the screen opens on top; then the caller closes{history}\n  closed 1: notice"
+             and the screen opens on top; the caller closes{history}\n  closed 1: notice"
         )
     );
     // A finishing start of an unmarked screen that is alone and starts itself.
