@@ -33,7 +33,8 @@ impl<'a> Output<'a> {
         self.to.flush().or_else(failed)
     }
 
-    fn write(&mut self) -> Outcome {
+    /// Writes what is gathered.
+    pub fn write(&mut self) -> Outcome {
         self.to.write_all(&self.text).or_else(failed)?;
         self.text.clear();
         Ok(())

@@ -52,6 +52,7 @@ pub fn show(input: &mut Input, names: &Names, wanted: &Wanted, out: &mut Output)
             let line = Lines::new(names).stopped(played).to_vec();
             out.text.extend_from_slice(&line);
             wanted.check(input.name(), 0)?;
+            out.write()?;
             warn(&opening::no_table(input.name(), played));
             Ok(())
         }

@@ -105,7 +105,7 @@ impl<'a> Side<'a> {
             let length = shown.record.len();
             if is_restore(&shown) {
                 restores.add(number, place, length - RECORD);
-            } else if shown.record[0] == 6 {
+            } else if shown.record[0] == 6 && length >= RECORD {
                 *cut = Some(cut_words(number, shown.record));
             } else if shown.played.refusal() == Some(Refusal::BadRecord) {
                 ignored.add(number, place, length);
@@ -189,13 +189,8 @@ fn is_restore(shown: &Shown) -> bool {
 }
 
 fn cut_words(number: u64, record: &[u8]) -> String {
-    match record.len().checked_sub(RECORD) {
-        None => format!("the restore at record {number}: that record is cut"),
-        Some(there) => format!(
-            "the restore at record {number}: of the {} bytes of its image {there} are there",
-            word_of(record)
-        ),
-    }
+    let (whole, there) = (word_of(record), record.len() - RECORD);
+    format!("the restore at record {number}: of the {whole} bytes of its image {there} are there")
 }
 
 /// What stands beside the other recording's: the call with a mark on a restore,

@@ -192,11 +192,14 @@ fn a_recording_that_ends_within_a_restore() {
         "{}",
         ran.said
     );
+    // Of a record that is cut itself nothing follows: it is no call.
     let cut = [&good[..], &[6, 0]].concat();
     let ran = both("cut", &cut, &good);
-    assert_eq!((ran.status, ran.out.as_str()), (2, ""));
-    let said = "ends within the restore at record 5: that record is cut\n";
-    assert!(ran.said.ends_with(said), "{}", ran.said);
+    assert_eq!(ran.status, 1);
+    assert!(ran.out.ends_with("the endings are alike\n"), "{}", ran.out);
+    assert!(ran
+        .said
+        .contains("cut: 1, the first at byte 30, which is record 5; 2 bytes"));
 }
 
 /// As `same` does.
