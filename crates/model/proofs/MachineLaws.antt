@@ -3,7 +3,7 @@
 use mathlib.Core.Path.{_≡_, refl, sym, _∙_, ap, ap₂, subst}
 use mathlib.Core.List.{List, [], _∷_, _++_, map, map-id}
 use Rattle.model.specs.Lists.{All}
-use Rattle.model.specs.Histories.{Machine, after, answers, traced}
+use Rattle.model.specs.Histories.{Machine, after, answers}
 use Rattle.model.proofs.Logic.{All-of}
 use Rattle.model.proofs.HistoryLaws.{after-append, answers-append}
 
@@ -26,6 +26,11 @@ after-kept {C} m Kept keeps s h cs =
     run-keeps m Kept (λ c. Unit {0}) (λ a. Unit {0}) (λ s h c _. keeps s h c) (λ s h c _. tt) s h cs (All-of (λ c. tt) cs) .0
 
 -- ---- one machine follows another
+
+-- what each call gives in the session that it gets, one behind the other
+unfoldable pub traced : {S C A X : Type 0} → Machine S C A → (S → C → List X) → S → List C → List X
+traced m f s [] = []
+traced m f s (c ∷ cs) = f s c ++ traced m f (m .next s c) cs
 
 -- Where Like relates a session of m to one of m′, a call c amounts to the calls `asks s c` of m′, which get the answers `says s c`.
 module _ {S C A S′ C′ A′ : Type 0} (m : Machine S C A) (m′ : Machine S′ C′ A′) (Like : S → S′ → Type 0) (Made : C → Type 0)
