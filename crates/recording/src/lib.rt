@@ -13,7 +13,7 @@ ghost use Rattle.model.specs.Image.{image, longestImage};
 ghost use Rattle.model.specs.Histories.{IsNoRestore};
 ghost use Rattle.model.specs.Balance.{ScreensBalance};
 ghost use Rattle.model.specs.Promises.{Lifelong};
-ghost use Rattle.session.specs.Stored.{view, storageBlank, soundStored, Ready};
+ghost use Rattle.session.specs.Stored.{view, soundStored, Ready};
 ghost use Rattle.image.specs.Writable.{Writable};
 ghost use Rattle.calls.specs.StoredCalls.{KeepsSound};
 ghost use Rattle.navigator.specs.Promise3.{reached, KeepsPromise3};
@@ -201,22 +201,6 @@ pub fn replay(table: &[u8], calls: &[u8]) -> Replayed
 
 // ---- screens
 
-// How many screens stand in a session.
-fn standing(s: Session) -> u64
-    requires { ⌜ storageBlank s ≡ true ⌝ }
-    ensures { λ r. ⌜ r ≡ screensIn (view s .tasks) ⌝ }
-{
-    let mut total: u64 = 0;
-    let mut i: u8 = 0;
-    while i < s.n {
-        let k = i as usize;
-        let t = s.tasks[k];
-        total += wide(t.height);
-        i += 1;
-    }
-    total
-}
-
 // What a list of calls did to screens: the refusal of the table (0 if none), the screens created and closed along it, and those
 // standing after it.
 #[repr(C)]
@@ -252,7 +236,7 @@ pub fn count_screens(table: &[u8], calls: &[u8]) -> Screens
         refusal: 0,
         created: done.created,
         closed: done.closed,
-        standing: standing(s),
+        standing: s.standing(),
     }
 }
 

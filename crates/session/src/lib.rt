@@ -2,10 +2,11 @@
 
 ghost use Prim.Native.Nat.{_<_, _≤_};
 ghost use mathlib.Core.Path.{_≡_};
-ghost use Rattle.model.specs.Session.{top as topOf, mostHeight, isEdition};
+ghost use mathlib.Core.Bool.{true};
+ghost use Rattle.model.specs.Session.{top as topOf, mostHeight, isEdition, screensIn};
 ghost use lib.ListN.{set};
 ghost use Rattle.model.specs.Lists.{if_then_else_};
-ghost use Rattle.session.specs.Stored.{freshSession, viewTask, withScreens, pushed, popped};
+ghost use Rattle.session.specs.Stored.{freshSession, view, viewTask, withScreens, storageBlank, pushed, popped};
 
 // A task: the screen that created it, and its screens, bottom first.
 #[repr(C)]
@@ -59,6 +60,28 @@ impl Session {
     {
         (6 <= edition) & (edition <= 8)
     }
+
+    // How many screens stand.
+    pub fn standing(self) -> u64
+        requires { ⌜ storageBlank self ≡ true ⌝ }
+        ensures { λ r. ⌜ r ≡ screensIn (view self .tasks) ⌝ }
+    {
+        let mut total: u64 = 0;
+        let mut i: u8 = 0;
+        while i < self.n {
+            let k = i as usize;
+            let t = self.tasks[k];
+            total += wide(t.height);
+            i += 1;
+        }
+        total
+    }
+}
+
+fn wide(x: u8) -> u64
+    ensures { λ r. ⌜ r ≡ x ⌝ }
+{
+    x as u64
 }
 
 impl Task {
