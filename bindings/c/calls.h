@@ -29,7 +29,7 @@ static const uint8_t table_t[] = {6, 0, LAUNCH_MULTIPLE, 1, LAUNCH_MULTIPLE, 1, 
 #define T table_t, sizeof table_t
 
 /* P10: 3:[3] 0:[1,0], m 2, and its image. */
-static const session p10 = {{{3, 1, {3}}, {0, 2, {0, 1}}}, 2, 2, E8, 0};
+static const session p10 = {{{{3}, 3, 1}, {{0, 1}, 0, 2}}, 2, 2, E8, 0};
 static const uint8_t p10_image[] = {3, 1, 3, 0, 2, 1, 0, 0, 7, 2, 2, 8, 0x42};
 
 static bool same(session s, session t) {

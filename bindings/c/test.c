@@ -86,20 +86,20 @@ static void example(uint8_t named, uint8_t edition) {
 
 /* The stacks P1 to P9. */
 static const stack stacks[] = {
-    {"P1", {{{0, 3, {0, 1, 2}}}, 1, 1, E8, 0}, false, 1, RTF, {{{0, 3, {0, 2, 1}}}, 1, 1, E8, 0}, 0},
-    {"P2", {{{0, 3, {0, 1, 2}}}, 1, 1, E8, 0}, false, 1, CTP, {{{0, 2, {0, 1}}}, 1, 1, E8, 0}, 1},
-    {"P2, both", {{{0, 3, {0, 1, 2}}}, 1, 1, E8, 0}, false, 1, CTP | RTF, {{{0, 2, {0, 1}}}, 1, 1, E8, 0}, 1},
-    {"P3", {{{0, 3, {0, 1, 2}}}, 1, 1, E8, 0}, false, 2, 0, {{{0, 3, {0, 1, 2}}}, 1, 1, E8, 0}, 0},
-    {"P4", {{{4, 1, {4}}, {3, 1, {3}}, {0, 2, {0, 1}}}, 3, 3, E8, 0}, false, 1, 0,
-           {{{0, 3, {0, 1, 1}}, {4, 1, {4}}, {3, 1, {3}}}, 3, 1, E8, 0}, 0},
-    {"P5", {{{4, 1, {4}}, {3, 1, {3}}, {0, 2, {0, 1}}}, 3, 3, E8, 0}, false, 1, STP,
-           {{{0, 2, {0, 1}}, {4, 1, {4}}, {3, 1, {3}}}, 3, 1, E8, 0}, 0},
-    {"P6", {{{5, 2, {5, 1}}, {0, 1, {0}}}, 2, 2, E8, 0}, false, 5, NTK,
-           {{{5, 2, {5, 1}}, {0, 1, {0}}}, 2, 2, E8, 0}, 0},
-    {"P7", {{{3, 1, {3}}, {0, 1, {0}}}, 2, 2, E8, 0}, false, 3, NTK | MTK,
-           {{{3, 1, {3}}, {0, 1, {0}}}, 2, 2, E8, 0}, 0},
-    {"P8", {{{0, 1, {0}}}, 1, 1, E8, 0}, true, 0, NTK | CTK, {{{0, 1, {0}}}, 1, 1, E8, 0}, 1},
-    {"P9", {{{0, 1, {0}}}, 1, 1, E8, 0}, true, 0, NTK | STP, {{{0}}, 0, 0, E8, 0}, 1},
+    {"P1", {{{{0, 1, 2}, 0, 3}}, 1, 1, E8, 0}, false, 1, RTF, {{{{0, 2, 1}, 0, 3}}, 1, 1, E8, 0}, 0},
+    {"P2", {{{{0, 1, 2}, 0, 3}}, 1, 1, E8, 0}, false, 1, CTP, {{{{0, 1}, 0, 2}}, 1, 1, E8, 0}, 1},
+    {"P2, both", {{{{0, 1, 2}, 0, 3}}, 1, 1, E8, 0}, false, 1, CTP | RTF, {{{{0, 1}, 0, 2}}, 1, 1, E8, 0}, 1},
+    {"P3", {{{{0, 1, 2}, 0, 3}}, 1, 1, E8, 0}, false, 2, 0, {{{{0, 1, 2}, 0, 3}}, 1, 1, E8, 0}, 0},
+    {"P4", {{{{4}, 4, 1}, {{3}, 3, 1}, {{0, 1}, 0, 2}}, 3, 3, E8, 0}, false, 1, 0,
+           {{{{0, 1, 1}, 0, 3}, {{4}, 4, 1}, {{3}, 3, 1}}, 3, 1, E8, 0}, 0},
+    {"P5", {{{{4}, 4, 1}, {{3}, 3, 1}, {{0, 1}, 0, 2}}, 3, 3, E8, 0}, false, 1, STP,
+           {{{{0, 1}, 0, 2}, {{4}, 4, 1}, {{3}, 3, 1}}, 3, 1, E8, 0}, 0},
+    {"P6", {{{{5, 1}, 5, 2}, {{0}, 0, 1}}, 2, 2, E8, 0}, false, 5, NTK,
+           {{{{5, 1}, 5, 2}, {{0}, 0, 1}}, 2, 2, E8, 0}, 0},
+    {"P7", {{{{3}, 3, 1}, {{0}, 0, 1}}, 2, 2, E8, 0}, false, 3, NTK | MTK,
+           {{{{3}, 3, 1}, {{0}, 0, 1}}, 2, 2, E8, 0}, 0},
+    {"P8", {{{{0}, 0, 1}}, 1, 1, E8, 0}, true, 0, NTK | CTK, {{{{0}, 0, 1}}, 1, 1, E8, 0}, 1},
+    {"P9", {{{{0}, 0, 1}}, 1, 1, E8, 0}, true, 0, NTK | STP, {{{{0}, 0, 0}}, 0, 0, E8, 0}, 1},
 };
 
 /* Which rule moves each of them, where its task was found, and how. */
@@ -114,19 +114,19 @@ _Static_assert(sizeof told / sizeof *told == sizeof stacks / sizeof *stacks, "a 
 
 /* What editions 6 and 7 do otherwise, and what they do alike. */
 static const stack other_stacks[] = {
-    {"7, R9, main task", {{{0, 3, {0, 1, 2}}}, 1, 1, E7, 0}, false, 1, RTF, {{{0, 1, {1}}}, 1, 1, E7, 0}, 3},
-    {"7, R9, finishing", {{{0, 3, {0, 1, 2}}}, 1, 1, E7, 0}, true, 1, RTF, {{{0, 1, {1}}}, 1, 1, E7, 0}, 3},
-    {"7, R9, no main task", {{{0, 3, {0, 1, 2}}}, 1, 0, E7, 0}, false, 1, RTF, {{{0, 3, {0, 2, 1}}}, 1, 0, E7, 0}, 0},
-    {"7, R9, other task", {{{5, 2, {5, 1}}, {0, 1, {0}}}, 2, 2, E7, 0}, false, 5, RTF,
-                          {{{5, 2, {1, 5}}, {0, 1, {0}}}, 2, 2, E7, 0}, 0},
-    {"7, R7", {{{0, 3, {0, 1, 2}}}, 1, 1, E7, 0}, false, 2, RTF, {{{0, 3, {0, 1, 2}}}, 1, 1, E7, 0}, 0},
-    {"6, R9", {{{0, 3, {0, 1, 2}}}, 1, 1, E6, 0}, false, 1, RTF, {{{0, 3, {0, 2, 1}}}, 1, 1, E6, 0}, 0},
-    {"6, P6", {{{5, 2, {5, 1}}, {0, 1, {0}}}, 2, 2, E6, 0}, false, 5, NTK,
-              {{{5, 3, {5, 1, 5}}, {0, 1, {0}}}, 2, 2, E6, 0}, 0},
-    {"6, single-task", {{{5, 1, {5}}, {0, 1, {0}}, {3, 1, {5}}}, 3, 2, E6, 0}, false, 3, 0,
-                       {{{5, 2, {5, 3}}, {0, 1, {0}}, {3, 1, {5}}}, 3, 2, E6, 0}, 0},
-    {"6, R1", {{{0, 1, {0}}, {4, 1, {4}}}, 2, 1, E6, 0}, false, 4, 0, {{{4, 1, {4}}, {0, 1, {0}}}, 2, 2, E6, 0}, 0},
-    {"6, P9", {{{0, 1, {0}}}, 1, 1, E6, 0}, true, 0, NTK | STP, {{{0}}, 0, 0, E8, 0}, 1},
+    {"7, R9, main task", {{{{0, 1, 2}, 0, 3}}, 1, 1, E7, 0}, false, 1, RTF, {{{{1}, 0, 1}}, 1, 1, E7, 0}, 3},
+    {"7, R9, finishing", {{{{0, 1, 2}, 0, 3}}, 1, 1, E7, 0}, true, 1, RTF, {{{{1}, 0, 1}}, 1, 1, E7, 0}, 3},
+    {"7, R9, no main task", {{{{0, 1, 2}, 0, 3}}, 1, 0, E7, 0}, false, 1, RTF, {{{{0, 2, 1}, 0, 3}}, 1, 0, E7, 0}, 0},
+    {"7, R9, other task", {{{{5, 1}, 5, 2}, {{0}, 0, 1}}, 2, 2, E7, 0}, false, 5, RTF,
+                          {{{{1, 5}, 5, 2}, {{0}, 0, 1}}, 2, 2, E7, 0}, 0},
+    {"7, R7", {{{{0, 1, 2}, 0, 3}}, 1, 1, E7, 0}, false, 2, RTF, {{{{0, 1, 2}, 0, 3}}, 1, 1, E7, 0}, 0},
+    {"6, R9", {{{{0, 1, 2}, 0, 3}}, 1, 1, E6, 0}, false, 1, RTF, {{{{0, 2, 1}, 0, 3}}, 1, 1, E6, 0}, 0},
+    {"6, P6", {{{{5, 1}, 5, 2}, {{0}, 0, 1}}, 2, 2, E6, 0}, false, 5, NTK,
+              {{{{5, 1, 5}, 5, 3}, {{0}, 0, 1}}, 2, 2, E6, 0}, 0},
+    {"6, single-task", {{{{5}, 5, 1}, {{0}, 0, 1}, {{5}, 3, 1}}, 3, 2, E6, 0}, false, 3, 0,
+                       {{{{5, 3}, 5, 2}, {{0}, 0, 1}, {{5}, 3, 1}}, 3, 2, E6, 0}, 0},
+    {"6, R1", {{{{0}, 0, 1}, {{4}, 4, 1}}, 2, 1, E6, 0}, false, 4, 0, {{{{4}, 4, 1}, {{0}, 0, 1}}, 2, 2, E6, 0}, 0},
+    {"6, P9", {{{{0}, 0, 1}}, 1, 1, E6, 0}, true, 0, NTK | STP, {{{{0}, 0, 0}}, 0, 0, E8, 0}, 1},
 };
 
 static const milchkompass_reason other_told[] = {
@@ -147,7 +147,7 @@ _Static_assert(sizeof other_told / sizeof *other_told == sizeof other_stacks / s
 
 /* Why a start is refused. */
 static void refused_reasons(void) {
-    const session fresh = MILCHKOMPASS_SESSION_FRESH, unsound = {{{0}}, 0, 1, E8, 0};
+    const session fresh = MILCHKOMPASS_SESSION_FRESH, unsound = {{{{0}, 0, 0}}, 0, 1, E8, 0};
     const uint8_t bad_mode[] = {1, 0, 4, 0};
     milchkompass_reason cut = milchkompass_why(table_t, sizeof table_t - 1, unsound, 255, 1);
     expect(cut.refusal == MILCHKOMPASS_TABLE_LENGTH && cut.rule + cut.place + cut.found == 0, "why, table cut");
@@ -161,13 +161,13 @@ static void refused_reasons(void) {
 /* Screens without affinity in edition 6: a single-task one is sought by root, another is not sought at all. */
 static void without_affinity(void) {
     const uint8_t table[] = {3, 0, LAUNCH_MULTIPLE, 1, LAUNCH_SINGLE_TASK, 0, LAUNCH_MULTIPLE, 0};
-    session s = {{{0, 1, {0}}, {1, 1, {1}}}, 2, 1, E6, 0};
+    session s = {{{{0}, 0, 1}, {{1}, 1, 1}}, 2, 1, E6, 0};
     REASON(table, s, 1, 0, 0, 4, 2, MILCHKOMPASS_FOUND_BY_ROOT);
     ANSWERS(milchkompass_start(table, sizeof table, &s, 1, 0), 0, 1, 1, 1, 2, 2, 0, 6, 0);
-    s = (session){{{2, 1, {2}}, {0, 1, {0}}}, 2, 2, E6, 0};
+    s = (session){{{{2}, 2, 1}, {{0}, 0, 1}}, 2, 2, E6, 0};
     REASON(table, s, 2, NTK, 0, 18, 0, MILCHKOMPASS_FOUND_NONE);
     ANSWERS(milchkompass_start(table, sizeof table, &s, 2, NTK), 0, 2, 2, 1, 3, 3, 0, 6, 0);
-    s = (session){{{2, 1, {2}}, {0, 1, {0}}}, 2, 2, E8, 0};
+    s = (session){{{{2}, 2, 1}, {{0}, 0, 1}}, 2, 2, E8, 0};
     REASON(table, s, 2, NTK, 0, 15, 1, MILCHKOMPASS_FOUND_BY_ROOT);
     ANSWERS(milchkompass_start(table, sizeof table, &s, 2, NTK), 0, 2, 2, 1, 2, 2, 0, 8, 0);
 }
@@ -214,7 +214,7 @@ static void editions_of_images(void) {
 /* Refusals 1, 2 and 20. */
 static void shared_refusals(void) {
     const uint8_t no_main[] = {1, 1, LAUNCH_MULTIPLE, 0}, bad_mode[] = {1, 0, 4, 0};
-    const session unsound = {{{0}}, 0, 1, E8, 0};
+    const session unsound = {{{{0}, 0, 0}}, 0, 1, E8, 0};
     all_refused(MILCHKOMPASS_TABLE_LENGTH, table_t, sizeof table_t - 1, unsound);
     all_refused(MILCHKOMPASS_TABLE_CONTENT, no_main, sizeof no_main, unsound);
     all_refused(MILCHKOMPASS_TABLE_CONTENT, bad_mode, sizeof bad_mode, unsound);

@@ -150,7 +150,7 @@ fn editions() {
     assert_eq!(squeezed(&names_of("edition")), wanted);
     let fresh = Edition::default().number();
     let in_c = format!(
-        "SESSION_FRESH {{{{{{0, 0, {{0}}}}}}, 0, 0, {}, 0}}",
+        "SESSION_FRESH {{{{{{{{0}}, 0, 0}}}}, 0, 0, {}, 0}}",
         number(fresh)
     );
     has_line(&header(), &format!("#define MILCHKOMPASS_{in_c}"));
