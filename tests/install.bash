@@ -8,6 +8,12 @@ for tool in bash env cat dirname readlink; do ln -s "$(type -P "$tool")" "$work/
 bare=(env -i PATH="$work/tools")
 there=("${bare[@]}" "$moved/bin/milch")
 
+# A program as the checkout keeps it.
+kept() { # PROGRAM
+    local found
+    for found in .built/"$1"-*; do [ ! -f "$found" ] || [[ $found == *.o ]] || echo "$found"; done
+}
+
 name='install: nothing is needed of a C library' status=0
 for program in player explain depth same milch; do
     readelf -lW "$moved/lib/milchkompass/programs/$program" >"$work/out" || wrong "$program is no program"
@@ -17,7 +23,7 @@ printf 'ok: %s\n' "$name"
 name='install: the programs are those of the checkout' status=0
 for recording in crates/stored/data/*; do
     for program in player explain depth; do
-        .built/"$program"-???????????????????????????????????????????????????????????????? <"$recording" >"$work/out" 2>"$work/err"
+        "$(kept "$program")" <"$recording" >"$work/out" 2>"$work/err"
         "$moved/lib/milchkompass/programs/$program" <"$recording" 2>"$work/err.there" | cmp - "$work/out" && cmp "$work/err" "$work/err.there" ||
             wrong "$program differs on $recording"
     done
