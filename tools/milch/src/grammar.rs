@@ -2,7 +2,7 @@
 //! writes like it. A `#` begins a comment, and lines may be empty. A screen stands
 //! there by its number or by its name.
 
-use milchkompass::Flags;
+use milchkompass::{Flags, LaunchMode};
 
 use crate::cursor::{Cursor, Word, Wrong};
 use crate::names::Names;
@@ -209,12 +209,9 @@ fn mode(cursor: &mut Cursor) -> Result<u8, Wrong> {
         return cursor.byte("a mode");
     }
     let word = cursor.word();
-    let names = ["standard", "single-top", "single-task", "single-instance"];
-    let known = names
-        .iter()
-        .position(|name| word.is_some_and(|w| w.text == *name));
+    let known = word.and_then(|word| word.text.parse::<LaunchMode>().ok());
     match known {
-        Some(mode) => Ok(mode as u8),
+        Some(mode) => Ok(mode.number()),
         None => Err(cursor.wrong(
             word,
             "standard, single-top, single-task, single-instance or mode",

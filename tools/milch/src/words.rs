@@ -1,6 +1,6 @@
 //! A record's call in words.
 
-use milchkompass::{Flags, LaunchMode, Row};
+use milchkompass::{Flags, Row};
 
 use crate::names::Names;
 use crate::pen::{Pen, Short, SPARE};
@@ -132,10 +132,7 @@ fn write_restore(pen: &mut Pen, record: &[u8]) {
 /// A screen's launch mode.
 pub fn mode_words(row: Row) -> String {
     match row.mode {
-        Ok(LaunchMode::Standard) => "standard".to_string(),
-        Ok(LaunchMode::SingleTop) => "single-top".to_string(),
-        Ok(LaunchMode::SingleTask) => "single-task".to_string(),
-        Ok(LaunchMode::SingleInstance) => "single-instance".to_string(),
+        Ok(mode) => mode.to_string(),
         Err(unknown) => unknown.to_string(),
     }
 }
