@@ -104,6 +104,7 @@ pub fn report_on(fd: i32) {
     let got = read.count;
     let Beginning::Table(long) = table::beginning_of(&buffer[..got]) else {
         finish(Tally::none(), 0);
+        reading::warn_no_table();
         return;
     };
     run(fd, &buffer[..long]);

@@ -187,11 +187,14 @@ fn run(fd: i32, table: &[u8], manner: Manner) {
     }
 }
 
-// Says that there is no table.
-fn stop() {
+// Says that there is no table, and warns of it where reading did not fail.
+fn stop(failed: bool) {
     let mut line = [0u8; line::LONGEST];
     let long = input::write_stop(&mut line);
-    reading::print(&line[..long]);
+    let went = reading::print(&line[..long]);
+    if went & !failed {
+        reading::warn_no_table();
+    }
 }
 
 // Plays what a file descriptor gives, in this manner: the table, then the records. What is read and written no contract can
@@ -201,7 +204,7 @@ pub fn play_from(fd: i32, manner: Manner) {
     let read = reading::read_table(fd, &mut buffer);
     let got = read.count;
     let Beginning::Table(long) = table::beginning_of(&buffer[..got]) else {
-        stop();
+        stop(read.failed);
         return;
     };
     run(fd, &buffer[..long], manner);

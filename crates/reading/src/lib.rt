@@ -1,10 +1,11 @@
 // What programs on recordings read and write: a table, blocks of bytes, text. What cannot be read or written is told on
-// standard error.
+// standard error; a line there that begins with `warning: ` changes nothing.
 
 ghost use Prim.Native.Nat.{_≤_};
 ghost use lib.ListN.{length};
 ghost use Rattle.io.specs.Counts.{Counts};
 ghost use Rattle.model.specs.Table.{longestTable};
+use libc::STDERR_FILENO;
 use libc::STDOUT_FILENO;
 use table::Beginning;
 
@@ -75,4 +76,12 @@ pub fn print(text: &[u8]) -> bool {
         os::fail(b"standard output");
     }
     false
+}
+
+// Warns that an input begins with no table.
+pub fn warn_no_table() {
+    io::write_all(
+        STDERR_FILENO,
+        b"warning: the input begins with no table (refusal 1)\n",
+    );
 }

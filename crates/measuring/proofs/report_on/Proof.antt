@@ -39,6 +39,7 @@ report-on-spec =
     (λ c. search needs)
     (λ c κs. search needs)
     (λ c κs. search needs)
+    (λ c κs. search needs)
     (λ c. search needs)
     array-share-prefix-buffer-2
     slice-aggregate-run

@@ -20,4 +20,6 @@ stop-spec =
     array-share-prefix-line
     slice-aggregate-print
     (λ c κs. search needs)
+    (λ c κs. search needs)
+    (λ c. search needs)
     (λ c. search needs))
