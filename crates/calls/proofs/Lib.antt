@@ -1,4 +1,4 @@
 pub mod Settling
 pub mod PlanSettling
 pub mod HistoryLaws
-pub mod Requests
+pub mod RecordSettling

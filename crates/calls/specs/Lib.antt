@@ -1,2 +1,3 @@
 pub mod StoredCalls
 pub mod CallPlans
+pub mod RecordPlans

@@ -7,17 +7,25 @@ ghost use mathlib.Core.Path.{_≡_};
 ghost use Rattle.model.specs.Answers.{refused as refusedAnswer};
 ghost use Rattle.model.specs.Calls.{Call, editionNamed};
 ghost use Rattle.model.specs.Table.{tableRefusal};
-ghost use Rattle.session.specs.Stored.{taskBehind};
+ghost use Rattle.model.specs.declared.Rule.{Rule};
+ghost use Rattle.session.specs.Stored.{taskBehind, Ready};
+ghost use Rattle.records.specs.Records.{isStarting, requestFor};
 ghost use Rattle.plans.specs.Plans.{Opens};
 ghost use Rattle.starts.specs.Steps.{orElse};
-ghost use Rattle.model.specs.Player.{requestOf};
 ghost use Rattle.calls.specs.StoredCalls.{reply, sharedRefusal, callStored, replyStored};
 ghost use Rattle.calls.specs.CallPlans.{launchRefusal, launchPlan, backRefusal, backMark, backPlan};
+ghost use Rattle.calls.specs.RecordPlans.{SoughtFor, PlannedFor, planFor, ruleFor};
 use model::Answer;
 use model::Effect;
 use model::Mark;
+use model::Rule;
 use plans::Plan;
+use records::Asked;
+use records::Record;
 use session::Session;
+use session::Task;
+use starts::Decided;
+use starts::Sought;
 
 // What a call gives: the session after it, and the answer.
 #[repr(C)]
@@ -209,17 +217,67 @@ pub fn finish_start(table: &[u8], s: Session, b: u8, word: u32, shared: u8) -> R
 
 // ---- records
 
-// What a whole record gives; shared is the refusal of the checks that all calls share.
-pub fn reply_to(table: &[u8], s: Session, kind: u8, b: u8, word: u32, shared: u8) -> Reply
-    requires { ⌜ shared ≡ sharedRefusal (now table) s ⌝ }
-    ensures { λ r. ⌜ r ≡ replyStored (now (table .entry)) s (requestOf kind b word) ⌝ }
+// What a record seeks, by the refusal so far: only a start seeks a task.
+pub fn seek_for(table: &[u8], s: Session, r: Record, number: u8) -> Sought
+    requires { ⌜ (number ≡ 0 → Ready (now table) s) ⌝ }
+    ensures { λ x. ⌜ SoughtFor (isStarting (r .asked)) (now (table .entry)) s (r .screen) (r .word) number x ⌝ }
 {
-    match kind {
-        1 => launch(table, s, b, shared),
-        2 => start(table, s, b, word, shared),
-        3 => finish_start(table, s, b, word, shared),
-        4 => back(table, s, shared),
-        5 => look(table, s, shared),
-        _ => refuse(s, 9),
+    let asked = r.asked;
+    match asked {
+        Asked::Start | Asked::FinishingStart => starts::seek(table, s, r.screen, r.word, number),
+        Asked::Launch | Asked::Back | Asked::Look | Asked::Nothing => starts::none_sought(number),
+    }
+}
+
+// A plan that no rule made: R18 stands for none, as where a start is refused.
+fn without_rule(plan: Plan) -> Decided
+    ensures { λ d. ⌜ (d .plan ≡ plan) × (d .rule ≡ Rule.R18) ⌝ }
+{
+    Decided {
+        plan: plan,
+        rule: Rule::R18,
+    }
+}
+
+// What is decided of it; t is the task at the index that was sought.
+pub fn decide_for(table: &[u8], s: Session, t: Task, sought: Sought, r: Record) -> Decided
+    requires { ⌜ PlannedFor (isStarting (r .asked)) (now table) s (r .screen) (r .word) t sought ⌝ }
+    ensures plan { λ d. ⌜ d .plan ≡ planFor (sought .number) (now (table .entry)) s r ⌝ }
+    ensures rule { λ d. ⌜ d .rule ≡ ruleFor (isStarting (r .asked)) (sought .number) (now (table .entry)) s (r .screen) (r .word) ⌝ }
+{
+    let asked = r.asked;
+    match asked {
+        Asked::Launch => without_rule(launch_plan(table, s, r.screen, sought.number)),
+        Asked::Start | Asked::FinishingStart => {
+            let finishing = records::is_finishing(asked);
+            starts::decide(table, s, t, sought, r.screen, r.word, finishing)
+        }
+        Asked::Back => without_rule(back_plan(s, sought.number)),
+        Asked::Look => without_rule(plans::still(s, sought.number)),
+        Asked::Nothing => without_rule(plans::still(s, 9)),
+    }
+}
+
+// What a record gives; shared is the refusal of the checks that all calls share. It has a body of its own, so that each call
+// above has one caller: a second one costs a copy of the session.
+pub fn reply_to(table: &[u8], s: Session, r: Record, shared: u8) -> Reply
+    requires { ⌜ shared ≡ sharedRefusal (now table) s ⌝ }
+    ensures { λ x. ⌜ x ≡ replyStored (now (table .entry)) s (requestFor r) ⌝ }
+{
+    let mut out = s;
+    let sought = seek_for(table, s, r, shared);
+    let i = sought.index;
+    let t = out.tasks[i];
+    let decided = decide_for(table, s, t, sought, r);
+    let plan = decided.plan;
+    let second = out.tasks[1];
+    let answer = plans::answer_of(plan, second);
+    out.n = plan.n;
+    out.main = plan.main;
+    out.edition = plan.edition;
+    out.no_history = plan.no_history;
+    Reply {
+        session: plans::put(out, plan),
+        answer: answer,
     }
 }

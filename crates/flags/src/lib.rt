@@ -1,10 +1,7 @@
-// The flag word of a start: its seven flags, whether a bit outside them is set, and the word in a record.
+// The flag word of a start: its seven flags, and whether a bit outside them is set.
 
-ghost use Prim.Native.Nat.{_+_, _<_, _≤_};
 ghost use mathlib.Core.Path.{_≡_};
-ghost use lib.ListN.{length};
 ghost use Rattle.model.specs.Flags.{flagsOf, hasOtherBit};
-ghost use Rattle.flags.specs.Words.{wordAt};
 use model::Flags;
 
 // The seven, in hex as Android publishes them: new task, single top, multiple task, clear top, reorder to front, clear task, no
@@ -46,21 +43,4 @@ pub fn has_other_bit(word: u32) -> bool
     ensures { λ r. ⌜ r ≡ hasOtherBit word ⌝ }
 {
     word & !SEVEN != 0
-}
-
-fn wide(x: u8) -> u32
-    ensures { λ r. ⌜ (r ≡ x) × (r < 256) ⌝ }
-{
-    x as u32
-}
-
-// The flag word of the record at a place of the input, high byte first.
-pub fn word_at(input: &[u8], p: usize) -> u32
-    requires { ⌜ p + 6 ≤ length (now input) ⌝ }
-    ensures { λ r. ⌜ r ≡ wordAt (now (input .entry)) p ⌝ }
-{
-    0x1000000 * wide(input[p + 2])
-        + 0x10000 * wide(input[p + 3])
-        + 0x100 * wide(input[p + 4])
-        + wide(input[p + 5])
 }

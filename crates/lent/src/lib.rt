@@ -177,7 +177,7 @@ pub extern "C" fn milchkompass_play(table: &[u8], s: &mut Session, calls: &[u8])
     ensures stores { λ _. ⌜ now (s .exit) ≡ playedStored (now (table .entry)) (now (s .entry)) (now (calls .entry)) .session ⌝ }
     ensures promise { λ _. ⌜ KeepsPromise3 (now (table .entry)) ⌝ }
 {
-    let reply = navigator::play(table, *s, calls);
+    let reply = navigator::play_record(table, *s, calls);
     *s = reply.session;
     reply.answer
 }

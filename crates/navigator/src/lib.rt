@@ -134,17 +134,15 @@ pub fn save(table: &[u8], s: Session, out: &mut [u8]) -> SaveReply
 
 // Plays the record at the start of the bytes, as the player reads it: six bytes. An unknown kind, or fewer bytes, is refused with
 // 9.
-pub fn play(table: &[u8], s: Session, calls: &[u8]) -> Reply
+pub fn play_record(table: &[u8], s: Session, calls: &[u8]) -> Reply
     ensures gives { λ r. ⌜ r ≡ playedStored (now (table .entry)) s (now (calls .entry)) ⌝ }
     ensures keeps { λ r. ⌜ KeepsSound (now (table .entry)) s (r .session) ⌝ }
     ensures promise { λ _. ⌜ KeepsPromise3 (now (table .entry)) ⌝ }
 {
-    if calls.len() < 6 {
+    if calls.len() == 0 {
         return calls::refuse(s, 9);
     }
-    let kind = calls[0];
-    let b = calls[1];
-    let word = flags::word_at(calls, 0);
+    let r = records::read(calls, 0);
     let number = shared_refusal(table, s);
-    calls::reply_to(table, s, kind, b, word, number)
+    calls::reply_to(table, s, r, number)
 }

@@ -1,101 +1,23 @@
 // Calls as records of six bytes, played from a session into lines of text.
 // The table is checked once and the session not at all: each record leaves it sound.
 
-ghost use Prim.Native.Nat.{_+_, _*_, _/_, _<_, _≤_, min};
+ghost use Prim.Native.Nat.{_+_, _*_, _/_, _≤_, min};
 ghost use mathlib.Core.Path.{_≡_};
-ghost use mathlib.Core.Bool.{true};
-ghost use lib.ListN.{length, take};
-ghost use Rattle.model.specs.declared.Rule.{Rule};
-ghost use Rattle.model.specs.Player.{isStart, requestOf, recordsIn, textOf, sessionAfter, longestLine};
+ghost use lib.ListN.{length};
+ghost use Rattle.model.specs.Player.{recordsIn, textOf, sessionAfter, longestLine};
 ghost use Rattle.model.specs.Explained.{longestExplained};
 ghost use Rattle.model.specs.Written.{written as writtenInto};
-ghost use Rattle.session.specs.Stored.{view, hold, Ready};
-ghost use Rattle.starts.specs.Steps.{ruleStored};
+ghost use Rattle.session.specs.Stored.{view, hold};
 ghost use Rattle.reasons.specs.StoredReasons.{reasonMade};
-ghost use Rattle.play.specs.Steps.{Playable, SoughtFor, PlannedFor, planFor};
-ghost use Rattle.play.specs.Fitting.{fitting, bytesTaken, fieldsAt};
+ghost use Rattle.play.specs.Steps.{Playable};
+ghost use Rattle.play.specs.Fitting.{fitting, bytesTaken};
 ghost use Rattle.play.specs.Manners.{inWords, recordSaid, said, longestSaid, talliedIn, Runs};
 use model::Answer;
-use model::Rule;
-use plans::Plan;
 use session::Session;
 use session::Task;
 use starts::Decided;
 use starts::Sought;
 use tally::Tally;
-
-// The fields of a record, and the kind of call that it asks for: 0, which is none, where it is cut.
-struct Fields {
-    kind: u8,
-    asked: u8,
-    screen: u8,
-    word: u32,
-}
-
-// Those of the record at a place, where the input ends behind it.
-fn fields_at(input: &[u8], p: usize) -> Fields
-    requires { ⌜ p < length (now input) ⌝ }
-    ensures { λ r. ⌜ r ≡ fieldsAt (now (input .entry)) p ⌝ }
-{
-    if input.len() - p < 6 {
-        return Fields {
-            kind: input[p],
-            asked: 0,
-            screen: 0,
-            word: 0,
-        };
-    }
-    let word = flags::word_at(input, p);
-    Fields {
-        kind: input[p],
-        asked: input[p],
-        screen: input[p + 1],
-        word: word,
-    }
-}
-
-// ---- the plan of a record
-
-// What a record seeks, under a table with the refusal `number`: only a start seeks a task.
-fn seek_for(table: &[u8], s: Session, r: Fields, number: u8) -> Sought
-    requires { ⌜ (number ≡ 0 → Ready (now table) s) ⌝ }
-    ensures { λ x. ⌜ SoughtFor (isStart (r .asked)) (now (table .entry)) s (r .screen) (r .word) number x ⌝ }
-{
-    if (r.asked == 2) | (r.asked == 3) {
-        return starts::seek(table, s, r.screen, r.word, number);
-    }
-    starts::none_sought(number)
-}
-
-// A plan that no rule made: R18 stands for none, as where a start is refused.
-fn without_rule(plan: Plan) -> Decided
-    ensures { λ d. ⌜ (d .plan ≡ plan) × (d .rule ≡ Rule.R18) ⌝ }
-{
-    Decided {
-        plan: plan,
-        rule: Rule::R18,
-    }
-}
-
-// What is decided of it; t is the task at the index that was sought.
-fn decide_for(table: &[u8], s: Session, t: Task, sought: Sought, r: Fields) -> Decided
-    requires { ⌜ PlannedFor (isStart (r .asked)) (now table) s (r .screen) (r .word) t sought ⌝ }
-    ensures plan { λ d. ⌜ d .plan ≡ planFor (sought .number) (now (table .entry)) s (requestOf (r .asked) (r .screen) (r .word)) ⌝ }
-    ensures rule { λ d. ⌜ (isStart (r .asked) ≡ true → d .rule ≡ ruleStored (sought .number) (now (table .entry)) s (r .screen) (r .word)) ⌝ }
-{
-    if (r.asked == 2) | (r.asked == 3) {
-        return starts::decide(table, s, t, sought, r.screen, r.word, r.asked == 3);
-    }
-    let kind = r.asked;
-    match kind {
-        1 => without_rule(calls::launch_plan(table, s, r.screen, sought.number)),
-        4 => without_rule(calls::back_plan(s, sought.number)),
-        5 => without_rule(plans::still(s, sought.number)),
-        _ => without_rule(plans::still(s, 9)),
-    }
-}
-
-// ---- records
 
 // What is said of each record: nothing, and its answer is tallied; the player's line; the reason too, under that of a start; or that
 // with its sentence.
@@ -193,17 +115,6 @@ pub struct Ran {
     pub written: usize,
 }
 
-// The place behind the record at a place: six bytes on, or where the input ends.
-fn next_place(input: &[u8], p: usize) -> usize
-    requires { ⌜ p < length (now input) ⌝ }
-    ensures { λ r. ⌜ r ≡ min (length (now (input .entry))) (p + 6) ⌝ }
-{
-    if input.len() - p <= 6 {
-        return input.len();
-    }
-    p + 6
-}
-
 // Plays the records in the input from a session, and says them at the start of `out`. A last record of fewer than six bytes is cut.
 // Each plan is put where the session stands: to pass the session to `plans::put` and back is to copy it twice.
 pub fn run(
@@ -224,12 +135,12 @@ pub fn run(
     let mut at: usize = 0;
     let mut p: usize = 0;
     while p < input.len() {
-        let r = fields_at(input, p);
-        p = next_place(input, p);
-        let sought = seek_for(table, s, r, number);
+        let r = records::read(input, p);
+        p = records::end_of(input, p);
+        let sought = calls::seek_for(table, s, r, number);
         let k = sought.index;
         let t = s.tasks[k];
-        let decided = decide_for(table, s, t, sought, r);
+        let decided = calls::decide_for(table, s, t, sought, r);
         let plan = decided.plan;
         let second = s.tasks[1];
         let answer = plans::answer_of(plan, second);

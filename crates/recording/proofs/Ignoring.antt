@@ -10,7 +10,7 @@ use lib.ListN.{length, getD, drop, length-drop, length-append}
 use lib.Seq.{drop-drop, getD-drop}
 use borrow.Author.Tests.{le-leb, lt-leb, lt-ltb, le-ltb}
 use Rattle.model.specs.Lists.{if_then_else_}
-use Rattle.flags.specs.Words.{wordAt}
+use Rattle.records.specs.Records.{wordAt}
 use Rattle.notes.specs.declared.Notes.{Notes}
 use Rattle.notes.specs.Places.{placeIf, Tells, notedAt}
 use Rattle.notes.proofs.Noting.{place-few, tells-noted}

@@ -9,7 +9,7 @@ use lib.Seq.{drop-drop, getD-drop}
 use borrow.Author.Tests.{le-leb, lt-leb}
 use Rattle.model.specs.Lists.{if_then_else_}
 use Rattle.model.specs.Calls.{Call}
-use Rattle.flags.specs.Words.{wordAt}
+use Rattle.records.specs.Records.{wordAt}
 use Rattle.recording.specs.CallBytes.{imageLength, callOf, firstImage, firstCall, firstWhole, firstCalls, callsIn}
 
 -- ---- the first record, and what is behind it

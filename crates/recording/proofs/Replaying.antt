@@ -21,7 +21,7 @@ use Rattle.session.specs.declared.Session.{Session}
 use Rattle.session.specs.Stored.{view, hold, Ready}
 use Rattle.session.proofs.Known.{Sized}
 use Rattle.session.proofs.StoredLaws.{held, view-hold, hold-sound, sound-blank, sound-view}
-use Rattle.flags.specs.Words.{wordAt}
+use Rattle.records.specs.Records.{wordAt}
 use Rattle.calls.specs.declared.Reply.{Reply}
 use Rattle.calls.specs.StoredCalls.{byProgram}
 use Rattle.calls.proofs.HistoryLaws.{call-held, after-held}

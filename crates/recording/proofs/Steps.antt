@@ -11,7 +11,7 @@ use Rattle.model.specs.Lists.{if_then_else_}
 use Rattle.model.specs.Answers.{refused}
 use Rattle.model.specs.Calls.{Call, restore}
 use Rattle.model.specs.Player.{Request, unplayable, asks, requestOf}
-use Rattle.flags.specs.Words.{wordAt}
+use Rattle.records.specs.Records.{wordAt}
 use Rattle.session.specs.declared.Session.{Session}
 use Rattle.calls.specs.declared.Reply.{Reply}
 use Rattle.calls.specs.StoredCalls.{reply, callStored, replyStored, KeepsSound}

@@ -10,26 +10,19 @@ use Rattle.model.specs.Calls.{Call, launch, start, finishingStart, back, look, 
 use Rattle.model.specs.Player.{requestOf, wordOf}
 use Rattle.model.specs.Histories.{IsByte, IsWord, Passable}
 use Rattle.model.proofs.ListLaws.{All-append}
+use Rattle.records.specs.Records.{bytesOfRecord}
 use Rattle.recording.specs.CallBytes.{restoreKind, imageLength, callOf, firstCalls, callsIn}
 use Rattle.recording.proofs.Reading.{calls-whole}
 
 -- ---- how a list is written
 
--- "flag word high byte first"
-abbrev pub wordBytes : ℕ → List ℕ
-wordBytes w = w / 0x1000000 ∷ w / 0x10000 % 0x100 ∷ w / 0x100 % 0x100 ∷ w % 0x100 ∷ []
-
--- "records of 6 bytes: kind .., screen, flag word"
-abbrev pub header : ℕ → ℕ → ℕ → List ℕ
-header kind b w = kind ∷ b ∷ wordBytes w
-
 unfoldable pub bytesOf : Call → List ℕ
-bytesOf (launch e) = header 1 e 0
-bytesOf (start b w) = header 2 b w
-bytesOf (finishingStart b w) = header 3 b w
-bytesOf back = header 4 0 0
-bytesOf look = header 5 0 0
-bytesOf (restore bytes) = header restoreKind 0 (length bytes) ++ bytes
+bytesOf (launch e) = bytesOfRecord 1 e 0
+bytesOf (start b w) = bytesOfRecord 2 b w
+bytesOf (finishingStart b w) = bytesOfRecord 3 b w
+bytesOf back = bytesOfRecord 4 0 0
+bytesOf look = bytesOfRecord 5 0 0
+bytesOf (restore bytes) = bytesOfRecord restoreKind 0 (length bytes) ++ bytes
 
 unfoldable pub writtenAs : List Call → List ℕ
 writtenAs [] = []
@@ -51,16 +44,16 @@ word-back w = omega arith
 
 -- a record and the image that follows it
 record-back : (k b w : ℕ) (image rest : List ℕ) → length image ≡ imageLength k w
-    → callsIn (header k b w ++ (image ++ rest)) ≡ callOf k b w image ++ callsIn rest
+    → callsIn (bytesOfRecord k b w ++ (image ++ rest)) ≡ callOf k b w image ++ callsIn rest
 record-back k b w image rest e =
     let p : imageLength k (wordOf (w / 0x1000000) (w / 0x10000 % 0x100) (w / 0x100 % 0x100) (w % 0x100)) ≡ length image =
     ap (imageLength k) (word-back w) ∙ sym e in
-    calls-whole (header k b w ++ (image ++ rest)) (omega (arith, p, length-append image rest))
+    calls-whole (bytesOfRecord k b w ++ (image ++ rest)) (omega (arith, p, length-append image rest))
     ∙ rw (
       p,
       word-back w,
       take-at image rest (length image) refl,
-      ← drop-drop (length image) 6 (header k b w ++ (image ++ rest)),
+      ← drop-drop (length image) 6 (bytesOfRecord k b w ++ (image ++ rest)),
       drop-at image rest (length image) refl,
     )
 
@@ -82,18 +75,18 @@ read-back (c ∷ cs) = call-back c (writtenAs cs) ∙ ap (λ (ds : List Call). c
 
 -- ---- bytes
 
-header-bytes : (k b w : ℕ) → IsByte k → IsByte b → IsWord w → All IsByte (header k b w)
-header-bytes k b w x y z = (x, (y, (omega arith, (omega arith, (omega arith, (omega arith, tt))))))
+record-bytes : (k b w : ℕ) → IsByte k → IsByte b → IsWord w → All IsByte (bytesOfRecord k b w)
+record-bytes k b w x y z = (x, (y, (omega arith, (omega arith, (omega arith, (omega arith, tt))))))
 
 call-bytes : (c : Call) → Passable c × Writable c → All IsByte (bytesOf c)
 unfolding bytesOf
-call-bytes (launch e) h = header-bytes 1 e 0 (omega arith) (h .0) (omega arith)
-call-bytes (start b w) h = header-bytes 2 b w (omega arith) (h .0 .0) (h .0 .1)
-call-bytes (finishingStart b w) h = header-bytes 3 b w (omega arith) (h .0 .0) (h .0 .1)
-call-bytes back h = header-bytes 4 0 0 (omega arith) (omega arith) (omega arith)
-call-bytes look h = header-bytes 5 0 0 (omega arith) (omega arith) (omega arith)
+call-bytes (launch e) h = record-bytes 1 e 0 (omega arith) (h .0) (omega arith)
+call-bytes (start b w) h = record-bytes 2 b w (omega arith) (h .0 .0) (h .0 .1)
+call-bytes (finishingStart b w) h = record-bytes 3 b w (omega arith) (h .0 .0) (h .0 .1)
+call-bytes back h = record-bytes 4 0 0 (omega arith) (omega arith) (omega arith)
+call-bytes look h = record-bytes 5 0 0 (omega arith) (omega arith) (omega arith)
 call-bytes (restore bytes) h =
-    All-append IsByte (header 6 0 (length bytes)) bytes (header-bytes 6 0 (length bytes) (omega arith) (omega arith) (h .1)) (h .0)
+    All-append IsByte (bytesOfRecord 6 0 (length bytes)) bytes (record-bytes 6 0 (length bytes) (omega arith) (omega arith) (h .1)) (h .0)
 
 pub written-bytes : (cs : List Call) → All (λ c. Passable c × Writable c) cs → All IsByte (writtenAs cs)
 unfolding writtenAs

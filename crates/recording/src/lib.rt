@@ -25,6 +25,7 @@ ghost use Rattle.recording.specs.Steps.{recordLength, callLength, called
 ghost use Rattle.recording.specs.Replay.{replayed, EveryList, EndAlike, TellsImages};
 use calls::Reply;
 use notes::Notes;
+use records::Record;
 use session::Session;
 
 // The length of the longest image: each task has a root, a height and its screens, and six bytes follow the last.
@@ -48,7 +49,13 @@ fn reply_to(table: &[u8], s: Session, kind: u8, b: u8, word: u32, image: &[u8]) 
     if kind == 6 {
         return image_calls::restore(table, s, image, 0);
     }
-    calls::reply_to(table, s, kind, b, word, 0)
+    let r = Record {
+        kind: kind,
+        asked: records::asked_by(kind),
+        screen: b,
+        word: word,
+    };
+    calls::reply_to(table, s, r, 0)
 }
 
 // ---- one call
@@ -70,7 +77,7 @@ pub fn call_length(calls: &[u8]) -> usize
     if calls.len() < 6 {
         return calls.len();
     }
-    let n = image_length(calls[0], flags::word_at(calls, 0));
+    let n = image_length(calls[0], records::word_at(calls, 0));
     if n > calls.len() - 6 {
         return calls.len();
     }
@@ -87,7 +94,7 @@ pub fn play_call(table: &[u8], s: Session, calls: &[u8]) -> Reply
     if calls.len() < 6 {
         return calls::refuse(s, 9);
     }
-    let n = image_length(calls[0], flags::word_at(calls, 0));
+    let n = image_length(calls[0], records::word_at(calls, 0));
     if n > calls.len() - 6 {
         return calls::refuse(s, 9);
     }
@@ -95,7 +102,7 @@ pub fn play_call(table: &[u8], s: Session, calls: &[u8]) -> Reply
     if calls[0] == 6 {
         return navigator::restore(table, s, &calls[6..end]);
     }
-    navigator::play(table, s, calls)
+    navigator::play_record(table, s, calls)
 }
 
 // How many screens the call of a record creates.
@@ -141,7 +148,7 @@ fn after_calls(table: &[u8], begun: Session, calls: &[u8]) -> Counted
     while calls.len() - p >= 6 {
         let kind = calls[p];
         let b = calls[p + 1];
-        let word = flags::word_at(calls, p);
+        let word = records::word_at(calls, p);
         let from = p + 6;
         let n = image_length(kind, word);
         if n > calls.len() - from {
@@ -296,7 +303,7 @@ pub fn ignored(input: &[u8], from: usize) -> Notes
     let mut p = from;
     while input.len() - p >= 6 {
         let kind = input[p];
-        let word = flags::word_at(input, p);
+        let word = records::word_at(input, p);
         let behind = p + 6;
         let n = image_length(kind, word);
         if n > input.len() - behind {

@@ -1,43 +1,64 @@
--- What a whole record gives, by its kind.
+-- `calls::reply_to` meets its contract: what the record seeks, its plan, and that is put.
+use mathlib.Core.Path.{_≡_, refl, sym, _∙_}
+use native.Mathlib.Omega.{arith}
 use borrow.Author.Needs.{needs}
-use Rattle.calls.proofs.Requests.{request-1, request-2, request-3, request-4, request-5, request-none}
+use Rattle.session.specs.Stored.{Ready}
+use Rattle.session.proofs.Known.{Sized, sized}
+use Rattle.records.specs.Records.{isStarting, requestFor}
+use Rattle.calls.specs.StoredCalls.{replyStored}
+use Rattle.calls.proofs.Settling.{shared-ready}
+use Rattle.calls.proofs.PlanSettling.{Gives}
+use Rattle.calls.proofs.RecordSettling.{sought-in, sought-for, plan-gives}
 use Rattle.calls.proofs.reply_to.Statement.{statement}
 use Rattle.calls.proofs.reply_to.Tie as tie
 
+sizes : (c : tie.Start) → Sized (c .args .s)
+sizes c = sized (c .args .s) _ (c .good .1 .0)
+
+ready : (c : tie.Start) → c .args .shared ≡ 0 → Ready (c .args .table .now) (c .args .s)
+ready c e = shared-ready (c .args .table .now) (c .args .s) (sym (c .pre) ∙ e)
+
+seek-for-requires : tie.Need-seek-for-requires
+seek-for-requires c κs = ready (c .before)
+
+element-copy-out-t : tie.Need-element-copy-out-t
+element-copy-out-t c =
+    let start = c .before .before in
+    let a = start .args in
+    let r = a .r in
+    sought-in (a .table .now) (a .s) (r .screen) (r .word) (a .shared) (c .seek-for .result) (sizes start) (isStarting (r .asked)) (c .seek-for .ensures)
+
+mul-t : tie.Need-mul-t
+mul-t c = let i = element-copy-out-t c in omega arith
+
+decide-for-requires : tie.Need-decide-for-requires
+decide-for-requires c κs =
+    let start = c .before .before .before in
+    let a = start .args in
+    let r = a .r in
+    let seek = c .before .seek-for in
+    sought-for (a .table .now) (a .s) (r .screen) (r .word) (a .shared) (seek .result) (ready start) (isStarting (r .asked)) (seek .ensures) refl
+
+gives : (c : tie.After-plan)
+    → let a = c .before .before .before .before .before .args in
+    Gives (a .s) (c .before .decide-for .result .plan) (replyStored (a .table .now) (a .s) (requestFor (a .r)))
+gives c =
+    let start = c .before .before .before .before .before in
+    let a = start .args in
+    let r = a .r in
+    let seek = c .before .before .before .seek-for in
+    rw (c .before .decide-for .ensures .0)
+    (plan-gives (a .table .now) (a .s) (sizes start) (a .shared) (start .pre) (r .asked) (r .screen) (r .word) (seek .result) (seek .ensures))
+
+answer-of-requires : tie.Need-answer-of-requires
+answer-of-requires c κs = gives (c .before) .showable
+
+put-requires : tie.Need-put-requires
+put-requires c κs = let h = gives (c .before .before) .puttable in record { few = h .few; second = h .second }
+
 returns : tie.Need-returns
-returns c = let a = c .before .before .before .args in rw (request-1 (a .kind) (a .b) (a .word) (c .before .match .keys1)) (c .launch .ensures)
-
-returns-2 : tie.Need-returns-2
-returns-2 c = let a = c .before .before .before .args in rw (request-2 (a .kind) (a .b) (a .word) (c .before .match .keys2)) (c .start .ensures)
-
-returns-3 : tie.Need-returns-3
-returns-3 c = let a = c .before .before .before .args in rw (request-3 (a .kind) (a .b) (a .word) (c .before .match .keys3)) (c .finish-start .ensures)
-
-returns-4 : tie.Need-returns-4
-returns-4 c = let a = c .before .before .before .args in rw (request-4 (a .kind) (a .b) (a .word) (c .before .match .keys4)) (c .back .ensures)
-
-returns-5 : tie.Need-returns-5
-returns-5 c = let a = c .before .before .before .args in rw (request-5 (a .kind) (a .b) (a .word) (c .before .match .keys5)) (c .look .ensures)
-
-returns-6 : tie.Need-returns-6
-returns-6 c =
-    let a = c .before .before .before .args in
-    let n = c .before .match .rest in
-    rw (request-none (a .kind) (a .b) (a .word) (n .0 .0 .0 .0 .1) (n .0 .0 .0 .1) (n .0 .0 .1) (n .0 .1) (n .1)) (c .refuse .ensures)
+returns c = rw (c .put .ensures, c .before .answer-of .ensures) (gives (c .before .before .before) .gives)
 
 pub reply-to-spec : {M : Type 1} → statement M
 reply-to-spec =
-    tie.close
-    (tie.spec
-    (λ c κs. search needs)
-    (λ c κs. search needs)
-    (λ c κs. search needs)
-    (λ c κs. search needs)
-    (λ c κs. search needs)
-    (λ c κs. search needs)
-    returns
-    returns-2
-    returns-3
-    returns-4
-    returns-5
-    returns-6)
+    tie.close (tie.spec seek-for-requires mul-t element-copy-out-t decide-for-requires (λ c. search needs) answer-of-requires put-requires returns)

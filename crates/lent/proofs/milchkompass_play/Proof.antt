@@ -5,9 +5,9 @@ use denote.Ref.{now}
 use denote.Triple.Spec.{tripleOf}
 use denote.Triple.Table.{entered, cited}
 use Rattle.navigator.specs.Records.{playedStored}
-use Rattle.navigator.proofs.play.Met as core-thm
-use Rattle.navigator.proofs.play.Symbol as core-def
-use Rattle.navigator.proofs.play.Symbol.{name as #core}
+use Rattle.navigator.proofs.play_record.Met as core-thm
+use Rattle.navigator.proofs.play_record.Symbol as core-def
+use Rattle.navigator.proofs.play_record.Symbol.{name as #core}
 use Rattle.lent.proofs.LendingFacts.{Keeps, promised, of-reply-and}
 use Rattle.lent.proofs.LendingWalk.{meets-equal}
 use Rattle.lent.proofs.LendingStructs.{on-session, a-slice}
@@ -25,4 +25,4 @@ milchkompass-play-spec 𝓤 H 𝓜 𝓖 𝓡 =
     (λ x r. Keeps 𝓤 (x .0 .0) (x .1) r) (outer.clauses 𝓤 H (𝓖 .A) (𝓜 .mem) (𝓡 .run))
     (λ κs a g r e z. of-reply-and 𝓤 e (promised 𝓤 (now (a .0))))
     (givenOf 𝓤 H 𝓜 𝓖) #core (tablesOf 𝓤 H 𝓜 (tables 𝓤 H 𝓜 𝓡 code.env))
-    (cited 𝓤 H _ 𝓜 𝓡 code.env #core core-def.routine code.calls-navigator·play (core-thm.met 𝓤 H 𝓜 𝓖 𝓡)))
+    (cited 𝓤 H _ 𝓜 𝓡 code.env #core core-def.routine code.calls-navigator·play-record (core-thm.met 𝓤 H 𝓜 𝓖 𝓡)))

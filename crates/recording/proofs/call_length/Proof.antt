@@ -4,7 +4,7 @@ use mathlib.Core.Path.{_≡_}
 use native.Mathlib.Omega.{arith}
 use lib.ListN.{length, getD}
 use borrow.Author.Needs.{needs}
-use Rattle.flags.specs.Words.{wordAt}
+use Rattle.records.specs.Records.{wordAt}
 use Rattle.recording.specs.CallBytes.{imageLength}
 use Rattle.recording.proofs.Steps.{few-cut, image-cut, image-whole, length-cut, length-whole}
 use Rattle.recording.proofs.call_length.Statement.{statement}

@@ -4,7 +4,7 @@ use mathlib.Core.Path.{_≡_}
 use native.Mathlib.Omega.{arith}
 use lib.ListN.{length, getD}
 use borrow.Author.Needs.{needs}
-use Rattle.flags.specs.Words.{wordAt}
+use Rattle.records.specs.Records.{wordAt}
 use Rattle.navigator.proofs.Promise3Laws.{promise3}
 use Rattle.calls.specs.declared.Reply.{Reply}
 use Rattle.recording.specs.CallBytes.{imageLength}
@@ -60,7 +60,7 @@ returns-4 c =
     let l = a .calls .now in
     let i = image here in
     let whole = image-whole l (i .0) _ (i .1) (omega (arith, left .if2 .left)) in
-    let e = called-other tb (a .s) l whole (c .before .if3 .left) (i .0) (c .play .ensures .0) in
+    let e = called-other tb (a .s) l whole (c .before .if3 .left) (i .0) (c .play-record .ensures .0) in
     (e, (called-keeps tb (a .s) l e, promise3 tb))
 
 pub play-call-spec : {M : Type 1} → statement M

@@ -1,9 +1,12 @@
 -- What the call of a record gives: a restore, or what the player's record does.
-use mathlib.Core.Path.{_≡_, sym, _∙_}
+use mathlib.Core.Path.{_≡_, sym, _∙_, ap}
 use borrow.Author.Needs.{needs}
 use borrow.Author.Tests.{ne-eqb}
 use Rattle.model.specs.Player.{requestOf}
-use Rattle.calls.specs.StoredCalls.{sharedRefusal}
+use Rattle.records.specs.declared.Asked.{Asked}
+use Rattle.records.specs.Records.{requestBy}
+use Rattle.records.proofs.Asking.{asked-request}
+use Rattle.calls.specs.StoredCalls.{sharedRefusal, replyStored}
 use Rattle.calls.proofs.Settling.{shared-passed}
 use Rattle.recording.specs.CallBytes.{callOf}
 use Rattle.recording.proofs.Steps.{asked-reply}
@@ -22,13 +25,15 @@ unfolding callOf
 returns c = rw (c .before .if1 .taken) (c .restore .ensures)
 
 reply-to-requires : tie.Need-reply-to-requires
-reply-to-requires c κs = passed (c .before .before .before)
+reply-to-requires c κs = passed (c .before .before .before .before)
 
 returns-2 : tie.Need-returns-2
 unfolding callOf
 returns-2 c =
-    let a = c .before .before .before .before .args in
-    rw (ne-eqb (a .kind) 6 (c .before .if1 .left)) (c .reply-to .ensures ∙ asked-reply (a .table .now) (a .s) (requestOf (a .kind) (a .b) (a .word)))
+    let a = c .before .before .before .before .before .args in
+    let request = ap (λ (x : Asked). requestBy x (a .b) (a .word)) (c .before .asked-by .ensures) ∙ asked-request (a .b) (a .word) (a .kind) in
+    rw (ne-eqb (a .kind) 6 (c .before .before .if1 .left))
+    (c .reply-to .ensures ∙ ap (replyStored (a .table .now) (a .s)) request ∙ asked-reply (a .table .now) (a .s) (requestOf (a .kind) (a .b) (a .word)))
 
 pub reply-to-spec : {M : Type 1} → statement M
-reply-to-spec = tie.close (tie.spec restore-requires returns reply-to-requires returns-2)
+reply-to-spec = tie.close (tie.spec restore-requires returns (λ c κs. search needs) reply-to-requires returns-2)
