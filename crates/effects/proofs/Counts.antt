@@ -16,13 +16,13 @@ use Rattle.session.specs.Stored.{view, viewTask, taskBehind, blankAbove, storag
 use Rattle.session.proofs.Known.{Sized, Screens32}
 use Rattle.session.proofs.StoredLaws.{view-at, sized-at, blank-few}
 use Rattle.effects.proofs.Carriable.{Carriable}
-use Rattle.effects.specs.Fronted.{placeIn, placeFor, closedWith, closedFor, shiftOf}
+use Rattle.effects.specs.Fronted.{placeIn, placeFor, closedInTask, closedFor, shiftOf}
 use Rattle.effects.proofs.Changes.{blank-low, blank-height, place-inside}
 use Rattle.effects.proofs.Fronts.{stored-blank, in-front, at-place}
 
 module _ (t : Task) (l : Screens32 t) (e : blankAbove t ≡ true) (b : ℕ) where
   -- of a change
-  closed-is : (c : Change) → closedWith c (t .height) (placeIn b c t) ≡ closedIn (eqb b) c (viewTask t .screens)
+  closed-is : (c : Change) → closedInTask c (t .height) (placeIn b c t) ≡ closedIn (eqb b) c (viewTask t .screens)
   unfolding closedIn
   closed-is Change.Keep = refl
   closed-is Change.Renew = sym (blank-height t l e)
@@ -31,7 +31,7 @@ module _ (t : Task) (l : Screens32 t) (e : blankAbove t ≡ true) (b : ℕ) wher
   closed-is Change.Push = refl
 
   -- at most all of them
-  closed-low : (c : Change) → closedWith c (t .height) (placeIn b c t) ≤ mostHeight
+  closed-low : (c : Change) → closedInTask c (t .height) (placeIn b c t) ≤ mostHeight
   closed-low Change.Keep = omega arith
   closed-low Change.Renew = blank-low t e
   closed-low Change.Clear =
@@ -48,12 +48,12 @@ module _ (s : Session) (z : Sized s) (p b : ℕ) where
     abbrev t : Task
     t = taskBehind s i
 
-    read : closedWith c (t .height) (placeIn b c t) ≡ closedIn (eqb b) c (getD (view s .tasks) i noStack .screens)
+    read : closedInTask c (t .height) (placeIn b c t) ≡ closedIn (eqb b) c (getD (view s .tasks) i noStack .screens)
     read =
         closed-is t (sized-at s z i (omega (arith, blank-few s e))) (stored-blank s z e i h) b c
         ∙ ap (λ (u : Stack ℕ). closedIn (eqb b) c (u .screens)) (sym (view-at s i h))
 
-    read-low : closedWith c (t .height) (placeIn b c t) ≤ mostHeight
+    read-low : closedInTask c (t .height) (placeIn b c t) ≤ mostHeight
     read-low = closed-low t (sized-at s z i (omega (arith, blank-few s e))) (stored-blank s z e i h) b c
 
   -- of an effect: the definition's number

@@ -28,12 +28,12 @@ abbrev pub clearedTask : ℕ → Task → Task
 clearedTask place t = holdTask (stack (t .root) (drop (pred place) (viewTask t .screens)))
 
 -- how many screens a change closes in a task of height h, where the topmost b is at the place
-abbrev pub closedWith : Change → ℕ → ℕ → ℕ
-closedWith Change.Keep h place = 0
-closedWith Change.Renew h place = h
-closedWith Change.Clear h place = pred place
-closedWith Change.Lift h place = 0
-closedWith Change.Push h place = 0
+abbrev pub closedInTask : Change → ℕ → ℕ → ℕ
+closedInTask Change.Keep h place = 0
+closedInTask Change.Renew h place = h
+closedInTask Change.Clear h place = pred place
+closedInTask Change.Lift h place = 0
+closedInTask Change.Push h place = 0
 
 -- the task that a renewal or a push puts b onto
 abbrev pub baseOf : Change → Task → Task
@@ -74,8 +74,8 @@ frontAfter b (Effect.MoveAnd c) t = changedTask b c t
 -- how many screens it closes in the task that it changes; a new task has none to close
 abbrev pub closedFor : Effect → ℕ → ℕ → ℕ
 closedFor Effect.New h place = 0
-closedFor (Effect.InFront c) h place = closedWith c h place
-closedFor (Effect.MoveAnd c) h place = closedWith c h place
+closedFor (Effect.InFront c) h place = closedInTask c h place
+closedFor (Effect.MoveAnd c) h place = closedInTask c h place
 
 abbrev pub countAfter : Effect → ℕ → ℕ
 countAfter Effect.New n = suc n

@@ -12,7 +12,7 @@ ghost use Rattle.model.specs.Effects.{mainMoved};
 ghost use Rattle.model.specs.Counts.{createdIn, createdBy};
 ghost use Rattle.session.specs.Stored.{holdTask, withScreens, blankAbove};
 ghost use Rattle.effects.specs.Carriable.{Placed, Alterable, Changeable};
-ghost use Rattle.effects.specs.Fronted.{placeIn, clearedTask, baseOf, changedTask, closedWith, shiftOf, changeOf, placeFor, rootAfter, frontAfter, closedFor, countAfter, mainAfter};
+ghost use Rattle.effects.specs.Fronted.{placeIn, clearedTask, baseOf, changedTask, closedInTask, shiftOf, changeOf, placeFor, rootAfter, frontAfter, closedFor, countAfter, mainAfter};
 ghost use Rattle.effects.specs.Rows.{closedUp, lowest};
 use model::Change;
 use model::Effect;
@@ -151,7 +151,7 @@ fn changed(t: Task, b: u8, change: Change, place: u8) -> Task
 
 // How many screens a change closes in a task of this height: all of an emptied one, those above the place of the topmost b.
 fn closed_in(change: Change, height: u8, place: u8) -> u8
-    ensures { λ r. ⌜ r ≡ closedWith change height place ⌝ }
+    ensures { λ r. ⌜ r ≡ closedInTask change height place ⌝ }
 {
     match change {
         Change::Renew => height,

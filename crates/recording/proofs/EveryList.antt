@@ -20,7 +20,7 @@ use Rattle.model.specs.Histories.{after, answers, IsByte, wordCount, IsWord, Pa
 use Rattle.model.proofs.Logic.{and-decides, leb-decides, eqb-decides, self-decides, refuted, if-elim, All-at, All-map}
 use Rattle.model.proofs.ListLaws.{All-drop, All-to-map}
 use Rattle.recording.specs.CallBytes.{callsIn}
-use Rattle.recording.proofs.Writing.{writtenAs, Writable, read-back, written-bytes}
+use Rattle.recording.proofs.Writing.{writtenAs, ImageFits, read-back, written-bytes}
 
 -- ---- images that are too long
 
@@ -67,13 +67,13 @@ shortened back = back
 shortened look = look
 shortened (restore bytes) = restore (if ltb (length bytes) wordCount then bytes else [])
 
-shortened-writable : (c : Call) → Passable c → Passable (shortened c) × Writable (shortened c)
-shortened-writable (launch e) h = (h, tt)
-shortened-writable (start b w) h = (h, tt)
-shortened-writable (finishingStart b w) h = (h, tt)
-shortened-writable back h = (tt, tt)
-shortened-writable look h = (tt, tt)
-shortened-writable (restore bytes) h =
+shortened-fits : (c : Call) → Passable c → Passable (shortened c) × ImageFits (shortened c)
+shortened-fits (launch e) h = (h, tt)
+shortened-fits (start b w) h = (h, tt)
+shortened-fits (finishingStart b w) h = (h, tt)
+shortened-fits back h = (tt, tt)
+shortened-fits look h = (tt, tt)
+shortened-fits (restore bytes) h =
     if-elim (λ l. All IsByte l × IsWord (length l)) (ltb (length bytes) wordCount) bytes []
     (λ e. (h, ltb-true (length bytes) wordCount e)) (λ e. (tt, omega arith))
 
@@ -106,6 +106,6 @@ pub every-list : (cs : List Call) → All Passable cs → (bytes : List ℕ) × 
 every-list cs h =
     let ds = map shortened cs in (
       writtenAs ds,
-      written-bytes ds (All-to-map shortened (λ c. Passable c × Writable c) cs (All-map shortened-writable cs h)),
+      written-bytes ds (All-to-map shortened (λ c. Passable c × ImageFits c) cs (All-map shortened-fits cs h)),
       rw (read-back ds) (shortened-list cs h),
     )

@@ -29,13 +29,13 @@ writtenAs [] = []
 writtenAs (c ∷ cs) = bytesOf c ++ writtenAs cs
 
 -- an image whose length is a word
-abbrev pub Writable : Call → Type 0
-Writable (launch e) = Unit {0}
-Writable (start b w) = Unit {0}
-Writable (finishingStart b w) = Unit {0}
-Writable back = Unit {0}
-Writable look = Unit {0}
-Writable (restore bytes) = IsWord (length bytes)
+abbrev pub ImageFits : Call → Type 0
+ImageFits (launch e) = Unit {0}
+ImageFits (start b w) = Unit {0}
+ImageFits (finishingStart b w) = Unit {0}
+ImageFits back = Unit {0}
+ImageFits look = Unit {0}
+ImageFits (restore bytes) = IsWord (length bytes)
 
 -- ---- and read back
 
@@ -78,7 +78,7 @@ read-back (c ∷ cs) = call-back c (writtenAs cs) ∙ ap (λ (ds : List Call). c
 record-bytes : (k b w : ℕ) → IsByte k → IsByte b → IsWord w → All IsByte (bytesOfRecord k b w)
 record-bytes k b w x y z = (x, (y, (omega arith, (omega arith, (omega arith, (omega arith, tt))))))
 
-call-bytes : (c : Call) → Passable c × Writable c → All IsByte (bytesOf c)
+call-bytes : (c : Call) → Passable c × ImageFits c → All IsByte (bytesOf c)
 unfolding bytesOf
 call-bytes (launch e) h = record-bytes 1 e 0 (omega arith) (h .0) (omega arith)
 call-bytes (start b w) h = record-bytes 2 b w (omega arith) (h .0 .0) (h .0 .1)
@@ -88,7 +88,7 @@ call-bytes look h = record-bytes 5 0 0 (omega arith) (omega arith) (omega arith)
 call-bytes (restore bytes) h =
     All-append IsByte (bytesOfRecord 6 0 (length bytes)) bytes (record-bytes 6 0 (length bytes) (omega arith) (omega arith) (h .1)) (h .0)
 
-pub written-bytes : (cs : List Call) → All (λ c. Passable c × Writable c) cs → All IsByte (writtenAs cs)
+pub written-bytes : (cs : List Call) → All (λ c. Passable c × ImageFits c) cs → All IsByte (writtenAs cs)
 unfolding writtenAs
 written-bytes [] h = tt
 written-bytes (c ∷ cs) h = All-append IsByte (bytesOf c) (writtenAs cs) (call-bytes c (h .0)) (written-bytes cs (h .1))
