@@ -52,11 +52,11 @@ pub fn look_at(s: Session) -> Answer
 }
 
 // The answer of a refused call: its number and zeros.
-pub fn refused(number: u8) -> Answer
-    ensures { λ r. ⌜ r ≡ refusedAnswer number ⌝ }
+pub fn refused(refusal: u8) -> Answer
+    ensures { λ r. ⌜ r ≡ refusedAnswer refusal ⌝ }
 {
     Answer {
-        refusal: number,
+        refusal: refusal,
         screen: 0,
         root: 0,
         height: 0,

@@ -259,7 +259,7 @@ module _ (tb : List ℕ) (c : Session) (z : Sized c) (b w : ℕ) (fin : Bool) wh
       go zero q room =
           let s : Startable tb c b = entered-startable tb c b w 0 h q in
           let ok : Plannable tb c b (flagsOf w) _ (chosenStored tb c b (flagsOf w)) =
-          record { chosen = record { number = refl; rule = refl; effect = refl; place = refl; index = refl }; task = refl; room = room } in
+          record { chosen = record { refusal = refl; rule = refl; effect = refl; place = refl; index = refl }; task = refl; room = room } in
           record {
             accepted = start-accepts z s ok fin;
             puttable = start-puttable z s ok fin;

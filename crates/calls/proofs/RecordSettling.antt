@@ -31,7 +31,7 @@ module _ (tb : List ℕ) (c : Session) (b w k : ℕ) (x : Sought) where
   pub sought-for : (k ≡ 0 → Ready tb c) → (starts : Bool) → SoughtFor starts tb c b w k x → {t : Task} → t ≡ taskBehind c (x .index)
       → PlannedFor starts tb c b w t x
   sought-for h true s task = (λ e. s .seeks e .0 .ready, sought-planned tb c b w k s task)
-  sought-for h false s task = (λ e. h (sym (ap (λ (y : Sought). y .number) s) ∙ e), tt)
+  sought-for h false s task = (λ e. h (sym (ap (λ (y : Sought). y .refusal) s) ∙ e), tt)
 
 -- ---- the plan
 
@@ -48,10 +48,10 @@ start-plan-by Asked.Nothing e k tb c b w = never (sym e)
 -- k is the refusal of the checks that all calls share
 module _ (tb : List ℕ) (c : Session) (z : Sized c) (k : ℕ) (shared : k ≡ sharedRefusal tb c) where
   pub plan-gives : (a : Asked) (b w : ℕ) (x : Sought) → SoughtFor (isStarting a) tb c b w k x
-      → Gives c (planBy a (x .number) tb c b w) (replyStored tb c (requestBy a b w))
-  plan-gives Asked.Launch b w x s = launch-gives tb c z b (x .number) (ap (λ (y : Sought). y .number) s ∙ shared)
-  plan-gives Asked.Start b w x s = start-gives tb c z b w false k shared (s .number)
-  plan-gives Asked.FinishingStart b w x s = start-gives tb c z b w true k shared (s .number)
-  plan-gives Asked.Back b w x s = back-gives tb c z (x .number) (ap (λ (y : Sought). y .number) s ∙ shared)
-  plan-gives Asked.Look b w x s = look-gives tb c z (x .number) (ap (λ (y : Sought). y .number) s ∙ shared)
+      → Gives c (planBy a (x .refusal) tb c b w) (replyStored tb c (requestBy a b w))
+  plan-gives Asked.Launch b w x s = launch-gives tb c z b (x .refusal) (ap (λ (y : Sought). y .refusal) s ∙ shared)
+  plan-gives Asked.Start b w x s = start-gives tb c z b w false k shared (s .refusal)
+  plan-gives Asked.FinishingStart b w x s = start-gives tb c z b w true k shared (s .refusal)
+  plan-gives Asked.Back b w x s = back-gives tb c z (x .refusal) (ap (λ (y : Sought). y .refusal) s ∙ shared)
+  plan-gives Asked.Look b w x s = look-gives tb c z (x .refusal) (ap (λ (y : Sought). y .refusal) s ∙ shared)
   plan-gives Asked.Nothing b w x s = still-gives c z 8

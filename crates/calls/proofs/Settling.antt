@@ -169,7 +169,7 @@ module _ (tb : List ℕ) (c : Session) where
   unfolding ownChecks refusal
   launch-own e none = rw none (go (isEdition (editionNamed e)))
     where
-      go : (b : Bool) → (if not b then check 30 (not b) else accepted) .number ≡ (if b then 0 else 30)
+      go : (b : Bool) → (if not b then check 30 (not b) else accepted) .refusal ≡ (if b then 0 else 30)
       go true = refl
       go false = refl
 

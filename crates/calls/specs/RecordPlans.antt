@@ -22,8 +22,8 @@ SoughtFor false tb c b w k x = x ≡ noneSought k
 
 -- what planning relies on: where nothing refused so far, the session is sound; for a start t is the task that it sought
 abbrev pub PlannedFor : Bool → List ℕ → Session → ℕ → ℕ → Task → Sought → Type 0
-PlannedFor true tb c b w t x = (x .number ≡ 0 → Ready tb c) × Planned tb c b w t x
-PlannedFor false tb c b w t x = (x .number ≡ 0 → Ready tb c) × Unit {0}
+PlannedFor true tb c b w t x = (x .refusal ≡ 0 → Ready tb c) × Planned tb c b w t x
+PlannedFor false tb c b w t x = (x .refusal ≡ 0 → Ready tb c) × Unit {0}
 
 -- the plan of what a record asks for, by the refusal k so far
 abbrev pub planBy : Asked → ℕ → List ℕ → Session → ℕ → ℕ → Plan

@@ -35,12 +35,12 @@ pub struct Reply {
 }
 
 // A refused call: the session as it was.
-pub fn refuse(s: Session, number: u8) -> Reply
-    ensures { λ r. ⌜ r ≡ reply s (refusedAnswer number) ⌝ }
+pub fn refuse(s: Session, refusal: u8) -> Reply
+    ensures { λ r. ⌜ r ≡ reply s (refusedAnswer refusal) ⌝ }
 {
     Reply {
         session: s,
-        answer: answer::refused(number),
+        answer: answer::refused(refusal),
     }
 }
 
@@ -108,9 +108,9 @@ pub fn launch_plan(table: &[u8], s: Session, edition: u8, shared: u8) -> Plan
     requires { ⌜ (shared ≡ 0 → tableRefusal (now table) ≡ 0) ⌝ }
     ensures { λ r. ⌜ r ≡ launchPlan shared (now (table .entry)) s edition ⌝ }
 {
-    let number = first_refusal(shared, launch_refusal(s.n, edition));
-    if number != 0 {
-        return plans::still(s, number);
+    let refusal = first_refusal(shared, launch_refusal(s.n, edition));
+    if refusal != 0 {
+        return plans::still(s, refusal);
     }
     let b = table::main_screen(table);
     let blank = s.tasks[0];
@@ -123,9 +123,9 @@ pub fn back_plan(s: Session, shared: u8) -> Plan
     requires { ⌜ (shared ≡ 0 → 1 ≤ s .n → Opens backMark (taskBehind s 0)) ⌝ }
     ensures { λ r. ⌜ r ≡ backPlan shared s ⌝ }
 {
-    let number = first_refusal(shared, back_refusal(s.n));
-    if number != 0 {
-        return plans::still(s, number);
+    let refusal = first_refusal(shared, back_refusal(s.n));
+    if refusal != 0 {
+        return plans::still(s, refusal);
     }
     let front = s.tasks[0];
     plans::closing_plan(Mark::Stands(0, 0), front, 0, 0, s.n, s.main, s.edition, 0)
@@ -218,14 +218,14 @@ pub fn finish_start(table: &[u8], s: Session, b: u8, word: u32, shared: u8) -> R
 // ---- records
 
 // What a record seeks, by the refusal so far: only a start seeks a task.
-pub fn seek_for(table: &[u8], s: Session, r: Record, number: u8) -> Sought
-    requires { ⌜ (number ≡ 0 → Ready (now table) s) ⌝ }
-    ensures { λ x. ⌜ SoughtFor (isStarting (r .asked)) (now (table .entry)) s (r .screen) (r .word) number x ⌝ }
+pub fn seek_for(table: &[u8], s: Session, r: Record, refusal: u8) -> Sought
+    requires { ⌜ (refusal ≡ 0 → Ready (now table) s) ⌝ }
+    ensures { λ x. ⌜ SoughtFor (isStarting (r .asked)) (now (table .entry)) s (r .screen) (r .word) refusal x ⌝ }
 {
     let asked = r.asked;
     match asked {
-        Asked::Start | Asked::FinishingStart => starts::seek(table, s, r.screen, r.word, number),
-        Asked::Launch | Asked::Back | Asked::Look | Asked::Nothing => starts::none_sought(number),
+        Asked::Start | Asked::FinishingStart => starts::seek(table, s, r.screen, r.word, refusal),
+        Asked::Launch | Asked::Back | Asked::Look | Asked::Nothing => starts::none_sought(refusal),
     }
 }
 
@@ -242,18 +242,18 @@ fn without_rule(plan: Plan) -> Decided
 // What is decided of it; t is the task at the index that was sought.
 pub fn decide_for(table: &[u8], s: Session, t: Task, sought: Sought, r: Record) -> Decided
     requires { ⌜ PlannedFor (isStarting (r .asked)) (now table) s (r .screen) (r .word) t sought ⌝ }
-    ensures plan { λ d. ⌜ d .plan ≡ planFor (sought .number) (now (table .entry)) s r ⌝ }
-    ensures rule { λ d. ⌜ d .rule ≡ ruleFor (isStarting (r .asked)) (sought .number) (now (table .entry)) s (r .screen) (r .word) ⌝ }
+    ensures plan { λ d. ⌜ d .plan ≡ planFor (sought .refusal) (now (table .entry)) s r ⌝ }
+    ensures rule { λ d. ⌜ d .rule ≡ ruleFor (isStarting (r .asked)) (sought .refusal) (now (table .entry)) s (r .screen) (r .word) ⌝ }
 {
     let asked = r.asked;
     match asked {
-        Asked::Launch => without_rule(launch_plan(table, s, r.screen, sought.number)),
+        Asked::Launch => without_rule(launch_plan(table, s, r.screen, sought.refusal)),
         Asked::Start | Asked::FinishingStart => {
             let finishing = records::is_finishing(asked);
             starts::decide(table, s, t, sought, r.screen, r.word, finishing)
         }
-        Asked::Back => without_rule(back_plan(s, sought.number)),
-        Asked::Look => without_rule(plans::still(s, sought.number)),
+        Asked::Back => without_rule(back_plan(s, sought.refusal)),
+        Asked::Look => without_rule(plans::still(s, sought.refusal)),
         Asked::Nothing => without_rule(plans::still(s, 9)),
     }
 }

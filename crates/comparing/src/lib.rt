@@ -92,10 +92,10 @@ fn read_recording(path: &[u8], buffer: &mut [u8]) -> Loaded
         return unread();
     }
     let long = recording.long;
-    let number = endings::table_refusal(&buffer[..long]);
-    if number != 0 {
+    let refusal = endings::table_refusal(&buffer[..long]);
+    if refusal != 0 {
         complain(path, b": table refused: ");
-        io::print_decimal(STDERR_FILENO, number as u64);
+        io::print_decimal(STDERR_FILENO, refusal as u64);
         io::write_all(STDERR_FILENO, b"\n");
         return unread();
     }

@@ -98,7 +98,7 @@ fn write_number(out: &mut [u8], at: usize, x: u16) -> usize
         out[at] = last;
         return at + 1;
     }
-    line::put(out, at, (x / 10) as u8, last)
+    line::write_decimal(out, at, (x / 10) as u8, last)
 }
 
 // The kind of the last of a look and so many Backs.

@@ -15,12 +15,12 @@ use model::Answer;
 use session::Session;
 
 // The answer of a call that left this session: refused by this number, or by 0 accepted.
-fn told(number: u8, s: Session) -> Answer
-    requires { ⌜ (number ≡ 0 → Seen s) ⌝ }
-    ensures { λ r. ⌜ r ≡ answerBy number (lookAt (view s)) ⌝ }
+fn told(refusal: u8, s: Session) -> Answer
+    requires { ⌜ (refusal ≡ 0 → Seen s) ⌝ }
+    ensures { λ r. ⌜ r ≡ answerBy refusal (lookAt (view s)) ⌝ }
 {
-    if number != 0 {
-        return answer::refused(number);
+    if refusal != 0 {
+        return answer::refused(refusal);
     }
     answer::look_at(s)
 }
@@ -45,21 +45,21 @@ pub fn restore(table: &[u8], s: Session, image: &[u8], shared: u8) -> Reply
     ensures { λ r. ⌜ r ≡ callStored (now (table .entry)) s (Call.restore (now (image .entry))) ⌝ }
 {
     let mut out = s;
-    let mut number = shared;
-    if number == 0 {
-        number = 5;
+    let mut refusal = shared;
+    if refusal == 0 {
+        refusal = 5;
         if image::shaped(image) {
             let read = image::read(image);
             let restored = read.session;
-            number = image_refusal(table, read.readable, restored);
-            if number == 0 {
+            refusal = image_refusal(table, read.readable, restored);
+            if refusal == 0 {
                 out = restored;
             }
         }
     }
     Reply {
         session: out,
-        answer: told(number, out),
+        answer: told(refusal, out),
     }
 }
 
@@ -71,11 +71,11 @@ pub struct SaveReply {
 }
 
 // A refused save: its number and length 0.
-pub fn refuse_save(number: u8) -> SaveReply
-    ensures { λ r. ⌜ r ≡ record { refusal = number; length = 0 } ⌝ }
+pub fn refuse_save(refusal: u8) -> SaveReply
+    ensures { λ r. ⌜ r ≡ record { refusal = refusal; length = 0 } ⌝ }
 {
     SaveReply {
-        refusal: number,
+        refusal: refusal,
         length: 0,
     }
 }

@@ -19,7 +19,7 @@ pub fn write_text(out: &mut [u8], at: usize, text: &[u8]) -> usize
 }
 
 // Writes a number in base ten, and then the byte `end`. Yields the place after it. Most numbers have one digit.
-pub fn put(out: &mut [u8], at: usize, x: u8, end: u8) -> usize
+pub fn write_decimal(out: &mut [u8], at: usize, x: u8, end: u8) -> usize
     requires { ⌜ at + 4 ≤ length (now out) ⌝ }
     ensures place { λ r. ⌜ r ≡ at + length (decimal x ++ end ∷ []) ⌝ }
     ensures text { λ r. ⌜ now (out .exit) ≡ written (now (out .entry)) at (decimal x ++ end ∷ []) ⌝ }
@@ -50,10 +50,10 @@ fn write_four(out: &mut [u8], at: usize, a: u8, b: u8, c: u8, d: u8) -> usize
     ensures text { λ r. ⌜ now (out .exit) ≡ written (now (out .entry)) at (spaced (a ∷ b ∷ c ∷ d ∷ [])) ⌝ }
     ensures bound { λ r. ⌜ r ≤ at + 16 ⌝ }
 {
-    let second = put(out, at, a, b' ');
-    let third = put(out, second, b, b' ');
-    let fourth = put(out, third, c, b' ');
-    put(out, fourth, d, b' ')
+    let second = write_decimal(out, at, a, b' ');
+    let third = write_decimal(out, second, b, b' ');
+    let fourth = write_decimal(out, third, c, b' ');
+    write_decimal(out, fourth, d, b' ')
 }
 
 // The longest line: the kind and the numbers of an answer, each of at most three digits and what ends it.
@@ -68,6 +68,6 @@ pub fn write_line(out: &mut [u8], at: usize, kind: u8, a: Answer) -> usize
 {
     let height = write_four(out, at, kind, a.refusal, a.screen, a.root);
     let edition = write_four(out, height, a.height, a.tasks, a.main, a.closed);
-    let no_history = put(out, edition, a.edition, b' ');
-    put(out, no_history, a.no_history, b'\n')
+    let no_history = write_decimal(out, edition, a.edition, b' ');
+    write_decimal(out, no_history, a.no_history, b'\n')
 }

@@ -18,11 +18,11 @@ refusal-skip k false cs e = (refl, e)
 
 pub refusal-applies : (k : ℕ) (b : Bool) (cs : List Check) → b ≡ true → refusal (check k b ∷ cs) ≡ k
 unfolding refusal
-refusal-applies k b cs e = ap (λ (x : Bool). (if x then check k b else first accepted (λ c. c .applies) cs) .number) e
+refusal-applies k b cs e = ap (λ (x : Bool). (if x then check k b else first accepted (λ c. c .applies) cs) .refusal) e
 
 pub refusal-passes : (k : ℕ) (b : Bool) (cs : List Check) → b ≡ false → refusal (check k b ∷ cs) ≡ refusal cs
 unfolding refusal
-refusal-passes k b cs e = ap (λ (x : Bool). (if x then check k b else first accepted (λ c. c .applies) cs) .number) e
+refusal-passes k b cs e = ap (λ (x : Bool). (if x then check k b else first accepted (λ c. c .applies) cs) .refusal) e
 
 -- ---- two lists of checks
 
@@ -33,18 +33,18 @@ refusal-append-refused k [] ys e = absurd (omega arith)
 refusal-append-refused k (x ∷ xs) ys e = go (x .applies) (refusal-append-refused k xs ys) e
   where
     go : (b : Bool) → (refusal xs ≡ suc k → refusal (xs ++ ys) ≡ suc k)
-        → refusal (check (x .number) b ∷ xs) ≡ suc k → refusal (check (x .number) b ∷ xs ++ ys) ≡ suc k
+        → refusal (check (x .refusal) b ∷ xs) ≡ suc k → refusal (check (x .refusal) b ∷ xs ++ ys) ≡ suc k
     go true ih e = e
     go false ih e = ih e
 
 -- the first list does not refuse, and none of its checks has the number 0
-pub refusal-append-passed : (xs ys : List Check) → All (λ c. 1 ≤ c .number) xs → refusal xs ≡ 0 → refusal (xs ++ ys) ≡ refusal ys
+pub refusal-append-passed : (xs ys : List Check) → All (λ c. 1 ≤ c .refusal) xs → refusal xs ≡ 0 → refusal (xs ++ ys) ≡ refusal ys
 unfolding refusal
 refusal-append-passed [] ys h e = refl
 refusal-append-passed (x ∷ xs) ys h e = go (x .applies) (refusal-append-passed xs ys (h .1)) e
   where
     go : (b : Bool) → (refusal xs ≡ 0 → refusal (xs ++ ys) ≡ refusal ys)
-        → refusal (check (x .number) b ∷ xs) ≡ 0 → refusal (check (x .number) b ∷ xs ++ ys) ≡ refusal ys
+        → refusal (check (x .refusal) b ∷ xs) ≡ 0 → refusal (check (x .refusal) b ∷ xs ++ ys) ≡ refusal ys
     go true ih e = absurd (omega (arith, h .0, e))
     go false ih e = ih e
 

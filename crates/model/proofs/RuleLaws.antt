@@ -92,23 +92,23 @@ Passes c = c .applies ≡ false
 -- what a list of checks gives: 0 where all let pass, and else the number of the first that applies
 pub data Refused (cs : List Check) : ℕ → Type 0 where
   passed : All Passes cs → Refused cs 0
-  refusedBy : (c : Check) → FirstFit (λ x. x .applies) cs c → Refused cs (c .number)
+  refusedBy : (c : Check) → FirstFit (λ x. x .applies) cs c → Refused cs (c .refusal)
 
 -- `refusal` gives exactly that
 pub refusal-first : (cs : List Check) (k : ℕ) → (refusal cs ≡ k) ↔ Refused cs k
 unfolding refusal
 refusal-first cs k = (λ e. rw e at (given (first accepted (λ c. c .applies) cs) (first-first accepted (λ c. c .applies) cs)), is k)
   where
-    given : (c : Check) → First accepted (λ x. x .applies) cs c → Refused cs (c .number)
+    given : (c : Check) → First accepted (λ x. x .applies) cs c → Refused cs (c .refusal)
     given c (noneFits h) = passed h
     given c (firstFits f) = refusedBy c f
 
-    is : (n : ℕ) → Refused cs n → first accepted (λ c. c .applies) cs .number ≡ n
-    is n (passed h) = ap (λ (c : Check). c .number) (first-exact accepted (λ c. c .applies) cs accepted .1 (noneFits h))
-    is n (refusedBy c f) = ap (λ (x : Check). x .number) (first-exact accepted (λ c. c .applies) cs c .1 (firstFits f))
+    is : (n : ℕ) → Refused cs n → first accepted (λ c. c .applies) cs .refusal ≡ n
+    is n (passed h) = ap (λ (c : Check). c .refusal) (first-exact accepted (λ c. c .applies) cs accepted .1 (noneFits h))
+    is n (refusedBy c f) = ap (λ (x : Check). x .refusal) (first-exact accepted (λ c. c .applies) cs c .1 (firstFits f))
 
 abbrev pub checkNumbers : List Check → List ℕ
-checkNumbers cs = map (λ c. c .number) cs
+checkNumbers cs = map (λ c. c .refusal) cs
 
 -- no two checks of the list have the same number, and none has 0
 abbrev pub numbersDiffer : List Check → Bool
@@ -125,39 +125,39 @@ unfolding refusal
 not-given k [] z h = z
 not-given k (c ∷ cs) z h = go (c .applies) (not-given k cs z (h .1))
   where
-    go : (b : Bool) → (refusal cs ≡ k → ⊥) → (if b then c else first accepted (λ x. x .applies) cs) .number ≡ k → ⊥
+    go : (b : Bool) → (refusal cs ≡ k → ⊥) → (if b then c else first accepted (λ x. x .applies) cs) .refusal ≡ k → ⊥
     go true n e = h .0 (sym e)
     go false n e = n e
 
 number-differs : (k : ℕ) (before : List Check) (c : Check) (behind : List Check)
-    → All (Differ k) (checkNumbers (before ++ c ∷ behind)) → Differ k (c .number)
+    → All (Differ k) (checkNumbers (before ++ c ∷ behind)) → Differ k (c .refusal)
 number-differs k [] c behind h = h .0
 number-differs k (x ∷ xs) c behind h = number-differs k xs c behind (h .1)
 
 given-at : (before : List Check) (c : Check) (behind : List Check) → Pairwise Differ (0 ∷ checkNumbers (before ++ c ∷ behind))
-    → refusal (before ++ c ∷ behind) ≡ c .number → All Passes before × (c .applies ≡ true)
+    → refusal (before ++ c ∷ behind) ≡ c .refusal → All Passes before × (c .applies ≡ true)
 unfolding refusal
 given-at [] c behind h = go (c .applies) refl
   where
-    go : (b : Bool) → c .applies ≡ b → (if b then c else first accepted (λ x. x .applies) behind) .number ≡ c .number
+    go : (b : Bool) → c .applies ≡ b → (if b then c else first accepted (λ x. x .applies) behind) .refusal ≡ c .refusal
         → Unit {0} × (c .applies ≡ true)
     go true e g = (tt, e)
-    go false e g = absurd (not-given (c .number) behind (h .0 .0) (h .1 .0) g)
+    go false e g = absurd (not-given (c .refusal) behind (h .0 .0) (h .1 .0) g)
 given-at (x ∷ xs) c behind h = go (given-at xs c behind (h .0 .1, h .1 .1)) (x .applies) refl
   where
-    go : (refusal (xs ++ c ∷ behind) ≡ c .number → All Passes xs × (c .applies ≡ true)) → (b : Bool) → x .applies ≡ b
-        → (if b then x else first accepted (λ y. y .applies) (xs ++ c ∷ behind)) .number ≡ c .number
+    go : (refusal (xs ++ c ∷ behind) ≡ c .refusal → All Passes xs × (c .applies ≡ true)) → (b : Bool) → x .applies ≡ b
+        → (if b then x else first accepted (λ y. y .applies) (xs ++ c ∷ behind)) .refusal ≡ c .refusal
         → (Passes x × All Passes xs) × (c .applies ≡ true)
-    go ih true e g = absurd (number-differs (x .number) xs c behind (h .1 .0) g)
+    go ih true e g = absurd (number-differs (x .refusal) xs c behind (h .1 .0) g)
     go ih false e g = ((e, ih g .0), ih g .1)
 
 -- where the numbers differ, a check's number is given exactly where the checks before it let pass and it applies
 pub refusal-at : (before : List Check) (c : Check) (behind : List Check) → numbersDiffer (before ++ c ∷ behind) ≡ true
-    → (refusal (before ++ c ∷ behind) ≡ c .number) ↔ (All Passes before × (c .applies ≡ true))
+    → (refusal (before ++ c ∷ behind) ≡ c .refusal) ↔ (All Passes before × (c .applies ≡ true))
 refusal-at before c behind differ = (
   given-at before c behind (differ-holds (before ++ c ∷ behind) differ),
   λ h.
-      refusal-first (before ++ c ∷ behind) (c .number) .1
+      refusal-first (before ++ c ∷ behind) (c .refusal) .1
       (refusedBy c (record { before = before; behind = behind; stands = refl; fails = h .0; fits = h .1 })),
 )
 
@@ -210,7 +210,7 @@ module _ (tb : List ℕ) (s : State ℕ) where
 
   -- a call gets the number of one of its checks exactly where those before it let pass and it applies
   pub refusal-order : (c : Call) (before : List Check) (x : Check) (behind : List Check) → checksOf c ≡ before ++ x ∷ behind
-      → (refusalOf tb s c ≡ x .number) ↔ (All Passes before × (x .applies ≡ true))
+      → (refusalOf tb s c ≡ x .refusal) ↔ (All Passes before × (x .applies ≡ true))
   unfolding refusalOf
   refusal-order c before x behind e = rw e (refusal-at before x behind (sym (ap numbersDiffer e) ∙ checks-differ c))
 

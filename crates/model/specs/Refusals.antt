@@ -6,11 +6,11 @@ use Rattle.model.specs.Lists.{first}
 
 -- one check: its number, and whether its condition holds
 pub record Check : Type 0 where
-  pub number : ℕ
+  pub refusal : ℕ
   pub applies : Bool
 
 abbrev pub check : ℕ → Bool → Check
-check k b = record { number = k; applies = b }
+check k b = record { refusal = k; applies = b }
 
 -- "refusal (0 if none)"
 abbrev pub accepted : Check
@@ -18,4 +18,4 @@ accepted = check 0 true
 
 -- "The checks go in the order ..": the number of the first that applies
 unfoldable pub refusal : List Check → ℕ
-refusal cs = first accepted (λ c. c .applies) cs .number
+refusal cs = first accepted (λ c. c .applies) cs .refusal

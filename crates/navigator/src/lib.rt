@@ -25,9 +25,9 @@ use session::Session;
 fn shared_refusal(table: &[u8], s: Session) -> u8
     ensures { λ r. ⌜ r ≡ sharedRefusal (now (table .entry)) s ⌝ }
 {
-    let number = table::refusal(table);
-    if number != 0 {
-        return number;
+    let refusal = table::refusal(table);
+    if refusal != 0 {
+        return refusal;
     }
     if soundness::sound(table, s) {
         return 0;
@@ -42,8 +42,8 @@ pub fn look(table: &[u8], s: Session) -> Reply
     ensures keeps { λ r. ⌜ KeepsSound (now (table .entry)) s (r .session) ⌝ }
     ensures promise { λ _. ⌜ KeepsPromise3 (now (table .entry)) ⌝ }
 {
-    let number = shared_refusal(table, s);
-    calls::look(table, s, number)
+    let refusal = shared_refusal(table, s);
+    calls::look(table, s, refusal)
 }
 
 // Launch, on an empty session.
@@ -52,8 +52,8 @@ pub fn launch(table: &[u8], s: Session, edition: u8) -> Reply
     ensures keeps { λ r. ⌜ KeepsSound (now (table .entry)) s (r .session) ⌝ }
     ensures promise { λ _. ⌜ KeepsPromise3 (now (table .entry)) ⌝ }
 {
-    let number = shared_refusal(table, s);
-    calls::launch(table, s, edition, number)
+    let refusal = shared_refusal(table, s);
+    calls::launch(table, s, edition, refusal)
 }
 
 // Start of b with a flag word.
@@ -62,8 +62,8 @@ pub fn start(table: &[u8], s: Session, b: u8, word: u32) -> Reply
     ensures keeps { λ r. ⌜ KeepsSound (now (table .entry)) s (r .session) ⌝ }
     ensures promise { λ _. ⌜ KeepsPromise3 (now (table .entry)) ⌝ }
 {
-    let number = shared_refusal(table, s);
-    calls::start(table, s, b, word, number)
+    let refusal = shared_refusal(table, s);
+    calls::start(table, s, b, word, refusal)
 }
 
 // Finishing start of b with a flag word: the caller closes itself.
@@ -72,8 +72,8 @@ pub fn finish_start(table: &[u8], s: Session, b: u8, word: u32) -> Reply
     ensures keeps { λ r. ⌜ KeepsSound (now (table .entry)) s (r .session) ⌝ }
     ensures promise { λ _. ⌜ KeepsPromise3 (now (table .entry)) ⌝ }
 {
-    let number = shared_refusal(table, s);
-    calls::finish_start(table, s, b, word, number)
+    let refusal = shared_refusal(table, s);
+    calls::finish_start(table, s, b, word, refusal)
 }
 
 // Why a start of b with a flag word goes as it does: its refusal, or its rule, and where and how the task was found for it.
@@ -89,8 +89,8 @@ pub fn why(table: &[u8], s: Session, b: u8, word: u32) -> Reason
     ensures mark { λ r. ⌜ (r .refusal ≡ 0 → MarksBy (now (table .entry)) (view s) b word r) ⌝ }
     ensures bit { λ r. ⌜ r ≡ whyStored (now (table .entry)) s b (withoutNoHistory word) ⌝ }
 {
-    let number = shared_refusal(table, s);
-    reasons::why(table, s, b, word, number)
+    let refusal = shared_refusal(table, s);
+    reasons::why(table, s, b, word, refusal)
 }
 
 // Back, on a session that is not empty.
@@ -99,8 +99,8 @@ pub fn back(table: &[u8], s: Session) -> Reply
     ensures keeps { λ r. ⌜ KeepsSound (now (table .entry)) s (r .session) ⌝ }
     ensures promise { λ _. ⌜ KeepsPromise3 (now (table .entry)) ⌝ }
 {
-    let number = shared_refusal(table, s);
-    calls::back(table, s, number)
+    let refusal = shared_refusal(table, s);
+    calls::back(table, s, refusal)
 }
 
 // Restore: the session read from a whole image.
@@ -112,8 +112,8 @@ pub fn restore(table: &[u8], s: Session, image: &[u8]) -> Reply
     ensures saves { λ r. ⌜ SavesAgain (now (image .entry)) r ⌝ }
     ensures promise { λ _. ⌜ KeepsPromise3 (now (table .entry)) ⌝ }
 {
-    let number = shared_refusal(table, s);
-    image_calls::restore(table, s, image, number)
+    let refusal = shared_refusal(table, s);
+    image_calls::restore(table, s, image, refusal)
 }
 
 // Save writes the session's image at the start of the buffer and leaves the rest; a refused one writes nothing.
@@ -123,9 +123,9 @@ pub fn save(table: &[u8], s: Session, out: &mut [u8]) -> SaveReply
     ensures only { λ r. ⌜ (r .refusal ≡ 0 → NoOtherHas (now (table .entry)) s (take (r .length) (now (out .exit)))) ⌝ }
     ensures promise { λ _. ⌜ KeepsPromise3 (now (table .entry)) ⌝ }
 {
-    let number = shared_refusal(table, s);
-    if number != 0 {
-        return image_calls::refuse_save(number);
+    let refusal = shared_refusal(table, s);
+    if refusal != 0 {
+        return image_calls::refuse_save(refusal);
     }
     image_calls::save(table, s, out)
 }
@@ -143,6 +143,6 @@ pub fn play_record(table: &[u8], s: Session, calls: &[u8]) -> Reply
         return calls::refuse(s, 9);
     }
     let r = records::read(calls, 0);
-    let number = shared_refusal(table, s);
-    calls::reply_to(table, s, r, number)
+    let refusal = shared_refusal(table, s);
+    calls::reply_to(table, s, r, refusal)
 }

@@ -107,8 +107,8 @@ pub fn answer_of(plan: Plan, second: Task) -> Answer
 // ---- plans
 
 // A refused call's plan.
-pub fn still(s: Session, number: u8) -> Plan
-    ensures { λ r. ⌜ r ≡ stillOf s number ⌝ }
+pub fn still(s: Session, refusal: u8) -> Plan
+    ensures { λ r. ⌜ r ≡ stillOf s refusal ⌝ }
 {
     let front = s.tasks[0];
     Plan {
@@ -118,7 +118,7 @@ pub fn still(s: Session, number: u8) -> Plan
         n: s.n,
         gone: NO_TASK,
         pops: false,
-        refusal: number,
+        refusal: refusal,
         closed: 0,
         edition: s.edition,
         no_history: s.no_history,

@@ -129,7 +129,7 @@ pub fn run(
     requires { ⌜ longestSaid manner * length (recordsIn (now input)) ≤ length (now out) ⌝ }
     ensures { λ r. ⌜ Runs manner (now (table .entry)) from tally (recordsIn (now (input .entry))) (now (out .entry)) (now (out .exit)) r ⌝ }
 {
-    let number = table::refusal(table);
+    let refusal = table::refusal(table);
     let mut s = from;
     let mut told = tally;
     let mut at: usize = 0;
@@ -137,7 +137,7 @@ pub fn run(
     while p < input.len() {
         let r = records::read(input, p);
         p = records::end_of(input, p);
-        let sought = calls::seek_for(table, s, r, number);
+        let sought = calls::seek_for(table, s, r, refusal);
         let k = sought.index;
         let t = s.tasks[k];
         let decided = calls::decide_for(table, s, t, sought, r);

@@ -191,10 +191,10 @@ pub fn replay(table: &[u8], calls: &[u8]) -> Replayed
     ensures promise { λ _. ⌜ KeepsPromise3 (now (table .entry)) ⌝ }
 {
     let fresh = Session::fresh();
-    let number = table::refusal(table);
-    if number != 0 {
+    let refused = table::refusal(table);
+    if refused != 0 {
         return Replayed {
-            refusal: number,
+            refusal: refused,
             session: fresh,
         };
     }

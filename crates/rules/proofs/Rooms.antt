@@ -56,7 +56,7 @@ module _ (tb : List ℕ) (v : State ℕ) (b : ℕ) (f : Flags) where
 
 -- ---- the check
 
-one-check : (k : ℕ) (b : Bool) → (if b then check k b else accepted) .number ≡ (if b then k else 0)
+one-check : (k : ℕ) (b : Bool) → (if b then check k b else accepted) .refusal ≡ (if b then k else 0)
 one-check k true = refl
 one-check k false = refl
 

@@ -61,7 +61,7 @@ module _ (tb : List ℕ) (n b w : ℕ) where
       let c₂₁ = refusal-skip 20 (eqb n 0) _ (c₄ .1) in
       record { known = ltb-true b (sizeOf tb) (not-false _ (c₃ .0)); some = some-stand n (c₂₁ .0) }
 
-  pub start-numbers : All (λ c. 1 ≤ c .number) (startEntry tb n b w)
+  pub start-numbers : All (λ c. 1 ≤ c .refusal) (startEntry tb n b w)
   start-numbers = (omega arith, (omega arith, (omega arith, tt)))
 
 -- ---- on a stored session

@@ -137,7 +137,7 @@ carrying-accepts caller b c t x =
 module _ {tb : List ℕ} {c : Session} {b : ℕ} {f : Flags} (z : Sized c) (h : Startable tb c b) {t : Task} {x : Chosen}
     (ok : Plannable tb c b f t x) (caller : Bool) where
   pub room : roomRefusal tb c b f ≡ 0
-  room = sym (ok .chosen .number) ∙ ok .room
+  room = sym (ok .chosen .refusal) ∙ ok .room
 
   abbrev found : ℕ
   found = indexOf (choose tb (view c) b f .found)

@@ -46,7 +46,7 @@ module _ (tb : List ℕ) (c : Session) (b w k : ℕ) where
   pub sought-refused : (n : ℕ) → (n ≡ 0 → ⊥) → n ≡ orElse k (refusal (startEntry tb (c .n) b w)) → {x : Sought} → x ≡ noneSought n
       → SoughtFrom tb c b w k x
   sought-refused n f q {x} e =
-      let m : x .number ≡ n = ap (λ (y : Sought). y .number) e in
+      let m : x .refusal ≡ n = ap (λ (y : Sought). y .refusal) e in
       record {
         number = m ∙ q;
         none = λ g. e ∙ ap noneSought (sym m);
@@ -60,16 +60,16 @@ module _ (tb : List ℕ) (c : Session) (b w k : ℕ) where
       → SoughtFrom tb c b w k x
   sought-found z e h s =
       record {
-        number = s .number ∙ sym e ∙ or-second k _ z;
-        none = λ n. absurd (n (s .number));
+        number = s .refusal ∙ sym e ∙ or-second k _ z;
+        none = λ n. absurd (n (s .refusal));
         seeks = λ g. (h, s);
       }
 
   -- the index is one of the storage
   pub sought-inside : Sized c → {x : Sought} → SoughtFrom tb c b w k x → x .index < mostTasks
-  sought-inside z {x} s = go (x .number) refl
+  sought-inside z {x} s = go (x .refusal) refl
     where
-      go : (n : ℕ) → x .number ≡ n → x .index < mostTasks
+      go : (n : ℕ) → x .refusal ≡ n → x .index < mostTasks
       go zero e =
           let (h, q) = s .seeks e in
           index-inside tb c b z h (x .index) (index-stands tb c b z h (flagsOf w) (x .group) (q .found) (q .index))
@@ -118,24 +118,24 @@ module _ (tb : List ℕ) (c : Session) (b w k : ℕ) (passed : k ≡ 0) (fin : B
   module _ {j : ℕ} {x : Chosen} (chooses : Chooses tb c b (flagsOf w) j x) where
     chosen-is : x ≡ chosenStored tb c b (flagsOf w)
     chosen-is =
-        let n = chooses .number in
+        let n = chooses .refusal in
         let q = chooses .rule in
         let d = chooses .effect in
         let p = chooses .place in
-        λ i. record { number = n i; rule = q i; effect = d i; place = p i }
+        λ i. record { refusal = n i; rule = q i; effect = d i; place = p i }
 
-    module _ (room : x .number ≡ 0) {t : Task} (task : t ≡ taskBehind c j) where
+    module _ (room : x .refusal ≡ 0) {t : Task} (task : t ≡ taskBehind c j) where
       pub chosen-plannable : Plannable tb c b (flagsOf w) t x
       chosen-plannable =
           record {
-            chosen = record { number = chooses .number; rule = chooses .rule; effect = chooses .effect; place = chooses .place; index = refl };
+            chosen = record { refusal = chooses .refusal; rule = chooses .rule; effect = chooses .effect; place = chooses .place; index = refl };
             task = task ∙ ap (taskBehind c) (chooses .index);
             room = room;
           }
 
       pub planned-roomy : startPlan fin (flagsOf w .noh) b c t x ≡ planStored k tb c b w fin
       planned-roomy =
-          rw (chosen-is, task, chooses .index) (unless-passed (roomRefusal tb c b (flagsOf w)) c _ (sym (chooses .number) ∙ room))
+          rw (chosen-is, task, chooses .index) (unless-passed (roomRefusal tb c b (flagsOf w)) c _ (sym (chooses .refusal) ∙ room))
           ∙ unless-passed k c _ passed
 
 -- ---- the refusal and the rule

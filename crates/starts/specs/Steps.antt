@@ -33,11 +33,11 @@ use Rattle.starts.specs.declared.Chosen.{Chosen}
 -- ---- seeking
 
 abbrev pub noneSought : ℕ → Sought
-noneSought k = record { number = k; index = 0; found = Found.Nowhere; group = Group.NotApart }
+noneSought k = record { refusal = k; index = 0; found = Found.Nowhere; group = Group.NotApart }
 
 -- the start may be made, and this is sought
 pub record Seeks (tb : List ℕ) (c : Session) (b : ℕ) (f : Flags) (x : Sought) : Type 0 where
-  pub number : x .number ≡ 0
+  pub refusal : x .refusal ≡ 0
   pub group : x .group ≡ groupOf tb (view c) b f
   pub found : x .found ≡ soughtBy tb (view c) b f (x .group)
   pub index : x .index ≡ indexOf (x .found)
@@ -49,15 +49,15 @@ orElse (suc j) k = suc j
 
 -- by the refusal k of the checks before its own, and its own: nothing is sought where one of them refuses
 pub record SoughtFrom (tb : List ℕ) (c : Session) (b w k : ℕ) (x : Sought) : Type 0 where
-  pub number : x .number ≡ orElse k (refusal (startEntry tb (c .n) b w))
-  pub none : (x .number ≡ 0 → ⊥) → x ≡ noneSought (x .number)
-  pub seeks : x .number ≡ 0 → Startable tb c b × Seeks tb c b (flagsOf w) x
+  pub refusal : x .refusal ≡ orElse k (refusal (startEntry tb (c .n) b w))
+  pub none : (x .refusal ≡ 0 → ⊥) → x ≡ noneSought (x .refusal)
+  pub seeks : x .refusal ≡ 0 → Startable tb c b × Seeks tb c b (flagsOf w) x
 
 -- ---- choosing
 
 -- k is the index of the task found
 pub record Chooses (tb : List ℕ) (c : Session) (b : ℕ) (f : Flags) (k : ℕ) (x : Chosen) : Type 0 where
-  pub number : x .number ≡ roomRefusal tb c b f
+  pub refusal : x .refusal ≡ roomRefusal tb c b f
   pub rule : x .rule ≡ choose tb (view c) b f .rule
   pub effect : x .effect ≡ effectIn (view c) (choose tb (view c) b f)
   pub place : x .place ≡ placeOf (choose tb (view c) b f .found)
@@ -73,7 +73,7 @@ markIf false d p isB = Mark.Gone
 pub record Plannable (tb : List ℕ) (c : Session) (b : ℕ) (f : Flags) (t : Task) (x : Chosen) : Type 0 where
   pub chosen : Chooses tb c b f (indexOf (choose tb (view c) b f .found)) x
   pub task : t ≡ taskBehind c (indexOf (choose tb (view c) b f .found))
-  pub room : x .number ≡ 0
+  pub room : x .refusal ≡ 0
 
 -- the rule chosen for a start of b, and the removal where the caller closes; t is the task at the index of the task found
 module _ (caller : Bool) (b : ℕ) (c : Session) (t : Task) (x : Chosen) where
@@ -131,7 +131,7 @@ ruleStored (suc k) tb c b w = Rule.R18
 
 -- what planning relies on: where nothing refused so far, x was sought, and t is the task at its index
 abbrev pub Planned : List ℕ → Session → ℕ → ℕ → Task → Sought → Type 0
-Planned tb c b w t x = x .number ≡ 0 → Startable tb c b × (Seeks tb c b (flagsOf w) x × (t ≡ taskBehind c (x .index)))
+Planned tb c b w t x = x .refusal ≡ 0 → Startable tb c b × (Seeks tb c b (flagsOf w) x × (t ≡ taskBehind c (x .index)))
 
 -- the screens that a start, or a finishing one, creates: none where it is refused at its entry or for want of room
 abbrev pub createdStored : List ℕ → Session → ℕ → ℕ → ℕ

@@ -44,18 +44,18 @@ pub fn entry_refusal(table: &[u8], n: u8, b: u8, word: u32) -> u8
 // What a start of b seeks: the refusal so far, or 0 and the group of rules, the task found, and its index (0, the front task,
 // where none was found).
 pub struct Sought {
-    pub number: u8,
+    pub refusal: u8,
     pub index: usize,
     pub found: Found,
     pub group: Group,
 }
 
 // Nothing is sought where the start is refused.
-pub fn none_sought(number: u8) -> Sought
-    ensures { λ r. ⌜ r ≡ noneSought number ⌝ }
+pub fn none_sought(refusal: u8) -> Sought
+    ensures { λ r. ⌜ r ≡ noneSought refusal ⌝ }
 {
     Sought {
-        number: number,
+        refusal: refusal,
         index: 0,
         found: Found::Nowhere,
         group: Group::NotApart,
@@ -70,7 +70,7 @@ fn seek_task(table: &[u8], s: Session, b: u8, f: Flags) -> Sought
     let group = rules::group_of(table, front.top(), b, f);
     let found = rules::sought_by(table, s, b, f, group);
     Sought {
-        number: 0,
+        refusal: 0,
         index: rules::index_of(found),
         found: found,
         group: group,
@@ -78,12 +78,12 @@ fn seek_task(table: &[u8], s: Session, b: u8, f: Flags) -> Sought
 }
 
 // What a start seeks; number is the refusal of the checks before its own.
-pub fn seek(table: &[u8], s: Session, b: u8, word: u32, number: u8) -> Sought
-    requires { ⌜ (number ≡ 0 → Ready (now table) s) ⌝ }
-    ensures { λ r. ⌜ SoughtFrom (now (table .entry)) s b word number r ⌝ }
+pub fn seek(table: &[u8], s: Session, b: u8, word: u32, refusal: u8) -> Sought
+    requires { ⌜ (refusal ≡ 0 → Ready (now table) s) ⌝ }
+    ensures { λ r. ⌜ SoughtFrom (now (table .entry)) s b word refusal r ⌝ }
 {
-    if number != 0 {
-        return none_sought(number);
+    if refusal != 0 {
+        return none_sought(refusal);
     }
     let own = entry_refusal(table, s.n, b, word);
     if own != 0 {
@@ -94,7 +94,7 @@ pub fn seek(table: &[u8], s: Session, b: u8, word: u32, number: u8) -> Sought
 
 // What is chosen: 23, 24 or 0, the rule, what it does, and the place of the task found.
 pub struct Chosen {
-    pub number: u8,
+    pub refusal: u8,
     pub rule: Rule,
     pub effect: Effect,
     pub place: u8,
@@ -110,7 +110,7 @@ fn choose(table: &[u8], s: Session, t: Task, sought: Sought, b: u8, f: Flags) ->
     let rule = rules::rule_in(table, group, t, s.main, b, f, found);
     let effect = rules::effect_of(rule, s.edition, s.main);
     Chosen {
-        number: rules::room_refusal(s.n, t, effect),
+        refusal: rules::room_refusal(s.n, t, effect),
         rule: rule,
         effect: effect,
         place: rules::place_of(found),
@@ -213,20 +213,20 @@ pub fn decide(
     finishing: bool,
 ) -> Decided
     requires { ⌜ Planned (now table) s b word t sought ⌝ }
-    ensures plan { λ r. ⌜ r .plan ≡ planStored (sought .number) (now (table .entry)) s b word finishing ⌝ }
-    ensures rule { λ r. ⌜ r .rule ≡ ruleStored (sought .number) (now (table .entry)) s b word ⌝ }
+    ensures plan { λ r. ⌜ r .plan ≡ planStored (sought .refusal) (now (table .entry)) s b word finishing ⌝ }
+    ensures rule { λ r. ⌜ r .rule ≡ ruleStored (sought .refusal) (now (table .entry)) s b word ⌝ }
 {
-    if sought.number != 0 {
+    if sought.refusal != 0 {
         return Decided {
-            plan: plans::still(s, sought.number),
+            plan: plans::still(s, sought.refusal),
             rule: Rule::R18,
         };
     }
     let chosen = choose(table, s, t, sought, b, flags::read(word));
     let rule = chosen.rule;
-    if chosen.number != 0 {
+    if chosen.refusal != 0 {
         return Decided {
-            plan: plans::still(s, chosen.number),
+            plan: plans::still(s, chosen.refusal),
             rule: rule,
         };
     }
@@ -247,7 +247,7 @@ pub fn plan(
     finishing: bool,
 ) -> Plan
     requires { ⌜ Planned (now table) s b word t sought ⌝ }
-    ensures { λ r. ⌜ r ≡ planStored (sought .number) (now (table .entry)) s b word finishing ⌝ }
+    ensures { λ r. ⌜ r ≡ planStored (sought .refusal) (now (table .entry)) s b word finishing ⌝ }
 {
     decide(table, s, t, sought, b, word, finishing).plan
 }
@@ -260,13 +260,13 @@ pub fn created(table: &[u8], s: Session, b: u8, word: u32) -> u8
     ensures { λ r. ⌜ r ≡ createdStored (now (table .entry)) s b word ⌝ }
 {
     let sought = seek(table, s, b, word, 0);
-    if sought.number != 0 {
+    if sought.refusal != 0 {
         return 0;
     }
     let i = sought.index;
     let t = s.tasks[i];
     let choice = choose(table, s, t, sought, b, flags::read(word));
-    if choice.number != 0 {
+    if choice.refusal != 0 {
         return 0;
     }
     let effect = choice.effect;

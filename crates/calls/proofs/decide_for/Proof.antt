@@ -38,8 +38,8 @@ returns-2 c =
     let a = c .before .before .before .before .args in
     let r = a .r in
     let s = tag-starts (r .asked) (c .before .before .match .keys2) in
-    let plan = c .decide .ensures .0 ∙ ap (planStored (a .sought .number) (a .table .now) (a .s) (r .screen) (r .word)) (c .before .is-finishing .ensures)
-    ∙ start-plan-by (r .asked) s (a .sought .number) (a .table .now) (a .s) (r .screen) (r .word) in
+    let plan = c .decide .ensures .0 ∙ ap (planStored (a .sought .refusal) (a .table .now) (a .s) (r .screen) (r .word)) (c .before .is-finishing .ensures)
+    ∙ start-plan-by (r .asked) s (a .sought .refusal) (a .table .now) (a .s) (r .screen) (r .word) in
     (plan, rw s (c .decide .ensures .1))
 
 returns-3 : tie.Need-returns-3

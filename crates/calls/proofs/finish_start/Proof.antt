@@ -39,7 +39,7 @@ gives c =
     let start = c .before .before .before .before in
     let a = start .args in
     rw (c .plan .ensures)
-    (start-gives (a .table .now) (a .s) (sizes start) (a .b) (a .word) true (a .shared) (start .pre) (c .before .before .seek .ensures .number))
+    (start-gives (a .table .now) (a .s) (sizes start) (a .b) (a .word) true (a .shared) (start .pre) (c .before .before .seek .ensures .refusal))
 
 answer-of-requires : tie.Need-answer-of-requires
 answer-of-requires c κs = gives (c .before) .showable

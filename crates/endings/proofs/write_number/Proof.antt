@@ -26,8 +26,8 @@ returns-2 c =
     let x = start .args .x in
     let e = decimal-last x (omega arith) (start .pre .0) in
     let l = decimal-length x in
-    let place : c .before .before .put .result ≡ start .args .at + length (decimal x) = rw e (c .before .before .put .ensures .0) in
-    (place, (rw e (c .before .before .put .ensures .1 .0), omega arith))
+    let place : c .before .before .write-decimal .result ≡ start .args .at + length (decimal x) = rw e (c .before .before .write-decimal .ensures .0) in
+    (place, (rw e (c .before .before .write-decimal .ensures .1 .0), omega arith))
 
 pub write-number-spec : {M : Type 1} → statement M
 write-number-spec =

@@ -27,7 +27,7 @@ read-requires c κs = shaped c
 image-refusal-requires : tie.Need-image-refusal-requires
 image-refusal-requires c κs = ready (c .before .before .before .before) .good
 
-left : (c : tie.Joined1) → let a = c .before .before .before .args in Left (a .table .now) (a .s) (restore (a .image .now)) (c .if1 .number) (c .if1 .out)
+left : (c : tie.Joined1) → let a = c .before .before .before .args in Left (a .table .now) (a .s) (restore (a .image .now)) (c .if1 .refusal) (c .if1 .out)
 left c =
     let start = c .before .before .before in
     let a = start .args in

@@ -18,12 +18,12 @@ returns c =
     let p1 = p2 .before .before .before .before in
     let start = p1 .before .before .before in
     let a = start .args in
-    let text : Wrote (a .out .now) (a .at) (spaced (a .a ∷ a .b ∷ a .c ∷ a .d ∷ [])) (p4 .put4 .last .0) (p4 .put4 .result) =
-    spaced-cons _ (a .b ∷ a .c ∷ a .d ∷ []) (wrote 4 (p1 .put .ensures)) (omega arith) (
-    spaced-cons _ (a .c ∷ a .d ∷ []) (wrote 4 (p2 .put2 .ensures)) (omega arith) (
-    spaced-cons _ (a .d ∷ []) (wrote 4 (p3 .put3 .ensures)) (omega arith) (
-    spaced-cons _ [] (wrote 4 (p4 .put4 .ensures)) (omega arith) (wrote-nil _ _)))) in
-    (text .place, (text .text, omega (arith, p1 .put .ensures .1 .1, p2 .put2 .ensures .1 .1, p3 .put3 .ensures .1 .1, p4 .put4 .ensures .1 .1)))
+    let text : Wrote (a .out .now) (a .at) (spaced (a .a ∷ a .b ∷ a .c ∷ a .d ∷ [])) (p4 .write-decimal4 .last .0) (p4 .write-decimal4 .result) =
+    spaced-cons _ (a .b ∷ a .c ∷ a .d ∷ []) (wrote 4 (p1 .write-decimal .ensures)) (omega arith) (
+    spaced-cons _ (a .c ∷ a .d ∷ []) (wrote 4 (p2 .write-decimal2 .ensures)) (omega arith) (
+    spaced-cons _ (a .d ∷ []) (wrote 4 (p3 .write-decimal3 .ensures)) (omega arith) (
+    spaced-cons _ [] (wrote 4 (p4 .write-decimal4 .ensures)) (omega arith) (wrote-nil _ _)))) in
+    (text .place, (text .text, omega (arith, p1 .write-decimal .ensures .1 .1, p2 .write-decimal2 .ensures .1 .1, p3 .write-decimal3 .ensures .1 .1, p4 .write-decimal4 .ensures .1 .1)))
 
 pub write-four-spec : {M : Type 1} → statement M
 write-four-spec =

@@ -20,15 +20,15 @@ returns c =
     let start = first .before .before .before in
     let k = start .args .kind in
     let a = start .args .a in
-    let line : Wrote (start .args .out .now) (start .args .at) (lineText (k ∷ numbersOf a)) (last .put2 .last .0) (last .put2 .result) =
+    let line : Wrote (start .args .out .now) (start .args .at) (lineText (k ∷ numbersOf a)) (last .write-decimal2 .last .0) (last .write-decimal2 .result) =
     line-spaced (k ∷ a .refusal ∷ a .screen ∷ a .root ∷ []) _ _ (wrote 16 (first .write-four .ensures)) (omega arith) (
     line-spaced (a .height ∷ a .tasks ∷ a .main ∷ a .closed ∷ []) _ _ (wrote 16 (more .write-four2 .ensures)) (omega arith) (
-    line-spaced (a .edition ∷ []) _ _ (wrote 4 (edition .put .ensures)) (omega arith) (
-    line-end _ (wrote 4 (last .put2 .ensures))))) in (
+    line-spaced (a .edition ∷ []) _ _ (wrote 4 (edition .write-decimal .ensures)) (omega arith) (
+    line-end _ (wrote 4 (last .write-decimal2 .ensures))))) in (
       line .place,
       (
         line .text,
-        omega (arith, first .write-four .ensures .1 .1, more .write-four2 .ensures .1 .1, edition .put .ensures .1 .1, last .put2 .ensures .1 .1),
+        omega (arith, first .write-four .ensures .1 .1, more .write-four2 .ensures .1 .1, edition .write-decimal .ensures .1 .1, last .write-decimal2 .ensures .1 .1),
       ),
     )
 

@@ -27,7 +27,7 @@ abbrev index : tie.Start → ℕ
 index c = let a = c .args in indexOf (choose (a .table .now) (view (a .t2)) (a .b) (flagsOf (a .word)) .found)
 
 room : (c : tie.Start) → let a = c .args in roomRefusal (a .table .now) (a .t2) (a .b) (flagsOf (a .word)) ≡ 0
-room c = sym (c .pre .1 .chosen .number) ∙ c .pre .1 .room
+room c = sym (c .pre .1 .chosen .refusal) ∙ c .pre .1 .room
 
 picks : (c : tie.Start) → let a = c .args in Picked (a .table .now) (a .t2) (a .b) (flagsOf (a .word)) (index c) (a .chosen .effect) (a .chosen .place)
 picks c = record { index = refl; effect = c .pre .1 .chosen .effect; place = c .pre .1 .chosen .place }

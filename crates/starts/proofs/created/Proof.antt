@@ -14,7 +14,7 @@ seek-requires : tie.Need-seek-requires
 seek-requires c κs = λ e. c .before .pre
 
 returns : tie.Need-returns
-returns c = counted-first _ _ _ (λ e. c .if1 .taken (c .before .before .seek .ensures .number ∙ e))
+returns c = counted-first _ _ _ (λ e. c .if1 .taken (c .before .before .seek .ensures .refusal ∙ e))
 
 element-copy-out-t : tie.Need-element-copy-out-t
 element-copy-out-t c =
@@ -43,21 +43,21 @@ chooses c = rw (c .before .read .ensures) at (c .choose .ensures)
 -- nothing refused at its entry
 entered : (c : tie.After-choose)
     → let seek = c .before .before .before .before .before in
-    seek .seek .result .number ≡ 0
+    seek .seek .result .refusal ≡ 0
 entered c = c .before .before .before .if1 .left
 
 returns-2 : tie.Need-returns-2
 returns-2 c =
     let chose = c .before .before in
     let seek = chose .before .before .before .before .before .seek in
-    counted-second _ _ _ (sym (seek .ensures .number) ∙ entered chose) (λ e. c .if2 .taken (chooses chose .number ∙ e))
+    counted-second _ _ _ (sym (seek .ensures .refusal) ∙ entered chose) (λ e. c .if2 .taken (chooses chose .refusal ∙ e))
 
 returns-3 : tie.Need-returns-3
 returns-3 c =
     let chose = c .before .before .before in
     let seek = chose .before .before .before .before .before .seek in
     c .created-by .ensures ∙ ap createdBy (chooses chose .effect)
-    ∙ counted-all _ _ _ (sym (seek .ensures .number) ∙ entered chose) (sym (chooses chose .number) ∙ c .before .if2 .left)
+    ∙ counted-all _ _ _ (sym (seek .ensures .refusal) ∙ entered chose) (sym (chooses chose .refusal) ∙ c .before .if2 .left)
 
 pub created-spec : {M : Type 1} → statement M
 created-spec =

@@ -10,8 +10,8 @@ use Rattle.starts.proofs.decide.Tie as tie
 returns : tie.Need-returns
 returns c =
     let a = c .before .before .before .before .args in (
-      c .still .ensures ∙ unless-refused (a .sought .number) (a .s) _ (c .before .if1 .taken),
-      rule-refused (a .table .now) (a .s) (a .b) (a .word) (a .sought .number) (c .before .if1 .taken),
+      c .still .ensures ∙ unless-refused (a .sought .refusal) (a .s) _ (c .before .if1 .taken),
+      rule-refused (a .table .now) (a .s) (a .b) (a .word) (a .sought .refusal) (c .before .if1 .taken),
     )
 
 choose-requires : tie.Need-choose-requires
@@ -30,9 +30,9 @@ returns-2 c =
     let chose = c .before .before .before in
     let a = chose .before .before .before .before .before .args in (
       c .still2 .ensures
-          ∙ planned-full (a .table .now) (a .s) (a .b) (a .word) (a .sought .number) (chose .before .before .if1 .left) (a .finishing)
-          (chose .choose .result .number) (chooses chose .number) (c .before .if2 .taken),
-      rule-chosen (a .table .now) (a .s) (a .b) (a .word) (a .sought .number) (chose .before .before .if1 .left) (chooses chose .rule),
+          ∙ planned-full (a .table .now) (a .s) (a .b) (a .word) (a .sought .refusal) (chose .before .before .if1 .left) (a .finishing)
+          (chose .choose .result .refusal) (chooses chose .refusal) (c .before .if2 .taken),
+      rule-chosen (a .table .now) (a .s) (a .b) (a .word) (a .sought .refusal) (chose .before .before .if1 .left) (chooses chose .rule),
     )
 
 start-plan-requires : tie.Need-start-plan-requires
@@ -42,7 +42,7 @@ start-plan-requires c κs =
     let start = passed .before .before .before in
     let a = start .args in
     let p = start .pre (passed .if1 .left) in
-    (p .0, chosen-plannable (a .table .now) (a .s) (a .b) (a .word) (a .sought .number) (passed .if1 .left) (a .finishing) (chooses chose) (c .if2 .left) (p .1 .1))
+    (p .0, chosen-plannable (a .table .now) (a .s) (a .b) (a .word) (a .sought .refusal) (passed .if1 .left) (a .finishing) (chooses chose) (c .if2 .left) (p .1 .1))
 
 returns-3 : tie.Need-returns-3
 returns-3 c =
@@ -52,9 +52,9 @@ returns-3 c =
     let a = start .args in
     let p = start .pre (passed .if1 .left) in (
       c .start-plan .ensures
-          ∙ planned-roomy (a .table .now) (a .s) (a .b) (a .word) (a .sought .number) (passed .if1 .left) (a .finishing) (chooses chose)
+          ∙ planned-roomy (a .table .now) (a .s) (a .b) (a .word) (a .sought .refusal) (passed .if1 .left) (a .finishing) (chooses chose)
           (c .before .if2 .left) (p .1 .1),
-      rule-chosen (a .table .now) (a .s) (a .b) (a .word) (a .sought .number) (passed .if1 .left) (chooses chose .rule),
+      rule-chosen (a .table .now) (a .s) (a .b) (a .word) (a .sought .refusal) (passed .if1 .left) (chooses chose .rule),
     )
 
 pub decide-spec : {M : Type 1} → statement M

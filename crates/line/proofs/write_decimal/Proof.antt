@@ -1,4 +1,4 @@
--- `line::put` meets its contract: by the number of digits, the stores one after the other are the bytes written.
+-- `line::write_decimal` meets its contract: by the number of digits, the stores one after the other are the bytes written.
 use Prim.Native.Nat.{_/_, _%_}
 use mathlib.Core.List.{[], _∷_}
 use native.Mathlib.Numerals.{towards-suc}
@@ -8,8 +8,8 @@ use Rattle.model.specs.Player.{digit}
 use Rattle.model.proofs.WrittenLaws.{written-sets}
 use Rattle.line.proofs.LineLaws.{decimal-one, decimal-two, decimal-three}
 use borrow.Author.Needs.{needs}
-use Rattle.line.proofs.put.Statement.{statement}
-use Rattle.line.proofs.put.Tie as tie
+use Rattle.line.proofs.write_decimal.Statement.{statement}
+use Rattle.line.proofs.write_decimal.Tie as tie
 
 slice-write-out-2 : tie.Need-slice-write-out-2
 slice-write-out-2 c = simp length-set (omega arith)
@@ -50,8 +50,8 @@ returns-3 c =
     let w = written-sets (a .out .now) (a .at) (digit (a .x / 100) ∷ digit (a .x / 10 % 10) ∷ digit (a .x % 10) ∷ a .end ∷ []) (omega arith) in
     (rw e, (rw e (simp towards-suc w), omega arith))
 
-pub put-spec : {M : Type 1} → statement M
-put-spec =
+pub write-decimal-spec : {M : Type 1} → statement M
+write-decimal-spec =
     tie.close
     (tie.spec
     (λ c. search needs)

@@ -7,15 +7,15 @@ use borrow.Author.Needs.{needs}
 use Rattle.model.specs.Player.{digit, decimal}
 use Rattle.model.proofs.WrittenLaws.{Wrote, wrote, wrote-one, wrote-append}
 use Rattle.depths.proofs.Figures.{figures-few, figures-three, figures-many, wrote-three}
-use Rattle.depths.proofs.put.Statement.{statement}
-use Rattle.depths.proofs.put.Tie as tie
+use Rattle.depths.proofs.write_figures.Statement.{statement}
+use Rattle.depths.proofs.write_figures.Tie as tie
 
 returns : tie.Need-returns
 returns c =
     let p = c .before .before in
     let x = p .before .before .before .before .args .x in
     let e = figures-few x (omega (arith, p .before .before .if1 .taken)) in
-    (rw e (p .put .ensures .0), (rw e (p .put .ensures .1 .0), omega (arith, p .put .ensures .1 .1)))
+    (rw e (p .write-decimal .ensures .0), (rw e (p .write-decimal .ensures .1 .0), omega (arith, p .write-decimal .ensures .1 .1)))
 
 -- ---- three digits
 
@@ -28,10 +28,10 @@ returns-2 c =
     let a = start .args in
     let x = a .x in
     let e = figures-three x (omega (arith, if2 .before .if1 .left)) (if2 .if2 .taken) in
-    let w = wrote 4 (rw (digits .last-digit .ensures) at (p .put2 .ensures)) in
-    let b = p .put2 .ensures .1 .1 in
-    let k = p .put2 .kept .0 in
-    let one = wrote-one (p .put2 .last .0) (p .put2 .result) (a .end) (omega (arith, start .pre)) in
+    let w = wrote 4 (rw (digits .last-digit .ensures) at (p .write-decimal2 .ensures)) in
+    let b = p .write-decimal2 .ensures .1 .1 in
+    let k = p .write-decimal2 .kept .0 in
+    let one = wrote-one (p .write-decimal2 .last .0) (p .write-decimal2 .result) (a .end) (omega (arith, start .pre)) in
     let all : Wrote (a .out .now) (a .at) ((decimal (x / 10) ++ digit (x % 10) ∷ []) ++ a .end ∷ []) _ _ =
     wrote-append w (omega (arith, start .pre)) one in
     (rw e (all .place), (rw e (all .text), omega arith))
@@ -45,10 +45,10 @@ Most = tie.After-put3
 abbrev begun : Most → tie.Start
 begun c = c .before .before .before .before .before .before
 
-room : (c : Most) → (c .put3 .result + 3 ≤ length (c .put3 .last .0)) × (c .put3 .result ≤ length (begun c .args .out .now))
+room : (c : Most) → (c .write-decimal3 .result + 3 ≤ length (c .write-decimal3 .last .0)) × (c .write-decimal3 .result ≤ length (begun c .args .out .now))
 room c =
-    let b = c .put3 .ensures .1 .1 in
-    let k = c .put3 .kept .0 in
+    let b = c .write-decimal3 .ensures .1 .1 in
+    let k = c .write-decimal3 .kept .0 in
     let h = begun c .pre in
     (omega arith, omega arith)
 
@@ -68,14 +68,14 @@ returns-3 c =
     let x = a .x in
     let e = figures-many x (if2 .if2 .left) (a .end) in
     let r = room p in
-    let b = p .put3 .ensures .1 .1 in
-    let w = wrote 4 (rw (digits .last-digit2 .ensures) at (p .put3 .ensures)) in
-    let three = wrote-three (p .put3 .last .0) (p .put3 .result) (digit (x / 10 % 10)) (digit (x % 10)) (a .end) (r .0) in
+    let b = p .write-decimal3 .ensures .1 .1 in
+    let w = wrote 4 (rw (digits .last-digit2 .ensures) at (p .write-decimal3 .ensures)) in
+    let three = wrote-three (p .write-decimal3 .last .0) (p .write-decimal3 .result) (digit (x / 10 % 10)) (digit (x % 10)) (a .end) (r .0) in
     let all = wrote-append w (r .1) three in
     (rw e (all .place), (rw (e, tens .last-digit3 .ensures, c .last-digit4 .ensures) (all .text), omega arith))
 
-pub put-spec : {M : Type 1} → statement M
-put-spec =
+pub write-figures-spec : {M : Type 1} → statement M
+write-figures-spec =
     tie.close
     (tie.spec
     (λ c. search needs)
