@@ -19,7 +19,7 @@ ghost use Rattle.session.specs.Stored.{view, freshSession};
 ghost use Rattle.reasons.specs.StoredReasons.{whyStored, CarriesOut};
 ghost use Rattle.navigator.specs.Promise3.{KeepsPromise3};
 ghost use Rattle.navigator.specs.Records.{playedStored};
-ghost use Rattle.recording.specs.Steps.{recordLength, callLength, calledStored};
+ghost use Rattle.recording.specs.OneCall.{recordLength, callLength, calledStored};
 ghost use Rattle.recording.specs.Replay.{EndAlike, TellsImages};
 ghost use Rattle.tally.specs.Tallies.{added, reported, KnowsTallies, TalliesJoin, ReportsLists};
 ghost use Rattle.tally.specs.Tallied.{RoundsToNearest};

@@ -8,7 +8,7 @@ use lib.ListN.{length, take}
 use Rattle.model.specs.Player.{recordsIn, sessionAfter}
 use Rattle.session.specs.declared.Session.{Session}
 use Rattle.session.specs.Stored.{view, hold}
-use Rattle.play.specs.Steps.{Playable}
+use Rattle.play.specs.Playable.{Playable}
 use Rattle.tally.specs.declared.Tally.{Tally}
 use Rattle.tally.specs.Tallies.{addedAll}
 use Rattle.depths.specs.Depths.{answersTo}

@@ -6,7 +6,7 @@
 ghost use Prim.Native.Nat.{_*_};
 ghost use mathlib.Core.Path.{_≡_};
 ghost use lib.ListN.{length};
-ghost use Rattle.play.specs.Steps.{Playable};
+ghost use Rattle.play.specs.Playable.{Playable};
 ghost use Rattle.reading.specs.Blocks.{mostRecords};
 ghost use Rattle.measuring.specs.Turns.{Turns};
 use libc::STDERR_FILENO;

@@ -20,7 +20,7 @@ use Rattle.calls.specs.declared.Reply.{Reply}
 use Rattle.calls.specs.StoredCalls.{reply, sharedRefusal, replyStored}
 use Rattle.calls.proofs.Settling.{shared-bad-table, shared-passed, call-refused}
 use Rattle.calls.proofs.HistoryLaws.{storedOutcome, call-held}
-use Rattle.play.specs.Steps.{Playable}
+use Rattle.play.specs.Playable.{Playable}
 
 -- ---- sessions that can be played on
 

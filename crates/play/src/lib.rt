@@ -9,7 +9,7 @@ ghost use Rattle.model.specs.Explained.{longestExplained};
 ghost use Rattle.model.specs.Written.{written as writtenInto};
 ghost use Rattle.session.specs.Stored.{view, hold};
 ghost use Rattle.reasons.specs.StoredReasons.{reasonMade};
-ghost use Rattle.play.specs.Steps.{Playable};
+ghost use Rattle.play.specs.Playable.{Playable};
 ghost use Rattle.play.specs.Fitting.{fitting, bytesTaken};
 ghost use Rattle.play.specs.Manners.{inWords, recordSaid, said, longestSaid, talliedIn, Runs};
 use model::Answer;

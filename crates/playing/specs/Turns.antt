@@ -9,7 +9,7 @@ use Rattle.model.specs.Player.{recordsIn, sessionAfter}
 use Rattle.session.specs.declared.Session.{Session}
 use Rattle.session.specs.Stored.{view, hold}
 use Rattle.notes.specs.Places.{Tells}
-use Rattle.play.specs.Steps.{Playable}
+use Rattle.play.specs.Playable.{Playable}
 use Rattle.reading.specs.Blocks.{mostRecords}
 use Rattle.playing.specs.Restores.{restoresFrom}
 use Rattle.playing.specs.declared.Said.{Said}

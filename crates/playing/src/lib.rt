@@ -9,7 +9,7 @@ ghost use mathlib.Core.List.{List, _++_};
 ghost use lib.ListN.{length};
 ghost use Rattle.model.specs.Player.{recordsIn};
 ghost use Rattle.notes.specs.Places.{Tells};
-ghost use Rattle.play.specs.Steps.{Playable};
+ghost use Rattle.play.specs.Playable.{Playable};
 ghost use Rattle.playing.specs.Restores.{restoresFrom, behind};
 ghost use Rattle.reading.specs.Blocks.{mostRecords};
 ghost use Rattle.playing.specs.Turns.{Says, Turns};

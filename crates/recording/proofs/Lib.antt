@@ -6,4 +6,4 @@ pub mod Creating
 pub mod Replaying
 pub mod Summing
 pub mod Ignoring
-pub mod Steps
+pub mod OneCall

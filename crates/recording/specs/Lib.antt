@@ -2,4 +2,4 @@ pub mod CallBytes
 pub mod Counts
 pub mod Replay
 pub mod Ignored
-pub mod Steps
+pub mod OneCall

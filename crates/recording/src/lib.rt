@@ -21,7 +21,7 @@ ghost use Rattle.notes.specs.Places.{Tells};
 ghost use Rattle.recording.specs.CallBytes.{imageLength, callOf, callsIn};
 ghost use Rattle.recording.specs.Counts.{replyTo, CreatesFor, Counts, CountsScreens};
 ghost use Rattle.recording.specs.Ignored.{ignoredFrom};
-ghost use Rattle.recording.specs.Steps.{recordLength, callLength, calledStored};
+ghost use Rattle.recording.specs.OneCall.{recordLength, callLength, calledStored};
 ghost use Rattle.recording.specs.Replay.{replayed, EveryList, EndAlike, TellsImages};
 use calls::Reply;
 use notes::Notes;

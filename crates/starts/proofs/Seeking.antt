@@ -48,7 +48,7 @@ module _ (tb : List ℕ) (c : Session) (b w k : ℕ) where
   sought-refused n f q {x} e =
       let m : x .refusal ≡ n = ap (λ (y : Sought). y .refusal) e in
       record {
-        number = m ∙ q;
+        refusal = m ∙ q;
         none = λ g. e ∙ ap noneSought (sym m);
         seeks = λ g. absurd (f (sym m ∙ g));
       }
@@ -60,7 +60,7 @@ module _ (tb : List ℕ) (c : Session) (b w k : ℕ) where
       → SoughtFrom tb c b w k x
   sought-found z e h s =
       record {
-        number = s .refusal ∙ sym e ∙ or-second k _ z;
+        refusal = s .refusal ∙ sym e ∙ or-second k _ z;
         none = λ n. absurd (n (s .refusal));
         seeks = λ g. (h, s);
       }

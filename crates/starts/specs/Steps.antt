@@ -105,7 +105,7 @@ startPlan finishing noh b c t x =
 abbrev pub chosenStored : List ℕ → Session → ℕ → Flags → Chosen
 chosenStored tb c b f =
     record {
-      number = roomRefusal tb c b f;
+      refusal = roomRefusal tb c b f;
       rule = choose tb (view c) b f .rule;
       effect = effectIn (view c) (choose tb (view c) b f);
       place = placeOf (choose tb (view c) b f .found);

@@ -4,7 +4,7 @@ use contract.Running.{givenOf, tables, tablesOf}
 use denote.Ref.{now}
 use denote.Triple.Spec.{tripleOf}
 use denote.Triple.Table.{entered, cited}
-use Rattle.recording.specs.Steps.{calledStored}
+use Rattle.recording.specs.OneCall.{calledStored}
 use Rattle.recording.proofs.play_call.Met as core-thm
 use Rattle.recording.proofs.play_call.Symbol as core-def
 use Rattle.recording.proofs.play_call.Symbol.{name as #core}

@@ -6,7 +6,7 @@ use lib.ListN.{length, getD}
 use borrow.Author.Needs.{needs}
 use Rattle.records.specs.Records.{wordAt}
 use Rattle.recording.specs.CallBytes.{imageLength}
-use Rattle.recording.proofs.Steps.{few-cut, image-cut, image-whole, length-cut, length-whole}
+use Rattle.recording.proofs.OneCall.{few-cut, image-cut, image-whole, length-cut, length-whole}
 use Rattle.recording.proofs.call_length.Statement.{statement}
 use Rattle.recording.proofs.call_length.Tie as tie
 

@@ -8,7 +8,7 @@ use Rattle.records.specs.Records.{wordAt}
 use Rattle.navigator.proofs.Promise3Laws.{promise3}
 use Rattle.calls.specs.declared.Reply.{Reply}
 use Rattle.recording.specs.CallBytes.{imageLength}
-use Rattle.recording.proofs.Steps.{few-cut, image-cut, image-whole, called-cut, called-restore, called-other, called-keeps}
+use Rattle.recording.proofs.OneCall.{few-cut, image-cut, image-whole, called-cut, called-restore, called-other, called-keeps}
 use Rattle.recording.proofs.play_call.Statement.{statement}
 use Rattle.recording.proofs.play_call.Tie as tie
 

@@ -9,7 +9,7 @@ use Rattle.records.proofs.Asking.{asked-request}
 use Rattle.calls.specs.StoredCalls.{sharedRefusal, replyStored}
 use Rattle.calls.proofs.Settling.{shared-passed}
 use Rattle.recording.specs.CallBytes.{callOf}
-use Rattle.recording.proofs.Steps.{asked-reply}
+use Rattle.recording.proofs.OneCall.{asked-reply}
 use Rattle.recording.proofs.reply_to.Statement.{statement}
 use Rattle.recording.proofs.reply_to.Tie as tie
 

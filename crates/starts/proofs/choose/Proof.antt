@@ -71,7 +71,7 @@ returns c =
     let e = chosen (effect .before) in
     let d = effect .effect-of .ensures ∙ ap (effectIn (view (a .s))) e in
     record {
-      number = c .before .room-refusal .ensures
+      refusal = c .before .room-refusal .ensures
           ∙ sym (room-read (view (a .s)) (a .t) (low start) tb (a .b) f (subst (λ (x : Choice). Shows (view (a .s)) (x .found) (a .t)) e (shows start)) (counted tb (a .s) (a .b) (sizes start) (start .pre .0)) d);
       rule = ap (λ (x : Choice). x .rule) e;
       effect = d;

@@ -30,7 +30,7 @@ returns c =
     let group = found .before in
     let start = group .before .before .before .before in
     record {
-      number = refl;
+      refusal = refl;
       group = group .group-of .ensures _ (front-screen (start .args .t2) (start .pre .some) ∙ sym (group .before .top .ensures));
       found = found .sought-by .ensures;
       index = c .index-of .ensures;

@@ -20,7 +20,7 @@ use Rattle.navigator.specs.Records.{playedStored}
 use Rattle.navigator.proofs.FirstRecord.{first-whole}
 use Rattle.recording.specs.CallBytes.{restoreKind, imageLength, callAsked, callOf, firstImage, firstCall, firstWhole}
 use Rattle.recording.specs.Counts.{replyTo}
-use Rattle.recording.specs.Steps.{calledStored, callLength}
+use Rattle.recording.specs.OneCall.{calledStored, callLength}
 
 -- what a record asks for, as a call or none
 pub asked-reply : (tb : List ℕ) (c : Session) (q : Request) → replyStored tb c q ≡ replyTo tb c (callAsked q)
