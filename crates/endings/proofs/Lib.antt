@@ -2,3 +2,4 @@ pub mod Parts
 pub mod Tables
 pub mod Numbers
 pub mod Verdicts
+pub mod Sharing

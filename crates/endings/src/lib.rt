@@ -12,7 +12,9 @@ ghost use Rattle.model.specs.Written.{written};
 ghost use Rattle.session.specs.Stored.{hold, Ready};
 ghost use Rattle.difference.specs.Apart.{mostBacks, FirstApart};
 ghost use Rattle.notes.specs.Places.{Tells};
+ghost use Rattle.recording.specs.CallBytes.{firstWhole};
 ghost use Rattle.endings.specs.Endings.{endingOf, ignoredIn};
+ghost use Rattle.endings.specs.Shares.{isIn, headerOf, bytesIn, recordsOf, Shares};
 ghost use Rattle.endings.specs.Verdict.{lastKind, verdictText, longestVerdict};
 use difference::Difference;
 use notes::Notes;
@@ -58,6 +60,94 @@ pub fn ignored(input: &[u8]) -> Notes
     let end = table_end(input);
     recording::ignored(input, end)
 }
+
+// ---- what its bytes are taken for
+
+// What the bytes of a record are taken for: an image, which a whole restore brings; nothing, since it is no call; an image that
+// is cut.
+pub enum Share {
+    Images,
+    LeftOut,
+    CutImage,
+}
+
+// The records of a recording that are in a share: how many, the number of the first, counted from 1, and their bytes there.
+pub struct Portion {
+    pub records: Notes,
+    pub bytes: usize,
+}
+
+// The record in these bytes is whole, a restore with its image.
+fn is_whole(bytes: &[u8]) -> bool
+    ensures { λ r. ⌜ r ≡ firstWhole (now (bytes .entry)) ⌝ }
+{
+    if bytes.len() < 6 {
+        return false;
+    }
+    if bytes[0] != 6 {
+        return true;
+    }
+    flags::word_at(bytes, 0) as usize <= bytes.len() - 6
+}
+
+// It is in the share.
+fn is_in(share: Share, bytes: &[u8]) -> bool
+    requires { ⌜ 0 < length (now bytes) ⌝ }
+    ensures { λ r. ⌜ r ≡ isIn share (now (bytes .entry)) ⌝ }
+{
+    let whole = is_whole(bytes);
+    let kind = bytes[0];
+    match share {
+        Share::Images => whole & (kind == 6),
+        Share::LeftOut => !whole | ((kind == 0) | (kind > 6)),
+        Share::CutImage => !whole & (6 <= bytes.len()),
+    }
+}
+
+// How many bytes before the share are no part of it.
+fn header_of(share: Share) -> usize
+    ensures { λ r. ⌜ r ≡ headerOf share ⌝ }
+{
+    match share {
+        Share::Images => 6,
+        Share::LeftOut => 0,
+        Share::CutImage => 6,
+    }
+}
+
+// How many of its bytes are in the share.
+fn bytes_in(share: Share, bytes: &[u8]) -> usize
+    requires { ⌜ 0 < length (now bytes) ⌝ }
+    ensures { λ r. ⌜ r ≡ bytesIn share (now (bytes .entry)) ⌝ }
+{
+    if !is_in(share, bytes) {
+        return 0;
+    }
+    bytes.len() - header_of(share)
+}
+
+// Which records of a recording are in the share, and how many bytes.
+pub fn portion_of(input: &[u8], share: Share) -> Portion
+    ensures { λ r. ⌜ Shares share (recordsOf (now (input .entry))) r ⌝ }
+{
+    let mut met = Notes::none();
+    let mut bytes: usize = 0;
+    let mut i: usize = 1;
+    let mut p = table_end(input);
+    while p < input.len() {
+        let end = p + recording::call_length(&input[p..]);
+        met = met.noted(is_in(share, &input[p..end]), i);
+        bytes += bytes_in(share, &input[p..end]);
+        i += 1;
+        p = end;
+    }
+    Portion {
+        records: met,
+        bytes: bytes,
+    }
+}
+
+// ---- endings
 
 // The session after a recording's calls.
 fn ending_of(input: &[u8]) -> Session
