@@ -4,10 +4,13 @@
 
 ghost use Prim.Native.Nat.{_≤_};
 ghost use mathlib.Core.Path.{_≡_};
+ghost use mathlib.Core.Logic.{_↔_};
 ghost use mathlib.Core.Bool.{true, false};
 ghost use lib.ListN.{length, take};
 ghost use Rattle.model.specs.Table.{tableRefusal};
 ghost use Rattle.model.specs.Player.{tableIn};
+ghost use Rattle.endings.specs.Shares.{cutImages};
+use endings::Share;
 use libc::STDERR_FILENO;
 use libc::STDOUT_FILENO;
 
@@ -30,6 +33,21 @@ fn complain(path: &[u8], what: &[u8]) {
     io::write_all(STDERR_FILENO, what);
 }
 
+// Warns of what restores bring: a damaged byte may have made one of another call.
+fn warn_of_images(path: &[u8], recording: &[u8]) {
+    let images = endings::portion_of(recording, Share::Images);
+    let restores = images.records;
+    if restores.count == 0 {
+        return;
+    }
+    io::write_all(STDERR_FILENO, b"warning: ");
+    complain(path, b": bytes taken as images of restores: ");
+    io::print_decimal(STDERR_FILENO, images.bytes as u64);
+    io::write_all(STDERR_FILENO, b", from record ");
+    io::print_decimal(STDERR_FILENO, restores.first as u64);
+    io::write_all(STDERR_FILENO, b" on\n");
+}
+
 // Warns of a recording's records that are no call.
 fn warn(path: &[u8], recording: &[u8]) {
     let ignored = endings::ignored(recording);
@@ -44,7 +62,33 @@ fn warn(path: &[u8], recording: &[u8]) {
     io::print_decimal(STDERR_FILENO, ignored.count as u64);
     io::write_all(STDERR_FILENO, b", the first at byte ");
     io::print_decimal(STDERR_FILENO, ignored.first as u64);
+    let left = endings::portion_of(recording, Share::LeftOut);
+    let numbers = left.records;
+    io::write_all(STDERR_FILENO, b"; bytes left out: ");
+    io::print_decimal(STDERR_FILENO, left.bytes as u64);
+    io::write_all(STDERR_FILENO, b", from record ");
+    io::print_decimal(STDERR_FILENO, numbers.first as u64);
+    io::write_all(STDERR_FILENO, b" on\n");
+}
+
+// The recording ends within a restore, which may have swallowed the rest; it says so.
+fn ends_within(path: &[u8], recording: &[u8]) -> bool
+    ensures { λ r. ⌜ (r ≡ false) ↔ (cutImages (now (recording .entry)) ≡ 0) ⌝ }
+{
+    let cut = endings::portion_of(recording, Share::CutImage);
+    let restores = cut.records;
+    if restores.count == 0 {
+        return false;
+    }
+    complain(
+        path,
+        b": ends within a restore, so there is no verdict; it is record ",
+    );
+    io::print_decimal(STDERR_FILENO, restores.first as u64);
+    io::write_all(STDERR_FILENO, b", and bytes of its image are there: ");
+    io::print_decimal(STDERR_FILENO, cut.bytes as u64);
     io::write_all(STDERR_FILENO, b"\n");
+    true
 }
 
 // Reads all that is left of an open file into the buffer.
@@ -82,10 +126,11 @@ fn read_file(path: &[u8], buffer: &mut [u8]) -> Loaded
     file
 }
 
-// Reads the recording with this path into the buffer. It begins with a good table.
+// Reads the recording with this path into the buffer. It begins with a good table, and does not end within a restore.
 fn read_recording(path: &[u8], buffer: &mut [u8]) -> Loaded
     ensures bound { λ r. ⌜ r .long ≤ length (now (buffer .exit)) ⌝ }
     ensures table { λ r. ⌜ (r .ok ≡ true → tableRefusal (tableIn (take (r .long) (now (buffer .exit)))) ≡ 0) ⌝ }
+    ensures whole { λ r. ⌜ (r .ok ≡ true → cutImages (take (r .long) (now (buffer .exit))) ≡ 0) ⌝ }
 {
     let recording = read_file(path, buffer);
     if !recording.ok {
@@ -99,6 +144,10 @@ fn read_recording(path: &[u8], buffer: &mut [u8]) -> Loaded
         io::write_all(STDERR_FILENO, b"\n");
         return unread();
     }
+    if ends_within(path, &buffer[..long]) {
+        return unread();
+    }
+    warn_of_images(path, &buffer[..long]);
     warn(path, &buffer[..long]);
     recording
 }
@@ -107,6 +156,7 @@ fn read_recording(path: &[u8], buffer: &mut [u8]) -> Loaded
 fn load(place: usize, buffer: &mut [u8]) -> Loaded
     ensures bound { λ r. ⌜ r .long ≤ length (now (buffer .exit)) ⌝ }
     ensures table { λ r. ⌜ (r .ok ≡ true → tableRefusal (tableIn (take (r .long) (now (buffer .exit)))) ≡ 0) ⌝ }
+    ensures whole { λ r. ⌜ (r .ok ≡ true → cutImages (take (r .long) (now (buffer .exit))) ≡ 0) ⌝ }
 {
     let mut path = io::buffer();
     let n = os::arg(place, &mut path);
@@ -120,6 +170,7 @@ fn load(place: usize, buffer: &mut [u8]) -> Loaded
 // Prints the verdict on two recordings, or says that their tables differ.
 fn tell(first: &[u8], second: &[u8])
     requires { ⌜ tableRefusal (tableIn (now first)) ≡ 0 ⌝ }
+    requires { ⌜ (cutImages (now first) ≡ 0) × (cutImages (now second) ≡ 0) ⌝ }
 {
     if !endings::same_table(first, second) {
         io::write_all(STDERR_FILENO, b"the tables differ\n");

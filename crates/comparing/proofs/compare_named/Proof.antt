@@ -40,8 +40,11 @@ slice-aggregate-tell-2 c = sym (length-take-le _ _ (array-share-prefix-second (c
 
 tell-requires : tie.Need-tell-requires
 tell-requires c κs =
-    let passed = c .before .before .before .before .before .before .before in
-    passed .before .before .before .load .ensures .1 (not-false _ (passed .if1 .left))
+    let other = c .before .before in
+    let passed = other .before .before .before .before .before in
+    let load = passed .before .before .before .load .ensures .1 in
+    let ok = not-false _ (passed .if1 .left) in
+    (load .0 ok, (load .1 ok, other .before .before .before .load2 .ensures .1 .1 (not-false _ (other .if2 .left))))
 
 returns-3 : tie.Need-returns-3
 returns-3 c = search needs

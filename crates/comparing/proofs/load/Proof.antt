@@ -27,7 +27,7 @@ unread-requires : tie.Need-unread-requires
 unread-requires c κs = search needs
 
 returns : tie.Need-returns
-returns c = rw (c .unread .ensures) (zero-le, λ h. absurd (false≢true h))
+returns c = rw (c .unread .ensures) (zero-le, (λ h. absurd (false≢true h), λ h. absurd (false≢true h)))
 
 array-share-prefix-path : tie.Need-array-share-prefix-path
 array-share-prefix-path c = search needs

@@ -19,7 +19,7 @@ returns : tie.Need-returns
 returns c = search needs
 
 compare-requires : tie.Need-compare-requires
-compare-requires c κs = (c .before .before .before .before .pre, c .before .same-table .ensures .0 (not-false _ (c .if1 .left)))
+compare-requires c κs = (c .before .before .before .before .pre .0, c .before .same-table .ensures .0 (not-false _ (c .if1 .left)))
 
 slice-aggregate-write-verdict : tie.Need-slice-aggregate-write-verdict
 slice-aggregate-write-verdict c = search needs
