@@ -42,7 +42,7 @@ fn image_length(kind: u8, word: u32) -> usize
 }
 
 // What the call of one whole record gives, with the image that follows it. An unknown kind is no call.
-fn reply_to(table: &[u8], s: Session, kind: u8, b: u8, word: u32, image: &[u8]) -> Reply
+fn reply_with_image(table: &[u8], s: Session, kind: u8, b: u8, word: u32, image: &[u8]) -> Reply
     requires { ⌜ Ready (now table) s ⌝ }
     ensures { λ r. ⌜ r ≡ replyTo (now (table .entry)) s (callOf kind b word (now (image .entry))) ⌝ }
 {
@@ -160,7 +160,7 @@ fn after_calls(table: &[u8], begun: Session, calls: &[u8]) -> Counted
         }
         p = from + n;
         created += wide(created_for(table, s, kind, b, word));
-        let reply = reply_to(table, s, kind, b, word, &calls[from..p]);
+        let reply = reply_with_image(table, s, kind, b, word, &calls[from..p]);
         let answer = reply.answer;
         closed += wide(answer.closed);
         s = reply.session;

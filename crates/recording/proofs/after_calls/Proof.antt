@@ -72,8 +72,8 @@ add-created c =
     let few = reached-created (l .loop .inv) (good (l .before .before .before)) (whole passed .0) (word .result) (n .result) (word .ensures) (n .ensures) (whole passed .1) _ refl (c .before .created-for .result) (c .before .created-for .ensures) in
     omega (arith, few, c .wide .ensures)
 
-reply-to-requires : tie.Need-reply-to-requires Inv-loop μ-loop
-reply-to-requires c κs =
+reply-with-image-requires : tie.Need-reply-with-image-requires Inv-loop μ-loop
+reply-with-image-requires c κs =
     let l = c .before .before .before .before .before .before .before .before .before in
     reached-ready (l .loop .inv) (good (l .before .before .before))
 
@@ -84,7 +84,7 @@ add-closed c =
     let l = passed .before .before .before .before .before .before in
     let word = passed .before .before .word-at in
     let n = passed .before .image-length in
-    let low = reached-closed (l .loop .inv) (good (l .before .before .before)) (whole passed .0) (word .result) (n .result) (word .ensures) (n .ensures) (whole passed .1) (reply .reply-to .result) (reply .reply-to .ensures) in
+    let low = reached-closed (l .loop .inv) (good (l .before .before .before)) (whole passed .0) (word .result) (n .result) (word .ensures) (n .ensures) (whole passed .1) (reply .reply-with-image .result) (reply .reply-with-image .ensures) in
     omega (arith, low, c .wide2 .ensures, add-p passed)
 
 loop-again : tie.Need-loop-again Inv-loop μ-loop
@@ -97,7 +97,7 @@ loop-again c =
     let n = passed .before .image-length in
     rw (reply .before .before .wide .ensures, c .before .wide2 .ensures)
     (reached-more (l .loop .inv) (good (l .before .before .before)) (whole passed .0) (word .result) (n .result) (word .ensures) (n .ensures) (whole passed .1)
-    (reply .reply-to .result) (reply .reply-to .ensures) (made .created-for .result) (made .created-for .ensures))
+    (reply .reply-with-image .result) (reply .reply-with-image .ensures) (made .created-for .result) (made .created-for .ensures))
 
 returns-2 : tie.Need-returns-2 Inv-loop μ-loop
 returns-2 c =
@@ -127,7 +127,7 @@ after-calls-spec =
     (λ c. search needs)
     (λ c. search needs)
     (λ c. search needs)
-    reply-to-requires
+    reply-with-image-requires
     (λ c κs. search needs)
     add-closed
     (λ c. search needs)

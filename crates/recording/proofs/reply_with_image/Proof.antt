@@ -10,8 +10,8 @@ use Rattle.calls.specs.StoredCalls.{sharedRefusal, replyStored}
 use Rattle.calls.proofs.Settling.{shared-passed}
 use Rattle.recording.specs.CallBytes.{callOf}
 use Rattle.recording.proofs.OneCall.{asked-reply}
-use Rattle.recording.proofs.reply_to.Statement.{statement}
-use Rattle.recording.proofs.reply_to.Tie as tie
+use Rattle.recording.proofs.reply_with_image.Statement.{statement}
+use Rattle.recording.proofs.reply_with_image.Tie as tie
 
 -- no shared check refuses
 passed : (c : tie.Start) → 0 ≡ sharedRefusal (c .args .table .now) (c .args .s)
@@ -35,5 +35,5 @@ returns-2 c =
     rw (ne-eqb (a .kind) 6 (c .before .before .if1 .left))
     (c .reply-to .ensures ∙ ap (replyStored (a .table .now) (a .s)) request ∙ asked-reply (a .table .now) (a .s) (requestOf (a .kind) (a .b) (a .word)))
 
-pub reply-to-spec : {M : Type 1} → statement M
-reply-to-spec = tie.close (tie.spec restore-requires returns (λ c κs. search needs) reply-to-requires returns-2)
+pub reply-with-image-spec : {M : Type 1} → statement M
+reply-with-image-spec = tie.close (tie.spec restore-requires returns (λ c κs. search needs) reply-to-requires returns-2)
