@@ -75,6 +75,10 @@ pub record Plannable (tb : List ℕ) (c : Session) (b : ℕ) (f : Flags) (t : Ta
   pub task : t ≡ taskBehind c (indexOf (choose tb (view c) b f .found))
   pub room : x .refusal ≡ 0
 
+-- under some table and with some flags
+abbrev pub PlannableSomehow : Session → ℕ → Task → Chosen → Type 0
+PlannableSomehow c b t x = (tb : List ℕ) × ((f : Flags) × (Startable tb c b × Plannable tb c b f t x))
+
 -- the rule chosen for a start of b, and the removal where the caller closes; t is the task at the index of the task found
 module _ (caller : Bool) (b : ℕ) (c : Session) (t : Task) (x : Chosen) where
   abbrev pub planShift : ℕ

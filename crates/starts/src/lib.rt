@@ -2,14 +2,13 @@
 // known before anything is put, so a refused start's plan changes nothing.
 
 ghost use mathlib.Core.Path.{_≡_};
-ghost use Rattle.model.specs.Flags.{flagsOf};
 ghost use Rattle.model.specs.Calls.{callerCloses, noHistoryAfter};
 ghost use Rattle.model.specs.Table.{tableRefusal};
 ghost use Rattle.model.specs.Refusals.{refusal as refusalOf};
 ghost use Rattle.session.specs.Stored.{Ready, taskBehind};
 ghost use Rattle.rules.specs.Startable.{Startable};
 ghost use Rattle.starts.specs.Checks.{startEntry};
-ghost use Rattle.starts.specs.Steps.{noneSought, Seeks, SoughtFrom, Chooses, markIf, Plannable, carryingPlan, startPlan, Planned, planStored, ruleStored, createdStored};
+ghost use Rattle.starts.specs.Steps.{noneSought, Seeks, SoughtFrom, Chooses, markIf, PlannableSomehow, carryingPlan, startPlan, Planned, planStored, ruleStored, createdStored};
 use model::Effect;
 use model::Flags;
 use model::Found;
@@ -77,7 +76,7 @@ fn seek_task(table: &[u8], s: Session, b: u8, f: Flags) -> Sought
     }
 }
 
-// What a start seeks; number is the refusal of the checks before its own.
+// What a start seeks; refusal is that of the checks before its own.
 pub fn seek(table: &[u8], s: Session, b: u8, word: u32, refusal: u8) -> Sought
     requires { ⌜ (refusal ≡ 0 → Ready (now table) s) ⌝ }
     ensures { λ r. ⌜ SoughtFrom (now (table .entry)) s b word refusal r ⌝ }
@@ -150,16 +149,8 @@ fn mark_if(closes: bool, effect: Effect, place: u8, same: bool) -> Mark
 }
 
 // The plan of the rule chosen, and of the removal where the caller closes; t is the task at the index of the task found.
-fn carrying_plan(
-    table: &[u8],
-    s: Session,
-    t: Task,
-    chosen: Chosen,
-    b: u8,
-    word: u32,
-    closes: bool,
-) -> Plan
-    requires { ⌜ Startable (now table) s b × Plannable (now table) s b (flagsOf word) t chosen ⌝ }
+fn carrying_plan(s: Session, t: Task, chosen: Chosen, b: u8, closes: bool) -> Plan
+    requires { ⌜ PlannableSomehow s b t chosen ⌝ }
     ensures { λ r. ⌜ r ≡ carryingPlan closes b s t chosen ⌝ }
 {
     let front = s.tasks[0];
@@ -174,25 +165,16 @@ fn carrying_plan(
     plans::closing_plan(mark, next, front.height, shift, n, main, s.edition, closed)
 }
 
-// The same, with the No-History mark that the start leaves.
-fn start_plan(
-    table: &[u8],
-    s: Session,
-    t: Task,
-    chosen: Chosen,
-    b: u8,
-    word: u32,
-    finishing: bool,
-) -> Plan
-    requires { ⌜ Startable (now table) s b × Plannable (now table) s b (flagsOf word) t chosen ⌝ }
-    ensures { λ r. ⌜ r ≡ startPlan finishing (flagsOf word .noh) b s t chosen ⌝ }
+// The same, with the No-History mark that the start leaves, where noh is the flag.
+fn start_plan(s: Session, t: Task, chosen: Chosen, b: u8, noh: bool, finishing: bool) -> Plan
+    requires { ⌜ PlannableSomehow s b t chosen ⌝ }
+    ensures { λ r. ⌜ r ≡ startPlan finishing noh b s t chosen ⌝ }
 {
     let rule = chosen.rule;
     let effect = chosen.effect;
     let closes = caller_closes(finishing, s.no_history, rule);
-    let f = flags::read(word);
-    let mut out = carrying_plan(table, s, t, chosen, b, word, closes);
-    out.no_history = no_history_after(finishing, s.no_history, f.noh, rule, effect);
+    let mut out = carrying_plan(s, t, chosen, b, closes);
+    out.no_history = no_history_after(finishing, s.no_history, noh, rule, effect);
     out
 }
 
@@ -222,7 +204,8 @@ pub fn decide(
             rule: Rule::R18,
         };
     }
-    let chosen = choose(table, s, t, sought, b, flags::read(word));
+    let f = flags::read(word);
+    let chosen = choose(table, s, t, sought, b, f);
     let rule = chosen.rule;
     if chosen.refusal != 0 {
         return Decided {
@@ -231,7 +214,7 @@ pub fn decide(
         };
     }
     Decided {
-        plan: start_plan(table, s, t, chosen, b, word, finishing),
+        plan: start_plan(s, t, chosen, b, f.noh, finishing),
         rule: rule,
     }
 }

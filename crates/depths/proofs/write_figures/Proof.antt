@@ -40,7 +40,7 @@ returns-2 c =
 
 -- where all but the last two are written
 abbrev Most : Type 0
-Most = tie.After-put3
+Most = tie.After-write-decimal3
 
 abbrev begun : Most → tie.Start
 begun c = c .before .before .before .before .before .before

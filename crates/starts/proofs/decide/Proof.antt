@@ -1,8 +1,9 @@
 -- `starts::decide` meets its contract: refused before, refused for want of room, or planned.
-use mathlib.Core.Path.{_∙_}
+use mathlib.Core.Path.{_∙_, ap}
 use borrow.Author.Needs.{needs}
+use Rattle.model.specs.declared.Flags.{Flags}
 use Rattle.model.specs.Flags.{flagsOf}
-use Rattle.starts.specs.Steps.{Chooses}
+use Rattle.starts.specs.Steps.{Chooses, startPlan}
 use Rattle.starts.proofs.Seeking.{unless-refused, planned-full, chosen-plannable, planned-roomy, rule-refused, rule-chosen}
 use Rattle.starts.proofs.decide.Statement.{statement}
 use Rattle.starts.proofs.decide.Tie as tie
@@ -42,7 +43,8 @@ start-plan-requires c κs =
     let start = passed .before .before .before in
     let a = start .args in
     let p = start .pre (passed .if1 .left) in
-    (p .0, chosen-plannable (a .table .now) (a .s) (a .b) (a .word) (a .sought .refusal) (passed .if1 .left) (a .finishing) (chooses chose) (c .if2 .left) (p .1 .1))
+    let room = chosen-plannable (a .table .now) (a .s) (a .b) (a .word) (a .sought .refusal) (passed .if1 .left) (a .finishing) (chooses chose) (c .if2 .left) (p .1 .1) in
+    (a .table .now, (flagsOf (a .word), (p .0, room)))
 
 returns-3 : tie.Need-returns-3
 returns-3 c =
@@ -52,6 +54,7 @@ returns-3 c =
     let a = start .args in
     let p = start .pre (passed .if1 .left) in (
       c .start-plan .ensures
+          ∙ ap (λ (f : Flags). startPlan (a .finishing) (f .noh) (a .b) (a .s) (a .t) (chose .choose .result)) (chose .before .read .ensures)
           ∙ planned-roomy (a .table .now) (a .s) (a .b) (a .word) (a .sought .refusal) (passed .if1 .left) (a .finishing) (chooses chose)
           (c .before .if2 .left) (p .1 .1),
       rule-chosen (a .table .now) (a .s) (a .b) (a .word) (a .sought .refusal) (passed .if1 .left) (chooses chose .rule),

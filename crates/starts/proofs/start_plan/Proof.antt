@@ -4,14 +4,13 @@ use Rattle.starts.proofs.start_plan.Statement.{statement}
 use Rattle.starts.proofs.start_plan.Tie as tie
 
 carrying-plan-requires : tie.Need-carrying-plan-requires
-carrying-plan-requires c κs = c .before .before .before .pre
+carrying-plan-requires c κs = c .before .pre
 
 returns : tie.Need-returns
 returns c =
-    let read = c .before .before in
-    rw (c .no-history-after .ensures, c .before .carrying-plan .ensures, read .read .ensures, read .before .caller-closes .ensures)
+    rw (c .no-history-after .ensures, c .before .carrying-plan .ensures, c .before .before .caller-closes .ensures)
 
 pub start-plan-spec : {M : Type 1} → statement M
 start-plan-spec =
     tie.close
-    (tie.spec (λ c κs. search needs) (λ c κs. search needs) carrying-plan-requires (λ c κs. search needs) returns)
+    (tie.spec (λ c κs. search needs) carrying-plan-requires (λ c κs. search needs) returns)
