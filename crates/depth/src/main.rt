@@ -3,5 +3,5 @@
 use libc::STDIN_FILENO;
 
 fn main() {
-    measuring::report_on(STDIN_FILENO);
+    depth_files::report_on(STDIN_FILENO);
 }

@@ -2,7 +2,7 @@
 // sentence. Its stdin here is document 01's example.
 use libc::STDERR_FILENO;
 use libc::STDIN_FILENO;
-use playing::Manner;
+use player_files::Manner;
 
 // The first argument is `--words`.
 fn words_asked() -> bool {
@@ -14,11 +14,11 @@ fn words_asked() -> bool {
 fn main() {
     let count = os::arg_count();
     if count <= 1 {
-        playing::play_from(STDIN_FILENO, Manner::Reasons);
+        player_files::play_from(STDIN_FILENO, Manner::Reasons);
         return;
     }
     if (count == 2) & words_asked() {
-        playing::play_from(STDIN_FILENO, Manner::Sentences);
+        player_files::play_from(STDIN_FILENO, Manner::Sentences);
         return;
     }
     io::write_all(STDERR_FILENO, b"usage: explain [--words]\n");

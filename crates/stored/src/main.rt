@@ -32,7 +32,7 @@
 // and R7. The reasons in the other inputs are from the second navigator. The screens closed and the edition of each other line were
 // made twice, by scripts written from the documents and by the second navigator, and both agree.
 use libc::STDOUT_FILENO;
-use playing::Manner;
+use player_files::Manner;
 
 // Plays the file with this path.
 fn play_file(path: &[u8], manner: Manner) {
@@ -43,7 +43,7 @@ fn play_file(path: &[u8], manner: Manner) {
     }
     io::write_all(STDOUT_FILENO, path);
     io::write_all(STDOUT_FILENO, b"\n");
-    playing::play_from(fd, manner);
+    player_files::play_from(fd, manner);
     libc::close(fd);
 }
 

@@ -28,7 +28,7 @@ fn compare_pair(place: usize) {
     let first = place - 1;
     show(first, b" ");
     show(place, b"\n");
-    comparing::compare_named(first, place);
+    same_files::compare_named(first, place);
 }
 
 fn main() {
