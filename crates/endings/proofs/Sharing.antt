@@ -11,7 +11,7 @@ use lib.Seq.{drop-drop, length-take-le}
 use borrow.Author.Tests.{leb-true, leb-false, lt-leb, le-leb, eq-eqb, ne-eqb}
 use Rattle.model.specs.Lists.{if_then_else_, sumOf}
 use Rattle.model.proofs.Logic.{and-left, and-right, if-elim}
-use Rattle.flags.specs.Words.{wordAt}
+use Rattle.records.specs.Records.{wordAt}
 use Rattle.notes.specs.declared.Notes.{Notes}
 use Rattle.notes.specs.Places.{placeIf, Tells, notedAt}
 use Rattle.notes.proofs.Noting.{place-few, tells-noted}

@@ -87,7 +87,7 @@ fn is_whole(bytes: &[u8]) -> bool
     if bytes[0] != 6 {
         return true;
     }
-    flags::word_at(bytes, 0) as usize <= bytes.len() - 6
+    records::word_at(bytes, 0) as usize <= bytes.len() - 6
 }
 
 // It is in the share.
