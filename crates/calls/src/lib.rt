@@ -44,7 +44,7 @@ pub fn refuse(s: Session, refusal: u8) -> Reply
     }
 }
 
-// Look changes nothing.
+// Look changes nothing. The table is there for the contract, which names the whole call.
 pub fn look(table: &[u8], s: Session, shared: u8) -> Reply
     requires { ⌜ shared ≡ sharedRefusal (now table) s ⌝ }
     ensures { λ r. ⌜ r ≡ callStored (now (table .entry)) s Call.look ⌝ }
@@ -150,7 +150,7 @@ pub fn launch(table: &[u8], s: Session, edition: u8, shared: u8) -> Reply
     }
 }
 
-// Back, on a session that is not empty.
+// Back, on a session that is not empty. The table is there for the contract, as a look's is.
 pub fn back(table: &[u8], s: Session, shared: u8) -> Reply
     requires { ⌜ shared ≡ sharedRefusal (now table) s ⌝ }
     ensures { λ r. ⌜ r ≡ callStored (now (table .entry)) s Call.back ⌝ }

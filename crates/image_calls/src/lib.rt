@@ -80,7 +80,7 @@ pub fn refuse_save(refusal: u8) -> SaveReply
     }
 }
 
-// Save: the image at the start of a buffer that is not shorter.
+// Save: the image at the start of a buffer that is not shorter. The table is there for the contract.
 pub fn save(table: &[u8], s: Session, out: &mut [u8]) -> SaveReply
     requires { ⌜ Ready (now table) s ⌝ }
     ensures { λ r. ⌜ saved r (now (out .exit)) ≡ saveStored (now (table .entry)) s (now (out .entry)) ⌝ }
