@@ -16,7 +16,7 @@ use Rattle.notes.specs.declared.Notes.{Notes}
 use Rattle.notes.specs.Places.{placeIf, Tells, notedAt}
 use Rattle.notes.proofs.Noting.{place-few, tells-noted}
 use Rattle.recording.specs.CallBytes.{restoreKind, imageLength, firstImage, firstWhole}
-use Rattle.recording.specs.Steps.{callLength}
+use Rattle.recording.specs.OneCall.{callLength}
 use Rattle.endings.specs.declared.Share.{Share}
 use Rattle.endings.specs.declared.Portion.{Portion}
 use Rattle.endings.specs.Shares.{recordsAmong, isIn, headerOf, bytesIn, numbersIn, Shares}

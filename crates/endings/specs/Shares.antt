@@ -10,7 +10,7 @@ use Rattle.model.specs.Player.{recordBytes}
 use Rattle.notes.specs.Places.{placeIf, Tells}
 use Rattle.recording.specs.CallBytes.{restoreKind, firstWhole}
 use Rattle.recording.specs.Ignored.{unknownKind}
-use Rattle.recording.specs.Steps.{callLength}
+use Rattle.recording.specs.OneCall.{callLength}
 use Rattle.endings.specs.declared.Share.{Share}
 use Rattle.endings.specs.declared.Portion.{Portion}
 

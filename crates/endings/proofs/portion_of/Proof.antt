@@ -13,7 +13,7 @@ use Rattle.model.specs.Player.{tableIn}
 use Rattle.line.proofs.Copies.{part-rest}
 use Rattle.notes.specs.declared.Notes.{Notes}
 use Rattle.notes.specs.Places.{notedAt}
-use Rattle.recording.specs.Steps.{callLength}
+use Rattle.recording.specs.OneCall.{callLength}
 use Rattle.endings.specs.Shares.{isIn, bytesIn}
 use Rattle.endings.proofs.Parts.{drop-taken}
 use Rattle.endings.proofs.Sharing.{call-fits, bytes-few, Passed, passed-start, passed-end, passed-more}
