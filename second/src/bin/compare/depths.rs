@@ -1,5 +1,5 @@
 //! Depth reports are compared: one line for a whole recording, and whether the
-//! program warned that not all of it is tallied.
+//! program warned that not all of it is tallied, or that it begins with no table.
 
 use std::cmp::Ordering;
 use std::fmt;
@@ -7,7 +7,7 @@ use std::time::Instant;
 
 use second::cases::{Case, Cases};
 use second::depth::Depth;
-use second::play::Played;
+use second::play::{Played, Player};
 use second::random::Random;
 use second::tally::MOST_CALLS;
 
@@ -110,7 +110,12 @@ impl Manner for Depths {
         let depth = depth.expect("bytes in memory can be read");
         self.0.add(&depth);
         self.1.add(&starts);
-        let warned = if depth.untallied > 0 { WARNED } else { &[] };
+        let player = Player::open(&mut &bytes[..]).expect("bytes in memory can be read");
+        let warned = if player.is_none() || depth.untallied > 0 {
+            WARNED
+        } else {
+            &[]
+        };
         let line = format!("{depth}\n");
         ([line.as_bytes(), warned].concat(), depth.calls())
     }
