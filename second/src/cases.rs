@@ -8,12 +8,24 @@ pub type Case<T> = (&'static str, fn(&T) -> bool);
 pub struct Cases<T: 'static> {
     cases: &'static [Case<T>],
     counts: Vec<u64>,
+    /// How often each is to come up.
+    least: u64,
 }
 
 impl<T> Cases<T> {
+    /// Cases that are to come up once.
     pub fn new(cases: &'static [Case<T>]) -> Cases<T> {
+        Cases::at_least(1, cases)
+    }
+
+    /// Cases that are each to come up so many times.
+    pub fn at_least(least: u64, cases: &'static [Case<T>]) -> Cases<T> {
         let counts = vec![0; cases.len()];
-        Cases { cases, counts }
+        Cases {
+            cases,
+            counts,
+            least,
+        }
     }
 
     pub fn add(&mut self, seen: &T) {
@@ -27,10 +39,14 @@ impl<T> Cases<T> {
         names.zip(self.counts.iter().copied())
     }
 
-    /// The names of those that never came up.
+    /// The names of those that never came up, or not often enough.
     pub fn missing(&self) -> Vec<String> {
-        let never = self.named().filter(|&(_, count)| count == 0);
-        never.map(|(name, _)| name.to_string()).collect()
+        let rare = self.named().filter(|&(_, count)| count < self.least);
+        rare.map(|(name, count)| match count {
+            0 => name.to_string(),
+            _ => format!("{name}, {count} of {} times", self.least),
+        })
+        .collect()
     }
 }
 

@@ -2,6 +2,8 @@
 //! were accepted and refused, and the greatest and the mean front height after
 //! those accepted.
 
+use std::cmp::Ordering;
+
 use crate::session::MAX_HEIGHT;
 use crate::Refusal;
 
@@ -61,6 +63,14 @@ impl Tally {
         })
     }
 
+    /// The whole tenths below the mean, where it lies in the middle between these and
+    /// one more. The tally is of a list.
+    pub fn half_above(&self) -> Option<u32> {
+        let (ten, accepted) = (10 * self.sum, u32::from(self.accepted));
+        let rest = ten.checked_rem(accepted)?;
+        (2 * rest == accepted).then(|| ten / accepted)
+    }
+
     /// How many calls are tallied.
     pub fn calls(&self) -> u32 {
         u32::from(self.accepted) + u32::from(self.refused)
@@ -87,12 +97,18 @@ impl Report {
 }
 
 /// Ten times the mean of so many heights of this sum, which are at most 32 each:
-/// to the nearest, the half upward, and 0 where there are none.
+/// the nearest whole number, of two that are equally near the even one, and 0 where
+/// there are no heights.
 fn tenths(sum: u32, heights: u16) -> u16 {
     let heights = u32::from(heights);
     if heights == 0 {
         return 0;
     }
-    let (whole, rest) = (10 * sum / heights, 10 * sum % heights);
-    (whole + u32::from(2 * rest >= heights)) as u16
+    let (below, rest) = (10 * sum / heights, 10 * sum % heights);
+    let is_above = match (2 * rest).cmp(&heights) {
+        Ordering::Less => false,
+        Ordering::Equal => below % 2 == 1,
+        Ordering::Greater => true,
+    };
+    (below + u32::from(is_above)) as u16
 }

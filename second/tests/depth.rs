@@ -1,4 +1,4 @@
-//! The depth report of recordings, by hand from request 6.
+//! The depth report of recordings, by hand from requests 6 and 11.
 
 mod common;
 
@@ -49,13 +49,32 @@ fn the_papers_example() {
     assert_eq!(line(&T, &[starts, times(BACK, 4)].concat()), "7 1 3 14");
 }
 
+/// So many heights of 1, then so many of 2.
+fn ones_and_twos(ones: usize, twos: usize) -> Vec<u8> {
+    let ones = [times(LAUNCH, 1), times(LOOK, ones - 1)].concat();
+    [ones, times(START_1, 1), times(LOOK, twos - 1)].concat()
+}
+
 #[test]
-fn the_half_goes_upward() {
-    let first = [times(LAUNCH, 1), times(LOOK, 18), times(START_1, 1)].concat();
-    assert_eq!(line(&T, &first), "20 0 2 11");
-    let begin = [times(LAUNCH, 1), times(LOOK, 14)].concat();
-    let second = [begin, times(START_1, 1), times(LOOK, 4)].concat();
-    assert_eq!(line(&T, &second), "20 0 2 13");
+fn the_half_goes_to_the_even_neighbour() {
+    // 10.5, 12.5 and 11.5 tenths.
+    assert_eq!(line(&T, &ones_and_twos(19, 1)), "20 0 2 10");
+    assert_eq!(line(&T, &ones_and_twos(15, 5)), "20 0 2 12");
+    assert_eq!(line(&T, &ones_and_twos(17, 3)), "20 0 2 12");
+    // 0.5 and 1.5.
+    let low = [times(LOOK, 19), times(LAUNCH, 1)].concat();
+    assert_eq!(line(&T, &low), "20 0 1 0");
+    let three = [times(LOOK, 17), times(LAUNCH, 1), times(LOOK, 2)].concat();
+    assert_eq!(line(&T, &three), "20 0 1 2");
+}
+
+#[test]
+fn what_is_no_half_goes_to_the_nearest() {
+    // 10.6 and 10.4 tenths, 11.6 and 11.4.
+    assert_eq!(line(&T, &ones_and_twos(47, 3)), "50 0 2 11");
+    assert_eq!(line(&T, &ones_and_twos(48, 2)), "50 0 2 10");
+    assert_eq!(line(&T, &ones_and_twos(42, 8)), "50 0 2 12");
+    assert_eq!(line(&T, &ones_and_twos(43, 7)), "50 0 2 11");
 }
 
 #[test]
@@ -69,7 +88,7 @@ fn accepted_calls_of_height_0_count() {
     assert_eq!(line(&T, &LOOK), "1 0 0 0");
     // One height of 1 among four, and then among five.
     let looks = [LOOK, LOOK, LOOK, LAUNCH].concat();
-    assert_eq!(line(&T, &looks), "4 0 1 3");
+    assert_eq!(line(&T, &looks), "4 0 1 2");
     let backs = [LOOK, LOOK, LOOK, LAUNCH, BACK].concat();
     assert_eq!(line(&T, &backs), "5 0 1 2");
 }

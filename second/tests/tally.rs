@@ -1,4 +1,4 @@
-//! Tallies of answers and their reports, by hand from request 6.
+//! Tallies of answers and their reports, by hand from requests 6 and 11.
 
 use std::collections::HashSet;
 
@@ -13,17 +13,19 @@ const NOT_TALLIED: Result<(), Refusal> = Err(Refusal::NotTallied);
 /// Stretches of equal answers and the report of the list that they make.
 type Example = (&'static [(usize, Taken)], [u16; 4]);
 
-const EXAMPLES: [Example; 19] = [
+const EXAMPLES: [Example; 21] = [
     (&[], [0, 0, 0, 0]),
-    // 10.5 and 12.5 tenths; 13.3 and 16.7.
-    (&[(19, (0, 1)), (1, (0, 2))], [20, 0, 2, 11]),
-    (&[(15, (0, 1)), (5, (0, 2))], [20, 0, 2, 13]),
+    // 10.5, 12.5, 11.5 and 10.6 tenths; 13.3 and 16.7.
+    (&[(19, (0, 1)), (1, (0, 2))], [20, 0, 2, 10]),
+    (&[(15, (0, 1)), (5, (0, 2))], [20, 0, 2, 12]),
+    (&[(17, (0, 1)), (3, (0, 2))], [20, 0, 2, 12]),
+    (&[(47, (0, 1)), (3, (0, 2))], [50, 0, 2, 11]),
     (&[(2, (0, 1)), (1, (0, 2))], [3, 0, 2, 13]),
     (&[(1, (0, 1)), (2, (0, 2))], [3, 0, 2, 17]),
     // Heights of 0: a mean of 2.5 tenths, of half a tenth, and of less.
     (&[(5, (0, 0))], [5, 0, 0, 0]),
-    (&[(3, (0, 0)), (1, (0, 1))], [4, 0, 1, 3]),
-    (&[(19, (0, 0)), (1, (0, 1))], [20, 0, 1, 1]),
+    (&[(3, (0, 0)), (1, (0, 1))], [4, 0, 1, 2]),
+    (&[(19, (0, 0)), (1, (0, 1))], [20, 0, 1, 0]),
     (&[(20, (0, 0)), (1, (0, 1))], [21, 0, 1, 0]),
     // The height of a refused answer is not looked at.
     (&[(1, (21, 0)), (1, (9, 5)), (1, (255, 200))], [0, 3, 0, 0]),
@@ -78,7 +80,7 @@ struct Reading {
 const RIGHT: Reading = Reading {
     most: 65_535,
     highest: 32,
-    rounded: |ten, heights| (2 * ten + heights) / (2 * heights),
+    rounded: nearest,
     in_mean: |(refusal, _)| refusal == 0,
     in_greatest: |(refusal, _)| refusal == 0,
 };
@@ -106,14 +108,21 @@ fn reported(reading: Reading, stretches: &[(usize, Taken)]) -> [u16; 4] {
     [accepted as u64, refused as u64, greatest, tenths].map(|number| number as u16)
 }
 
-/// Half to the even neighbour.
-fn half_to_even(ten: u64, heights: u64) -> u64 {
-    let (whole, rest) = (ten / heights, ten % heights);
-    whole + u64::from(2 * rest + whole % 2 > heights)
+/// The number from which the quotient is at most a half away, and which is even where
+/// it is just that; by search.
+fn nearest(ten: u64, heights: u64) -> u64 {
+    let fits = |tenths: &u64| {
+        let away = (2 * ten).abs_diff(2 * tenths * heights);
+        away < heights || away == heights && tenths % 2 == 0
+    };
+    let mut all = (0..=2550).filter(fits);
+    let one = all.next().expect("a number fits");
+    assert_eq!(all.next(), None, "no other fits");
+    one
 }
 
 /// How wrong readings differ from the right one.
-const WRONG: [(&str, fn(&mut Reading)); 11] = [
+const WRONG: [(&str, fn(&mut Reading)); 13] = [
     ("truncated", |reading| {
         reading.rounded = |ten, heights| ten / heights
     }),
@@ -123,7 +132,21 @@ const WRONG: [(&str, fn(&mut Reading)); 11] = [
     ("half downward", |reading| {
         reading.rounded = |ten, heights| (2 * ten + heights - 1) / (2 * heights)
     }),
-    ("half to even", |reading| reading.rounded = half_to_even),
+    ("half upward", |reading| {
+        reading.rounded = |ten, heights| (2 * ten + heights) / (2 * heights)
+    }),
+    ("half to odd", |reading| {
+        reading.rounded = |ten, heights| {
+            let (below, rest) = (ten / heights, ten % heights);
+            below + u64::from(2 * rest + (below + 1) % 2 > heights)
+        }
+    }),
+    ("to the even neighbour, half or not", |reading| {
+        reading.rounded = |ten, heights| {
+            let below = ten / heights;
+            below + u64::from(ten % heights > 0) * (below % 2)
+        }
+    }),
     ("refused heights in the mean", |reading| {
         reading.in_mean = |_| true
     }),

@@ -1,11 +1,10 @@
 //! Gives one input to both programs and compares what they write.
 
 use std::fmt;
-use std::path::PathBuf;
 use std::time::Instant;
 
 use crate::lines::Lines;
-use crate::outside::{self, Output};
+use crate::outside::{Output, Outside, Program};
 
 /// An input: the bytes of a table, good or bad, and the bytes after it.
 #[derive(Clone)]
@@ -61,16 +60,16 @@ impl Written {
     }
 }
 
-pub struct Checker<M = Lines> {
-    program: PathBuf,
+pub struct Checker<M = Lines, O = Program> {
+    program: O,
     pub manner: M,
     pub records: u64,
     told: u64,
     runs: u64,
 }
 
-impl<M: Manner> Checker<M> {
-    pub fn new(program: PathBuf, manner: M) -> Checker<M> {
+impl<M: Manner, O: Outside> Checker<M, O> {
+    pub fn new(program: O, manner: M) -> Checker<M, O> {
         Checker {
             program,
             manner,
@@ -83,9 +82,9 @@ impl<M: Manner> Checker<M> {
     /// Gives the input to both.
     pub fn play(&mut self, input: &Input) -> Written {
         let bytes = input.bytes();
-        let (output, (here, records)) = outside::run(&self.program, &bytes, M::HEARS, || {
-            self.manner.expected(&bytes)
-        });
+        let (output, (here, records)) = self
+            .program
+            .run(&bytes, M::HEARS, || self.manner.expected(&bytes));
         Written {
             outside: output.and_then(M::compared),
             here,

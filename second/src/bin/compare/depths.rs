@@ -12,14 +12,14 @@ use second::random::Random;
 use second::tally::MOST_CALLS;
 
 use crate::check::{Checker, Difference, Manner};
-use crate::outside::Output;
+use crate::outside::{Output, Outside};
 use crate::{make, recordings, Options};
 
 /// What is compared after the line where there is a warning.
 const WARNED: &[u8] = b"(a warning)\n";
 
 /// What is to come up, and which recordings have it.
-const CASES: [Case<Depth>; 11] = [
+const CASES: [Case<Depth>; 10] = [
     ("no call", |depth| depth.calls() == 0),
     ("nothing accepted", |depth| {
         depth.calls() > 0 && depth.tally.accepted == 0
@@ -33,9 +33,6 @@ const CASES: [Case<Depth>; 11] = [
     ("a mean rounded down", |depth| {
         part(depth) == Some(Ordering::Less)
     }),
-    ("a mean with an exact half", |depth| {
-        part(depth) == Some(Ordering::Equal)
-    }),
     ("a mean rounded up past the half", |depth| {
         part(depth) == Some(Ordering::Greater)
     }),
@@ -47,6 +44,19 @@ const CASES: [Case<Depth>; 11] = [
         depth.calls() == u64::from(MOST_CALLS) + 1
     }),
     ("more calls than that", |depth| depth.untallied > 1),
+];
+
+/// How often each exact half is to come up.
+const EACH_HALF: u64 = 100;
+
+/// The means in the middle of two tenths.
+const HALVES: [Case<Depth>; 2] = [
+    ("an exact half, even below", |depth| {
+        depth.tally.half_above().is_some_and(|below| below % 2 == 0)
+    }),
+    ("an exact half, odd below", |depth| {
+        depth.tally.half_above().is_some_and(|below| below % 2 == 1)
+    }),
 ];
 
 /// How the part of a tenth that the mean has beside whole ones compares with the
@@ -93,11 +103,19 @@ impl Starts {
 }
 
 /// How many recordings had each case.
-pub struct Depths(Cases<Depth>, Cases<Starts>);
+pub struct Depths {
+    cases: Cases<Depth>,
+    halves: Cases<Depth>,
+    starts: Cases<Starts>,
+}
 
 impl Default for Depths {
     fn default() -> Depths {
-        Depths(Cases::new(&CASES), Cases::new(&STARTS))
+        Depths {
+            cases: Cases::new(&CASES),
+            halves: Cases::at_least(EACH_HALF, &HALVES),
+            starts: Cases::new(&STARTS),
+        }
     }
 }
 
@@ -108,8 +126,9 @@ impl Manner for Depths {
         let mut starts = Starts::default();
         let depth = Depth::read_each(bytes, |played| starts.add(played));
         let depth = depth.expect("bytes in memory can be read");
-        self.0.add(&depth);
-        self.1.add(&starts);
+        self.cases.add(&depth);
+        self.halves.add(&depth);
+        self.starts.add(&starts);
         let player = Player::open(&mut &bytes[..]).expect("bytes in memory can be read");
         let warned = if player.is_none() || depth.untallied > 0 {
             WARNED
@@ -137,21 +156,31 @@ impl Manner for Depths {
     }
 
     fn missing(&self) -> Vec<String> {
-        [self.0.missing(), self.1.missing()].concat()
+        let Depths {
+            cases,
+            halves,
+            starts,
+        } = self;
+        [cases.missing(), halves.missing(), starts.missing()].concat()
     }
 }
 
 impl fmt::Display for Depths {
     fn fmt(&self, f: &mut fmt::Formatter) -> fmt::Result {
         writeln!(f, "recordings with")?;
-        self.0.fmt(f)?;
-        self.1.fmt(f)
+        self.cases.fmt(f)?;
+        self.halves.fmt(f)?;
+        self.starts.fmt(f)
     }
 }
 
-pub fn run(options: &Options, checker: &mut Checker<Depths>) -> Result<(), Box<Difference>> {
+pub fn run(
+    options: &Options,
+    checker: &mut Checker<Depths, impl Outside>,
+) -> Result<(), Box<Difference>> {
     let begun = Instant::now();
-    for input in make::fixed().into_iter().chain(recordings::means()) {
+    let means = recordings::means().chain(recordings::halves());
+    for input in make::fixed().into_iter().chain(means) {
         checker.check(&input)?;
     }
     checker.tell("fixed recordings", begun);

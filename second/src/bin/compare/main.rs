@@ -16,7 +16,9 @@
 //! With `--depth` the program is one that writes the depth report of a recording,
 //! and warns on standard error where not all calls are tallied, and only there. It
 //! exits with 1 too if a way of rounding, an extreme of the report, a recording with
-//! too many calls or one with a No-History front never came up (see `depths`).
+//! too many calls or one with a No-History front never came up, or a mean in the middle
+//! of two tenths, with an even one below or an odd one, fewer than 100 times (see
+//! `depths`).
 
 mod check;
 mod counts;
@@ -31,6 +33,8 @@ mod outside;
 mod recordings;
 mod shrink;
 mod sweep;
+#[cfg(test)]
+mod tests;
 
 use std::path::PathBuf;
 use std::process::ExitCode;
@@ -40,6 +44,7 @@ use second::play::{push_explained, push_line, Writing};
 use check::{Checker, Difference, Manner};
 use depths::Depths;
 use lines::Lines;
+use outside::Program;
 
 /// What the outside program writes.
 #[derive(Clone, Copy)]
@@ -129,6 +134,7 @@ fn main() -> ExitCode {
         eprintln!("compare: there is no {}", program.display());
         return ExitCode::from(2);
     }
+    let program = Program { path: program };
     match kind {
         Kind::Lines(writing) => {
             let checker = Checker::new(program, Lines::new(writing));

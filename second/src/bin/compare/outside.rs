@@ -1,7 +1,7 @@
 //! Runs the outside program on an input.
 
 use std::io::{self, Read, Write};
-use std::path::Path;
+use std::path::PathBuf;
 use std::process::{Child, Command, Stdio};
 use std::sync::mpsc::{self, Receiver};
 use std::thread::{self, Scope};
@@ -18,43 +18,62 @@ pub struct Output {
     pub warnings: Vec<u8>,
 }
 
-/// Feeds the input to the program and gives all that it wrote, or what went
-/// wrong: it could not be started, did not end in time, or did not exit with 0.
-/// Meanwhile the other work is done here, and its result is given as well.
-pub fn run<T>(
-    program: &Path,
-    input: &[u8],
-    hear: bool,
-    meanwhile: impl FnOnce() -> T,
-) -> (Result<Output, String>, T) {
-    let mut child = match start(program, hear) {
-        Ok(child) => child,
-        Err(error) => {
-            let message = format!("{} cannot be started: {error}", program.display());
-            return (Err(message), meanwhile());
-        }
-    };
-    let mut stdin = child.stdin.take().expect("standard input is a pipe");
-    thread::scope(|scope| {
-        // The program may rightly stop before it has read all, so that the rest
-        // cannot be written; what it wrote itself decides.
-        scope.spawn(move || {
-            let _ = stdin.write_all(input);
-        });
-        let lines = gather(scope, child.stdout.take());
-        let warnings = gather(scope, child.stderr.take());
-        let other = meanwhile();
-        (ended(child, lines, warnings), other)
-    })
+/// What is compared: a program, or what a test puts in its place.
+pub trait Outside {
+    /// Gives all that is written for an input, or what went wrong. Meanwhile the other
+    /// work is done here, and its result is given as well.
+    fn run<T>(
+        &self,
+        input: &[u8],
+        hear: bool,
+        meanwhile: impl FnOnce() -> T,
+    ) -> (Result<Output, String>, T);
 }
 
-fn start(program: &Path, hear: bool) -> io::Result<Child> {
-    let stderr = if hear { Stdio::piped() } else { Stdio::null() };
-    Command::new(program)
-        .stdin(Stdio::piped())
-        .stdout(Stdio::piped())
-        .stderr(stderr)
-        .spawn()
+/// A program. What can go wrong: it could not be started, did not end in time, or did
+/// not exit with 0.
+pub struct Program {
+    pub path: PathBuf,
+}
+
+impl Outside for Program {
+    fn run<T>(
+        &self,
+        input: &[u8],
+        hear: bool,
+        meanwhile: impl FnOnce() -> T,
+    ) -> (Result<Output, String>, T) {
+        let mut child = match self.start(hear) {
+            Ok(child) => child,
+            Err(error) => {
+                let message = format!("{} cannot be started: {error}", self.path.display());
+                return (Err(message), meanwhile());
+            }
+        };
+        let mut stdin = child.stdin.take().expect("standard input is a pipe");
+        thread::scope(|scope| {
+            // The program may rightly stop before it has read all, so that the rest
+            // cannot be written; what it wrote itself decides.
+            scope.spawn(move || {
+                let _ = stdin.write_all(input);
+            });
+            let lines = gather(scope, child.stdout.take());
+            let warnings = gather(scope, child.stderr.take());
+            let other = meanwhile();
+            (ended(child, lines, warnings), other)
+        })
+    }
+}
+
+impl Program {
+    fn start(&self, hear: bool) -> io::Result<Child> {
+        let stderr = if hear { Stdio::piped() } else { Stdio::null() };
+        Command::new(&self.path)
+            .stdin(Stdio::piped())
+            .stdout(Stdio::piped())
+            .stderr(stderr)
+            .spawn()
+    }
 }
 
 type Gathered = Receiver<io::Result<Vec<u8>>>;

@@ -3,6 +3,7 @@
 
 use second::play::RECORD;
 use second::random::Random;
+use second::session::MAX_HEIGHT;
 use second::table::MAX_SCREENS;
 
 use crate::check::Input;
@@ -10,6 +11,9 @@ use crate::make::{self, launch, record, T};
 
 /// The greatest number of records of each height in a mean.
 const EACH: usize = 20;
+
+/// How many looks there are fewer than, where the mean is a half, before and behind.
+const LOOKS: (usize, usize) = (4, 60);
 
 /// The numbers of calls about the limit, and such as have the same number in 16
 /// bits.
@@ -49,6 +53,28 @@ pub fn means() -> impl Iterator<Item = Input> {
             recording("means of 0 and 1", &T, low),
             recording("means of 1 and 2", &T, high),
         ]
+    })
+}
+
+/// Of tasks of each height, with a few looks at the empty session before them and more
+/// looks behind, those whose mean lies in the middle of two tenths.
+pub fn halves() -> impl Iterator<Item = Input> {
+    let numbers = (1..=MAX_HEIGHT).flat_map(|height| {
+        (0..LOOKS.0).flat_map(move |low| (0..LOOKS.1).map(move |high| (height, low, high)))
+    });
+    numbers.filter_map(|(height, low, high)| {
+        let (calls, sum) = (
+            low + height + high,
+            height * (height + 1) / 2 + high * height,
+        );
+        let is_half = 20 * sum % calls == 0 && 20 * sum / calls % 2 == 1;
+        let records = [
+            looks(low),
+            launch(0).to_vec(),
+            record(2, 1, 0).repeat(height - 1),
+            looks(high),
+        ];
+        is_half.then(|| recording("exact halves", &T, records.concat()))
     })
 }
 

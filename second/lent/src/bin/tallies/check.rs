@@ -3,11 +3,10 @@
 
 use std::fmt;
 
-use second::cases::Cases;
 use second::tally::{Report, Tally};
 
-use crate::library;
-use crate::sorts;
+use crate::library::Library;
+use crate::sorts::Sorts;
 
 /// A tally and the call to be added: its answer's refusal and front height.
 #[derive(Clone, Copy, Debug)]
@@ -39,23 +38,27 @@ pub struct Difference {
 
 pub type Checked<T = ()> = Result<T, Box<Difference>>;
 
-pub struct Checker {
-    pub cases: Cases<(Asked, Outcome)>,
+pub struct Checker<L> {
+    library: L,
+    pub sorts: Sorts,
     /// Calls of the library.
     pub calls: u64,
 }
 
-impl Checker {
-    pub fn new() -> Checker {
-        let cases = sorts::cases();
-        Checker { cases, calls: 0 }
+impl<L: Library> Checker<L> {
+    pub fn new(library: L) -> Checker<L> {
+        Checker {
+            library,
+            sorts: Sorts::new(),
+            calls: 0,
+        }
     }
 
     /// Asks both; gives the tally after the call.
     pub fn check(&mut self, what: &'static str, asked: Asked) -> Checked<Tally> {
-        let (library, outside) = by_library(asked);
+        let (library, outside) = by_library(&self.library, asked);
         let second = by_second(asked);
-        self.cases.add(&(asked, second));
+        self.sorts.add(asked, second);
         // To add and to report.
         self.calls += 2;
         if library == second && !outside {
@@ -72,10 +75,10 @@ impl Checker {
 }
 
 /// What the library gives, and whether it wrote outside of what it may write.
-fn by_library(asked: Asked) -> (Outcome, bool) {
+fn by_library(library: &impl Library, asked: Asked) -> (Outcome, bool) {
     let mut after = asked.tally;
-    let (added, outside) = library::add(&mut after, asked.refusal, asked.height);
-    let report = library::report(asked.tally);
+    let (added, outside) = library.add(&mut after, asked.refusal, asked.height);
+    let report = library.report(asked.tally);
     let outcome = Outcome {
         report,
         added,
@@ -86,18 +89,27 @@ fn by_library(asked: Asked) -> (Outcome, bool) {
 
 fn by_second(asked: Asked) -> Outcome {
     let mut after = asked.tally;
-    let added = match after.add(asked.refusal, asked.height) {
-        Ok(()) => 0,
-        Err(refusal) => refusal as u8,
-    };
-    let report = match asked.tally.report() {
-        Ok(report) => (0, report),
-        Err(refusal) => (refusal as u8, Report::default()),
-    };
+    let added = added_by_second(&mut after, asked.refusal, asked.height);
     Outcome {
-        report,
+        report: reported_by_second(asked.tally),
         added,
         after,
+    }
+}
+
+/// The refusal's number, or 0, of adding a call.
+pub fn added_by_second(tally: &mut Tally, refusal: u8, height: u8) -> u8 {
+    match tally.add(refusal, height) {
+        Ok(()) => 0,
+        Err(refusal) => refusal as u8,
+    }
+}
+
+/// The refusal's number, or 0, and the report.
+pub fn reported_by_second(tally: Tally) -> (u8, Report) {
+    match tally.report() {
+        Ok(report) => (0, report),
+        Err(refusal) => (refusal as u8, Report::default()),
     }
 }
 

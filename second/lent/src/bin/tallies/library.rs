@@ -1,5 +1,6 @@
-//! The static library's tally, as it declares it to C: to add a call the tally is
-//! lent, to the report it is passed by value.
+//! The tally that is compared: the static library's, or another that a test puts in its
+//! place. As the library declares it to C, the tally is lent to add a call, and to the
+//! report it is passed by value.
 
 use second::tally::{Report, Tally};
 
@@ -59,29 +60,39 @@ impl Stored {
     }
 }
 
-/// Adds a call; gives the refusal's number, or 0, and whether the library wrote
-/// around the tally.
-pub fn add(tally: &mut Tally, refusal: u8, height: u8) -> (u8, bool) {
-    let mut lent = Guarded {
-        before: GUARDS,
-        tally: Stored::hold(*tally),
-        after: GUARDS,
-    };
-    // The library may write all that is passed here, and keeps no pointer to it.
-    let whole = &raw mut lent;
-    let given = unsafe { milchkompass_tally_add(&raw mut (*whole).tally, refusal, height) };
-    *tally = lent.tally.view();
-    (given, lent.before != GUARDS || lent.after != GUARDS)
+pub trait Library {
+    /// Adds a call; gives the refusal's number, or 0, and whether the library wrote
+    /// around the tally.
+    fn add(&self, tally: &mut Tally, refusal: u8, height: u8) -> (u8, bool);
+    /// The refusal's number, or 0, and the report.
+    fn report(&self, tally: Tally) -> (u8, Report);
 }
 
-/// The refusal's number, or 0, and the report.
-pub fn report(tally: Tally) -> (u8, Report) {
-    let given = unsafe { milchkompass_tally_report(Stored::hold(tally)) };
-    let report = Report {
-        accepted: given.accepted,
-        refused: given.refused,
-        greatest: given.greatest,
-        tenths: given.tenths,
-    };
-    (given.refusal, report)
+/// The static library.
+pub struct Linked;
+
+impl Library for Linked {
+    fn add(&self, tally: &mut Tally, refusal: u8, height: u8) -> (u8, bool) {
+        let mut lent = Guarded {
+            before: GUARDS,
+            tally: Stored::hold(*tally),
+            after: GUARDS,
+        };
+        // The library may write all that is passed here, and keeps no pointer to it.
+        let whole = &raw mut lent;
+        let given = unsafe { milchkompass_tally_add(&raw mut (*whole).tally, refusal, height) };
+        *tally = lent.tally.view();
+        (given, lent.before != GUARDS || lent.after != GUARDS)
+    }
+
+    fn report(&self, tally: Tally) -> (u8, Report) {
+        let given = unsafe { milchkompass_tally_report(Stored::hold(tally)) };
+        let report = Report {
+            accepted: given.accepted,
+            refused: given.refused,
+            greatest: given.greatest,
+            tenths: given.tenths,
+        };
+        (given.refusal, report)
+    }
 }

@@ -61,8 +61,22 @@ fn at_a_border(random: &mut Random, mut tally: Tally) -> Tally {
     tally
 }
 
+/// A tally of a list whose mean in tenths is an odd number of halves, of any size, and
+/// mostly an exact half therefore.
+fn with_a_half(random: &mut Random) -> Tally {
+    let part = random.between(1, u64::from(MOST_CALLS) / 20);
+    let greatest = random.between(1, 32);
+    let halves = 1 + 2 * random.below(10 * greatest);
+    Tally {
+        sum: (part * halves).max(greatest) as u32,
+        accepted: (20 * part) as u16,
+        refused: random.below(30) as u16,
+        greatest: greatest as u8,
+    }
+}
+
 fn tally(random: &mut Random) -> Tally {
-    match random.below(10) {
+    match random.below(11) {
         0 => Tally {
             sum: random.next() as u32,
             accepted: random.next() as u16,
@@ -70,6 +84,7 @@ fn tally(random: &mut Random) -> Tally {
             greatest: random.byte(256),
         },
         1..=4 => good(random),
+        5 => with_a_half(random),
         _ => {
             let good = good(random);
             at_a_border(random, good)

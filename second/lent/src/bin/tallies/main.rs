@@ -7,12 +7,16 @@
 //! that are made from the seed, of lists or not, until there are as many calls of
 //! the library as asked for. Each time the report is asked for too. At the first
 //! difference it is printed, and the exit code is 1. At the end the program prints
-//! how often tallies of each sort came up, and exits with 1 if one never did.
+//! how often tallies of each sort came up, and exits with 1 if one never did, or a mean
+//! in the middle of two tenths, with an even one below or an odd one, fewer than 100
+//! times.
 
 mod check;
 mod library;
 mod made;
 mod sorts;
+#[cfg(test)]
+mod tests;
 
 use std::process::ExitCode;
 use std::time::Instant;
@@ -23,6 +27,7 @@ use second::tally::{Tally, MOST_CALLS};
 use lent_calls::run;
 
 use check::{Asked, Checked, Checker};
+use library::{Library, Linked};
 
 fn main() -> ExitCode {
     let Some([seed, calls]) = run::options([("--seed", 1), ("--calls", 2_000_000)]) else {
@@ -31,14 +36,14 @@ fn main() -> ExitCode {
     };
     let begun = Instant::now();
     lent_calls::library::expect_abi();
-    let mut checker = Checker::new();
+    let mut checker = Checker::new(Linked);
     let found = compare(&mut checker, seed, calls);
-    let Checker { cases, calls } = checker;
-    let missing = cases.missing();
-    run::end("tallies", seed, begun, (&cases, calls), found, missing)
+    let missing = checker.sorts.missing();
+    let told = (&checker.sorts, checker.calls);
+    run::end("tallies", seed, begun, told, found, missing)
 }
 
-fn compare(checker: &mut Checker, seed: u64, calls: u64) -> Checked {
+fn compare(checker: &mut Checker<impl Library>, seed: u64, calls: u64) -> Checked {
     every_byte(checker)?;
     let mut random = Random::new(seed);
     lists(checker, &mut random)?;
@@ -51,7 +56,7 @@ fn compare(checker: &mut Checker, seed: u64, calls: u64) -> Checked {
 
 /// Every refusal with every height, on a fresh tally, others of lists, a full one
 /// and one of no list.
-fn every_byte(checker: &mut Checker) -> Checked {
+fn every_byte(checker: &mut Checker<impl Library>) -> Checked {
     let tally = |sum, accepted, refused, greatest| Tally {
         sum,
         accepted,
@@ -80,7 +85,7 @@ fn every_byte(checker: &mut Checker) -> Checked {
 
 /// Lists with accepted answers in so many of a hundred, from a fresh tally until
 /// after it is full.
-fn lists(checker: &mut Checker, random: &mut Random) -> Checked {
+fn lists(checker: &mut Checker<impl Library>, random: &mut Random) -> Checked {
     for (accepted, heights) in [(0, 40), (5, 34), (50, 33), (95, 3), (100, 1), (100, 33)] {
         let mut tally = Tally::default();
         for _ in 0..MOST_CALLS + 1000 {

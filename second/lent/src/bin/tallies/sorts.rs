@@ -1,12 +1,14 @@
 //! The sorts of tallies that are to come up, and the ways to add a call to them.
 
+use std::fmt;
+
 use second::cases::{Case, Cases};
 use second::tally::{Tally, MOST_CALLS};
 
 use crate::check::{Asked, Outcome};
 
 /// What is to come up, in what is asked and what the second navigator gives.
-const CASES: [Case<(Asked, Outcome)>; 17] = [
+const CASES: [Case<(Asked, Outcome)>; 16] = [
     ("accepted calls added", |(asked, outcome)| {
         outcome.added == 0 && asked.refusal == 0
     }),
@@ -36,11 +38,6 @@ const CASES: [Case<(Asked, Outcome)>; 17] = [
         let Tally { sum, accepted, .. } = asked.tally;
         has_accepted(&asked.tally) && accepted > 1 && sum == most(&asked.tally)
     }),
-    ("an exact half", |(asked, _)| {
-        let Tally { sum, accepted, .. } = asked.tally;
-        let doubled = 2 * u32::from(accepted);
-        has_accepted(&asked.tally) && 20 * sum % doubled == u32::from(accepted)
-    }),
     ("65,536 calls alone wrong", |(asked, _)| {
         asked.tally.calls() == MOST_CALLS + 1 && is_well_but_for_calls(&asked.tally)
     }),
@@ -66,6 +63,26 @@ const CASES: [Case<(Asked, Outcome)>; 17] = [
         asked.tally.sum.checked_mul(10).is_none()
     }),
 ];
+
+/// How often each exact half is to come up.
+const EACH_HALF: u64 = 100;
+
+/// The means in the middle of two tenths.
+const HALVES: [Case<Asked>; 2] = [
+    ("an exact half, even below", |asked| {
+        half_above(asked).is_some_and(|below| below % 2 == 0)
+    }),
+    ("an exact half, odd below", |asked| {
+        half_above(asked).is_some_and(|below| below % 2 == 1)
+    }),
+];
+
+/// The whole tenths below the mean, where it is such a one.
+fn half_above(asked: &Asked) -> Option<u32> {
+    has_accepted(&asked.tally)
+        .then(|| asked.tally.half_above())
+        .flatten()
+}
 
 fn most(tally: &Tally) -> u32 {
     u32::from(tally.accepted) * u32::from(tally.greatest)
@@ -102,6 +119,32 @@ fn is_well_with(asked: &Asked, change: fn(&mut Tally)) -> bool {
     tally.is_of_a_list()
 }
 
-pub fn cases() -> Cases<(Asked, Outcome)> {
-    Cases::new(&CASES)
+/// How often each sort came up.
+pub struct Sorts {
+    cases: Cases<(Asked, Outcome)>,
+    halves: Cases<Asked>,
+}
+
+impl Sorts {
+    pub fn new() -> Sorts {
+        Sorts {
+            cases: Cases::new(&CASES),
+            halves: Cases::at_least(EACH_HALF, &HALVES),
+        }
+    }
+
+    pub fn add(&mut self, asked: Asked, outcome: Outcome) {
+        self.cases.add(&(asked, outcome));
+        self.halves.add(&asked);
+    }
+
+    pub fn missing(&self) -> Vec<String> {
+        [self.cases.missing(), self.halves.missing()].concat()
+    }
+}
+
+impl fmt::Display for Sorts {
+    fn fmt(&self, f: &mut fmt::Formatter) -> fmt::Result {
+        write!(f, "{}{}", self.cases, self.halves)
+    }
 }
