@@ -8,35 +8,11 @@ use lib.Seq.{length-take-le}
 use Rattle.same_files.proofs.compare_named.Statement.{statement}
 use Rattle.same_files.proofs.compare_named.Tie as tie
 
-slice-aggregate-load : tie.Need-slice-aggregate-load
-slice-aggregate-load c = sym (length-replicate {A = ℕ} 1048576 0)
-
-load-requires : tie.Need-load-requires
-load-requires c κs = search needs
-
-returns : tie.Need-returns
-returns c = search needs
-
-slice-aggregate-load-2 : tie.Need-slice-aggregate-load-2
-slice-aggregate-load-2 c = sym (length-replicate {A = ℕ} 1048576 0)
-
-load-requires-2 : tie.Need-load-requires-2
-load-requires-2 c κs = search needs
-
-returns-2 : tie.Need-returns-2
-returns-2 c = search needs
-
 array-share-prefix-first : tie.Need-array-share-prefix-first
 array-share-prefix-first c = c .before .before .before .before .before .before .before .before .load .ensures .0
 
-slice-aggregate-tell : tie.Need-slice-aggregate-tell
-slice-aggregate-tell c = sym (length-take-le _ _ (array-share-prefix-first (c .before)))
-
 array-share-prefix-second : tie.Need-array-share-prefix-second
 array-share-prefix-second c = c .before .before .before .before .load2 .ensures .0
-
-slice-aggregate-tell-2 : tie.Need-slice-aggregate-tell-2
-slice-aggregate-tell-2 c = sym (length-take-le _ _ (array-share-prefix-second (c .before)))
 
 tell-requires : tie.Need-tell-requires
 tell-requires c κs =
@@ -46,22 +22,19 @@ tell-requires c κs =
     let ok = not-false _ (passed .if1 .left) in
     (load .0 ok, (load .1 ok, other .before .before .before .load2 .ensures .1 .1 (not-false _ (other .if2 .left))))
 
-returns-3 : tie.Need-returns-3
-returns-3 c = search needs
-
 pub compare-named-spec : {M : Type 1} → statement M
 compare-named-spec =
     tie.close
     (tie.spec
-    slice-aggregate-load
-    load-requires
-    returns
-    slice-aggregate-load-2
-    load-requires-2
-    returns-2
+    (λ c. sym (length-replicate {A = ℕ} 1048576 0))
+    (λ c κs. search needs)
+    (λ c. search needs)
+    (λ c. sym (length-replicate {A = ℕ} 1048576 0))
+    (λ c κs. search needs)
+    (λ c. search needs)
     array-share-prefix-first
-    slice-aggregate-tell
+    (λ c. sym (length-take-le _ _ (array-share-prefix-first (c .before))))
     array-share-prefix-second
-    slice-aggregate-tell-2
+    (λ c. sym (length-take-le _ _ (array-share-prefix-second (c .before))))
     tell-requires
-    returns-3)
+    (λ c. search needs))
