@@ -1,7 +1,7 @@
 -- The place that is reached in a recording, and the records of a share before it.
 use Prim.Native.Nat.{ℕ, zero, suc, _+_, _-_, _≤_, _<_}
 use mathlib.Core.Path.{_≡_, refl, sym, _∙_, ap}
-use mathlib.Core.Bool.{Bool, true, false, not, _&&_}
+use mathlib.Core.Bool.{Bool, true, false, not}
 use mathlib.Core.List.{List, [], _∷_, _++_, append-nil, append-assoc}
 use native.Mathlib.Nat.{add-zero}
 use native.Mathlib.Omega.{arith}
@@ -9,7 +9,7 @@ use lib.Dec.{eqb, leb}
 use lib.ListN.{length, getD, take, drop, length-drop, length-append, drop-of-length-le}
 use lib.Seq.{drop-drop, length-take-le}
 use borrow.Author.Tests.{leb-true, leb-false, lt-leb, le-leb, eq-eqb, ne-eqb}
-use Rattle.model.specs.Lists.{if_then_else_, sumOf}
+use Rattle.model.specs.Lists.{sumOf}
 use Rattle.model.proofs.Logic.{and-left, and-right, if-elim}
 use Rattle.records.specs.Records.{wordAt}
 use Rattle.notes.specs.declared.Notes.{Notes}
@@ -18,7 +18,6 @@ use Rattle.notes.proofs.Noting.{place-few, tells-noted}
 use Rattle.recording.specs.CallBytes.{restoreKind, imageLength, firstImage, firstWhole}
 use Rattle.recording.specs.OneCall.{callLength}
 use Rattle.endings.specs.declared.Share.{Share}
-use Rattle.endings.specs.declared.Portion.{Portion}
 use Rattle.endings.specs.Shares.{recordsAmong, isIn, headerOf, bytesIn, numbersIn, Shares}
 
 -- ---- one record

@@ -1,13 +1,12 @@
 -- All of a list from a place on, as a part of a slice; and what is written at its start is written at that place.
 use Prim.Native.Nat.{ℕ, _+_, _-_}
-use mathlib.Core.Path.{_≡_, sym, _∙_}
+use mathlib.Core.Path.{_≡_, sym}
 use mathlib.Core.List.{List, [], _++_, append-nil, append-assoc}
 use native.Mathlib.Omega.{arith}
 use lib.ListN.{length, take, drop, length-drop, drop-of-length-le}
 use lib.Seq.{take-all, take-length, drop-drop}
 use borrow.Rule.Slice.PartMut.{midOf, postOf, putMid}
 use Rattle.model.specs.Written.{written}
-use Rattle.model.proofs.WrittenLaws.{written-start}
 
 module _ {A : Type 0} where
   pub part-rest : (n : ℕ) (l : List A) → midOf n (length l - n) l ≡ drop n l
@@ -24,11 +23,7 @@ module _ (out text part : List ℕ) (at : ℕ) where
       rw (f, part-beyond at out, append-nil, part-rest at out, drop-drop (length text) at out)
       (sym (append-assoc (take at out) text (drop (at + length text) out)))
 
-  -- it was written there
-  pub written-part : part ≡ written (midOf at (length out - at) out) 0 text → putMid at (length out - at) out part ≡ written out at text
-  written-part f = placed (f ∙ written-start (midOf at (length out - at) out) text)
-
-  -- or copied
+  -- it was copied there
   pub copied : (n : ℕ) → n ≡ length text → part ≡ take n text ++ drop n (midOf at (length out - at) out)
       → putMid at (length out - at) out part ≡ written out at text
   copied n e f = placed (rw (f, e, take-length text))

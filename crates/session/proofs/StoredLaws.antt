@@ -10,7 +10,7 @@ use lib.Seq.{length-take-le, getD-take}
 use lib.Dec.{leb, eqb}
 use borrow.Author.Tests.{leb-true, eqb-true, le-leb}
 use Rattle.model.specs.Lists.{all, All}
-use Rattle.model.specs.Session.{Stack, State, stack, noStack, count, height, fresh, mostTasks, mostHeight, isEdition, sound}
+use Rattle.model.specs.Session.{Stack, State, stack, noStack, count, height, fresh, mostTasks, mostHeight, sound}
 use Rattle.model.proofs.Logic.{and-left, and-right, same-test, self-decides, All-at, All-map, All-of, all-decides, eqb-decides}
 use Rattle.model.proofs.ListLaws.{All-take, All-drop, All-append, All-to-map}
 use Rattle.model.proofs.Sound.{Sound, sound-decides}
@@ -220,11 +220,6 @@ view-main c = refl
 pub view-edition : (c : Session) → view c .edition ≡ c .edition
 unfolding view
 view-edition c = refl
-
--- a sound session has one of the three
-pub sound-edition : (tb : List ℕ) (c : Session) → soundStored tb c ≡ true → isEdition (c .edition) ≡ true
-unfolding view
-sound-edition tb c h = sound-view tb c h .edition .known
 
 pub view-at : (c : Session) (i : ℕ) → i < c .n → getD (view c .tasks) i noStack ≡ viewTask (getD (c .tasks) i noTask)
 unfolding view viewTask

@@ -22,11 +22,8 @@ some t (suc n) m x v h e b = rw b
 returns : tie.Need-returns
 returns c = let a = c .before .args in none (a .t) (a .n) (a .main) (a .closed) (a .edition) (a .no-history) (c .if1 .taken)
 
-top-requires : tie.Need-top-requires
-top-requires c κs = let f = c .before .pre (omega arith) in (omega (arith, f .0), f .1)
-
 returns-2 : tie.Need-returns-2
 returns-2 c = let a = c .before .before .args in some (a .t) (a .n) (a .main) (a .closed) (a .edition) (a .no-history) (c .before .if1 .left) (c .top .ensures)
 
 pub of-front-spec : {M : Type 1} → statement M
-of-front-spec = tie.close (tie.spec returns top-requires returns-2)
+of-front-spec = tie.close (tie.spec returns (λ c κs. let f = c .before .pre (omega arith) in (omega (arith, f .0), f .1)) returns-2)

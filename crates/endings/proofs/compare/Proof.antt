@@ -10,12 +10,6 @@ use Rattle.endings.proofs.Tables.{table-part}
 use Rattle.endings.proofs.compare.Statement.{statement}
 use Rattle.endings.proofs.compare.Tie as tie
 
-ending-of-requires-2 : tie.Need-ending-of-requires-2
-ending-of-requires-2 c κs = let p = c .before .before .before .before .pre in ap tableRefusal (sym (p .1)) ∙ p .0
-
-slice-aggregate-first-difference : tie.Need-slice-aggregate-first-difference
-slice-aggregate-first-difference c = sym (length-take-le _ _ (c .before .before .before .table-end .ensures .1))
-
 first-difference-requires : tie.Need-first-difference-requires
 first-difference-requires c κs =
     let start = c .before .before .before .before .before .before in
@@ -41,7 +35,7 @@ compare-spec =
     (tie.spec
     (λ c κs. search needs)
     (λ c κs. search needs)
-    ending-of-requires-2
-    slice-aggregate-first-difference
+    (λ c κs. let p = c .before .before .before .before .pre in ap tableRefusal (sym (p .1)) ∙ p .0)
+    (λ c. sym (length-take-le _ _ (c .before .before .before .table-end .ensures .1)))
     first-difference-requires
     returns)

@@ -7,9 +7,6 @@ use Rattle.endings.proofs.Tables.{table-part, calls-part, replayed-good
 use Rattle.endings.proofs.ending_of.Statement.{statement}
 use Rattle.endings.proofs.ending_of.Tie as tie
 
-slice-aggregate-replay : tie.Need-slice-aggregate-replay
-slice-aggregate-replay c = sym (length-take-le _ _ (c .before .table-end .ensures .1))
-
 returns : tie.Need-returns
 returns c =
     let start = c .before .before .before .before .before .before in
@@ -25,7 +22,7 @@ ending-of-spec =
     tie.close
     (tie.spec
     (λ c κs. search needs)
-    slice-aggregate-replay
+    (λ c. sym (length-take-le _ _ (c .before .table-end .ensures .1)))
     (λ c. search needs)
     (λ c. search needs)
     (λ c. search needs)

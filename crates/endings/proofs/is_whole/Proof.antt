@@ -8,9 +8,6 @@ use Rattle.endings.proofs.Sharing.{whole-few, whole-other, whole-restor
 use Rattle.endings.proofs.is_whole.Statement.{statement}
 use Rattle.endings.proofs.is_whole.Tie as tie
 
-returns : tie.Need-returns
-returns c = whole-few (c .before .before .args .bytes .now) (c .if1 .taken)
-
 returns-2 : tie.Need-returns-2
 returns-2 c = whole-other (c .before .before .before .before .args .bytes .now) (c .before .before .if1 .left) (c .if2 .taken)
 
@@ -23,7 +20,7 @@ pub is-whole-spec : {M : Type 1} → statement M
 is-whole-spec =
     tie.close
     (tie.spec
-    returns
+    (λ c. whole-few (c .before .before .args .bytes .now) (c .if1 .taken))
     (λ c. search needs)
     returns-2
     (λ c κs. search needs)

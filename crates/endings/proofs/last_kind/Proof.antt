@@ -10,8 +10,5 @@ some : (k : ℕ) → (k ≡ 0 → ⊥) → 4 ≡ lastKind k
 some zero n = absurd (n refl)
 some (suc k) n = refl
 
-returns-2 : tie.Need-returns-2
-returns-2 c = some (c .before .args .backs) (c .if1 .left)
-
 pub last-kind-spec : {M : Type 1} → statement M
-last-kind-spec = tie.close (tie.spec (λ c. search needs) returns-2)
+last-kind-spec = tie.close (tie.spec (λ c. search needs) (λ c. some (c .before .args .backs) (c .if1 .left)))

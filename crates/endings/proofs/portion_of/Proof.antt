@@ -1,6 +1,6 @@
 -- The loop's invariant: the place that is reached, and the records of the share before it. What is left of the input falls.
 use Prim.Native.Nat.{ℕ, _+_, _*_, _-_, _≤_, _<_}
-use mathlib.Core.Path.{_≡_, sym, _∙_, ap}
+use mathlib.Core.Path.{_≡_, _∙_, ap}
 use mathlib.Core.Bool.{Bool}
 use mathlib.Core.List.{List}
 use native.Mathlib.Omega.{arith}
@@ -11,7 +11,6 @@ use lib.Seq.{length-take-le}
 use Rattle.model.specs.Table.{sizeOf}
 use Rattle.model.specs.Player.{tableIn}
 use Rattle.line.proofs.Copies.{part-rest}
-use Rattle.notes.specs.declared.Notes.{Notes}
 use Rattle.notes.specs.Places.{notedAt}
 use Rattle.recording.specs.OneCall.{callLength}
 use Rattle.endings.specs.Shares.{isIn, bytesIn}
@@ -62,12 +61,6 @@ fits c =
     let k = long c in
     (omega (arith, f .0), omega (arith, f .1))
 
-add-end : tie.Need-add-end Inv-loop μ-loop
-add-end c = let f = fits c .1 in omega arith
-
-part-is-in-end : tie.Need-part-is-in-end Inv-loop μ-loop
-part-is-in-end c = fits c .1
-
 is-in-requires : tie.Need-is-in-requires Inv-loop μ-loop
 is-in-requires c κs =
     let call = c .before in
@@ -82,9 +75,6 @@ noted-requires c κs =
     let number = inv .number in
     let some = call .before .before .loop-test .taken in
     omega arith
-
-part-bytes-in-end : tie.Need-part-bytes-in-end Inv-loop μ-loop
-part-bytes-in-end c = fits (c .before .before .before) .1
 
 bytes-in-requires : tie.Need-bytes-in-requires Inv-loop μ-loop
 bytes-in-requires c κs =
@@ -103,20 +93,12 @@ summed c =
     let sum = here call .loop .inv .sum in
     omega (arith, c .bytes-in .ensures)
 
-add-bytes : tie.Need-add-bytes Inv-loop μ-loop
-add-bytes c = omega (arith, summed c, fits (c .before .before .before .before .before) .1)
-
 add-i : tie.Need-add-i Inv-loop μ-loop
 add-i c =
     let call = c .before .before .before .before .before in
     let number = here call .loop .inv .number in
     let some = call .before .before .loop-test .taken in
     omega arith
-
-loop-less : tie.Need-loop-less Inv-loop μ-loop
-loop-less c =
-    let f = fits (c .before .before .before .before .before) in
-    omega (arith, f .0, f .1)
 
 loop-again : tie.Need-loop-again Inv-loop μ-loop
 loop-again c =
@@ -150,18 +132,18 @@ portion-of-spec =
     (λ c. search needs)
     (λ c. search needs)
     (λ c κs. search needs)
-    add-end
+    (λ c. let f = fits c .1 in omega arith)
     (λ c. search needs)
     (λ c. search needs)
-    part-is-in-end
+    (λ c. fits c .1)
     is-in-requires
     noted-requires
     (λ c. search needs)
     (λ c. search needs)
-    part-bytes-in-end
+    (λ c. fits (c .before .before .before) .1)
     bytes-in-requires
-    add-bytes
+    (λ c. omega (arith, summed c, fits (c .before .before .before .before .before) .1))
     add-i
-    loop-less
+    (λ c. let f = fits (c .before .before .before .before .before) in omega (arith, f .0, f .1))
     loop-again
     returns)

@@ -6,12 +6,6 @@ use Rattle.endings.proofs.Tables.{table-part}
 use Rattle.endings.proofs.same_table.Statement.{statement}
 use Rattle.endings.proofs.same_table.Tie as tie
 
-slice-aggregate-same : tie.Need-slice-aggregate-same
-slice-aggregate-same c = sym (length-take-le _ _ (c .before .before .table-end .ensures .1))
-
-slice-aggregate-same-2 : tie.Need-slice-aggregate-same-2
-slice-aggregate-same-2 c = sym (length-take-le _ _ (c .before .before .table-end2 .ensures .1))
-
 returns : tie.Need-returns
 returns c =
     let a = c .before .before .before .before .before .before .before .args in
@@ -25,7 +19,7 @@ same-table-spec =
     (tie.spec
     (λ c κs. search needs)
     (λ c κs. search needs)
-    slice-aggregate-same
-    slice-aggregate-same-2
+    (λ c. sym (length-take-le _ _ (c .before .before .table-end .ensures .1)))
+    (λ c. sym (length-take-le _ _ (c .before .before .table-end2 .ensures .1)))
     (λ c κs. search needs)
     returns)

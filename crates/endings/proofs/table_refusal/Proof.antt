@@ -7,13 +7,10 @@ use Rattle.endings.proofs.Tables.{table-part}
 use Rattle.endings.proofs.table_refusal.Statement.{statement}
 use Rattle.endings.proofs.table_refusal.Tie as tie
 
-slice-aggregate-refusal : tie.Need-slice-aggregate-refusal
-slice-aggregate-refusal c = sym (length-take-le _ _ (c .before .table-end .ensures .1))
-
 returns : tie.Need-returns
 returns c =
     let end = c .before .before .table-end in
     c .refusal .ensures ∙ ap tableRefusal (table-part (c .before .before .before .before .args .input .now) (end .result) (end .ensures .0))
 
 pub table-refusal-spec : {M : Type 1} → statement M
-table-refusal-spec = tie.close (tie.spec (λ c κs. search needs) slice-aggregate-refusal (λ c κs. search needs) returns)
+table-refusal-spec = tie.close (tie.spec (λ c κs. search needs) (λ c. sym (length-take-le _ _ (c .before .table-end .ensures .1))) (λ c κs. search needs) returns)

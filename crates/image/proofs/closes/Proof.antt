@@ -5,9 +5,6 @@ use Rattle.image.proofs.Closing.{one-pair}
 use Rattle.image.proofs.closes.Statement.{statement}
 use Rattle.image.proofs.closes.Tie as tie
 
-returns : tie.Need-returns
-returns c = one-pair (c .args .edition) (eqb (c .args .last) 0x42)
-
 pub closes-spec : {M : Type 1} → statement M
 closes-spec =
     tie.close
@@ -18,4 +15,4 @@ closes-spec =
     (λ c. search needs)
     (λ c. search needs)
     (λ c. search needs)
-    returns)
+    (λ c. one-pair (c .args .edition) (eqb (c .args .last) 0x42)))

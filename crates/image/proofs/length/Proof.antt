@@ -20,22 +20,10 @@ Inv-loop s count sum₀ i₀ sum i =
 abbrev μ-loop : tie.MeasureT-loop
 μ-loop s count sum₀ i₀ sum i = count - i
 
-loop-holds : tie.Need-loop-holds Inv-loop μ-loop
-loop-holds c = let f = blank-few (c .args .t1) (c .pre) in search needs
-
 next : (c : tie.After-struct-known Inv-loop μ-loop) → Next (c .before .before .before .before .args .t1) (c .before .before .before .loop .i)
 next c =
     let start = c .before .before .before .before in
     body-next (start .args .t1) (sized (start .args .t1) _ (start .good .0)) (start .pre) (c .before .before .before .loop .i) (omega arith)
-
-add-sum-2 : tie.Need-add-sum-2 Inv-loop μ-loop
-add-sum-2 c = omega (arith, next c .low)
-
-loop-again : tie.Need-loop-again Inv-loop μ-loop
-loop-again c =
-    let k = next c .low in
-    let l = next c .long in
-    (omega arith, (omega arith, (omega arith, omega arith)))
 
 returns : tie.Need-returns Inv-loop μ-loop
 returns c =
@@ -53,13 +41,13 @@ length-spec =
     Inv-loop
     μ-loop
     (λ c. search needs)
-    loop-holds
+    (λ c. let f = blank-few (c .args .t1) (c .pre) in search needs)
     (λ c. search needs)
     (λ c. search needs)
     (λ c. search needs)
     (λ c. search needs)
-    add-sum-2
+    (λ c. omega (arith, next c .low))
     (λ c. search needs)
     (λ c. search needs)
-    loop-again
+    (λ c. let k = next c .low in let l = next c .long in (omega arith, (omega arith, (omega arith, omega arith))))
     returns)

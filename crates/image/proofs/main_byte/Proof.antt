@@ -4,14 +4,5 @@ use native.Mathlib.Omega.{arith}
 use Rattle.image.proofs.main_byte.Statement.{statement}
 use Rattle.image.proofs.main_byte.Tie as tie
 
-mul-result : tie.Need-mul-result
-mul-result c = omega (arith, c .pre .1)
-
-add-result : tie.Need-add-result
-add-result c = omega (arith, c .pre .0, c .pre .1)
-
-returns : tie.Need-returns
-returns c = refl
-
 pub main-byte-spec : {M : Type 1} → statement M
-main-byte-spec = tie.close (tie.spec mul-result add-result returns)
+main-byte-spec = tie.close (tie.spec (λ c. omega (arith, c .pre .1)) (λ c. omega (arith, c .pre .0, c .pre .1)) (λ c. refl))

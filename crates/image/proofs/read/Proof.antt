@@ -12,21 +12,6 @@ use Rattle.image.proofs.read.Tie as tie
 six : (c : tie.Start) → 6 ≤ length (c .args .image .now)
 six c = shaped-six (c .args .image .now) (c .pre)
 
-sub-end : tie.Need-sub-end
-sub-end c = six (c .before)
-
-shared-slice-read-n : tie.Need-shared-slice-read-n
-shared-slice-read-n c = omega (arith, six (c .before .before))
-
-shared-slice-read-main : tie.Need-shared-slice-read-main
-shared-slice-read-main c = omega (arith, six (c .before .before .before))
-
-shared-slice-read-no-history : tie.Need-shared-slice-read-no-history
-shared-slice-read-no-history c = omega (arith, six (c .before .before .before .before))
-
-shared-slice-read-edition : tie.Need-shared-slice-read-edition
-shared-slice-read-edition c = omega (arith, six (c .before .before .before .before .before))
-
 returns : tie.Need-returns
 returns c =
     let a = c .before .before .before .before .before .before .before .before .args in
@@ -47,15 +32,15 @@ pub read-spec : {M : Type 1} → statement M
 read-spec =
     tie.close
     (tie.spec
-    sub-end
+    (λ c. six (c .before))
     (λ c. search needs)
-    shared-slice-read-n
+    (λ c. omega (arith, six (c .before .before)))
     (λ c. search needs)
-    shared-slice-read-main
+    (λ c. omega (arith, six (c .before .before .before)))
     (λ c. search needs)
-    shared-slice-read-no-history
+    (λ c. omega (arith, six (c .before .before .before .before)))
     (λ c. search needs)
-    shared-slice-read-edition
+    (λ c. omega (arith, six (c .before .before .before .before .before)))
     (λ c κs. search needs)
     (λ c κs. search needs)
     returns

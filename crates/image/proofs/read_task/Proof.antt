@@ -13,11 +13,6 @@ Inv-loop body at height h bottom out₀ i₀ out i = (i ≤ height) × (out ≡ 
 abbrev μ-loop : tie.MeasureT-loop
 μ-loop body at height h bottom out₀ i₀ out i = height - i
 
-loop-holds : tie.Need-loop-holds Inv-loop μ-loop
-loop-holds c =
-    let a = c .before .args in
-    (omega arith, part-none (a .body .now) (a .at) (a .height) (c .before .pre .1))
-
 loop-again : tie.Need-loop-again Inv-loop μ-loop
 loop-again c =
     let start = c .before .before .before .before in
@@ -41,7 +36,7 @@ read-task-spec =
     (λ c. search needs)
     (λ c. search needs)
     (λ c. search needs)
-    loop-holds
+    (λ c. let a = c .before .args in (omega arith, part-none (a .body .now) (a .at) (a .height) (c .before .pre .1)))
     (λ c. search needs)
     (λ c. search needs)
     (λ c. search needs)

@@ -43,15 +43,6 @@ fitting : (c : tie.Else2 Inv-loop μ-loop)
     (1 ≤ h) × ((h ≤ 32) × (h ≤ length body - at - 2))
 fitting c = height-fits (c .before .wide .result) _ (not-false _ (c .if2 .left))
 
-read-task-requires : tie.Need-read-task-requires Inv-loop μ-loop
-read-task-requires c κs = let f = fitting c in omega (arith, c .before .wide .ensures .0)
-
-element-set-from-s : tie.Need-element-set-from-s Inv-loop μ-loop
-element-set-from-s c = let few = c .before .before .before .before .before .before .before .before .before .pre in omega arith
-
-add-at-2 : tie.Need-add-at-2 Inv-loop μ-loop
-add-at-2 c = let f = fitting (c .before) in omega arith
-
 loop-again : tie.Need-loop-again Inv-loop μ-loop
 loop-again c =
     let start = c .before .before .before .before .before .before .before .before .before in
@@ -93,11 +84,11 @@ read-tasks-spec =
     (λ c κs. search needs)
     returns-2
     (λ c. search needs)
-    read-task-requires
+    (λ c κs. let f = fitting c in omega (arith, c .before .wide .ensures .0))
     (λ c. search needs)
-    element-set-from-s
+    (λ c. let few = c .before .before .before .before .before .before .before .before .before .pre in omega arith)
     (λ c. search needs)
-    add-at-2
+    (λ c. let f = fitting (c .before) in omega arith)
     (λ c. search needs)
     (λ c. search needs)
     loop-again

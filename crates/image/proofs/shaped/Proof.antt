@@ -5,9 +5,6 @@ use Rattle.image.proofs.ReadTrailer.{shaped-short, shaped-long}
 use Rattle.image.proofs.shaped.Statement.{statement}
 use Rattle.image.proofs.shaped.Tie as tie
 
-returns : tie.Need-returns
-returns c = sym (shaped-short (c .before .before .args .image .now) (c .if1 .taken))
-
 returns-2 : tie.Need-returns-2
 returns-2 c =
     let image = c .before .before .before .before .before .before .before .before .before .args .image .now in
@@ -18,7 +15,7 @@ pub shaped-spec : {M : Type 1} → statement M
 shaped-spec =
     tie.close
     (tie.spec
-    returns
+    (λ c. sym (shaped-short (c .before .before .args .image .now) (c .if1 .taken)))
     (λ c. search needs)
     (λ c κs. search needs)
     (λ c. search needs)

@@ -62,17 +62,11 @@ loop-again c =
     let w = wrote-append (here .loop .inv .1 .1 .1) (omega arith) (wrote 34 (c .before .before .write-task .ensures)) in
     (omega arith, (omega arith, (omega arith, rw (n .bytes) w)))
 
-main-byte-requires : tie.Need-main-byte-requires Inv-loop μ-loop
-main-byte-requires c κs = let w = c .before .before .before .before .pre .0 in (w .main, w .mark)
-
 write-trailer-requires : tie.Need-write-trailer-requires Inv-loop μ-loop
 write-trailer-requires c κs =
     let here = c .before .before .before in
     let k = kept here in
     (omega arith, (omega (arith, fits here), here .before .before .pre .0 .edition))
-
-same-length : tie.Need-same-length Inv-loop μ-loop
-same-length c = c .before .before .write-trailer .kept .0 ∙ kept (c .before .before .before .before .before .before)
 
 returns : tie.Need-returns Inv-loop μ-loop
 returns c =
@@ -101,7 +95,7 @@ write-spec =
     (λ c. search needs)
     (λ c. search needs)
     loop-again
-    main-byte-requires
+    (λ c κs. let w = c .before .before .before .before .pre .0 in (w .main, w .mark))
     write-trailer-requires
-    same-length
+    (λ c. c .before .before .write-trailer .kept .0 ∙ kept (c .before .before .before .before .before .before))
     returns)

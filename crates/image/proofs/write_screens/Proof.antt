@@ -32,9 +32,6 @@ fits c = omega arith
 kept : (c : tie.At-loop Inv-loop μ-loop) → length (c .loop .out) ≡ length (c .before .args .out .now)
 kept c = wrote-length (c .loop .inv .1) (fits c)
 
-slice-write-out : tie.Need-slice-write-out Inv-loop μ-loop
-slice-write-out c = omega (arith, kept (c .before .before))
-
 loop-again : tie.Need-loop-again Inv-loop μ-loop
 loop-again c =
     let here = c .before .before in
@@ -50,9 +47,6 @@ loop-again c =
     rw (n, take-suc (viewTask (a .t3) .screens) j 0 (omega arith), view-screen (a .t3) (omega arith) (i - 1) j (omega arith)) in
     let w = wrote-one (here .loop .out) (a .at + a .t3 .height - i) x (omega (arith, kept here)) in
     (omega arith, rw (e, place) (wrote-append (here .loop .inv .1) (fits here) w))
-
-same-length : tie.Need-same-length Inv-loop μ-loop
-same-length c = kept (c .before)
 
 returns : tie.Need-returns Inv-loop μ-loop
 returns c =
@@ -74,9 +68,9 @@ write-screens-spec =
     (λ c. search needs)
     (λ c. search needs)
     (λ c. search needs)
-    slice-write-out
+    (λ c. omega (arith, kept (c .before .before)))
     (λ c. search needs)
     loop-again
     (λ c. search needs)
-    same-length
+    (λ c. kept (c .before))
     returns)

@@ -11,12 +11,6 @@ use Rattle.session.proofs.TaskLaws.{view-height}
 use Rattle.image.proofs.write_task.Statement.{statement}
 use Rattle.image.proofs.write_task.Tie as tie
 
-slice-write-out-2 : tie.Need-slice-write-out-2
-slice-write-out-2 c = simp length-set (omega arith)
-
-same-length : tie.Need-same-length
-same-length c = c .before .before .write-screens .kept .0 ∙ simp length-set
-
 returns : tie.Need-returns
 unfolding viewTask
 returns c =
@@ -37,8 +31,8 @@ write-task-spec =
     (tie.spec
     (λ c. search needs)
     (λ c. search needs)
-    slice-write-out-2
+    (λ c. simp length-set (omega arith))
     (λ c. search needs)
     (λ c κs. search needs)
-    same-length
+    (λ c. c .before .before .write-screens .kept .0 ∙ simp length-set)
     returns)

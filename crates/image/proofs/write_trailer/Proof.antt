@@ -19,33 +19,6 @@ known c =
     let e = c .wide .ensures .0 in
     (omega arith, omega arith)
 
-sub-place : tie.Need-sub-place
-sub-place c = known c .0
-
-slice-write-out-2 : tie.Need-slice-write-out-2
-slice-write-out-2 c = simp length-set (omega arith)
-
-slice-write-out-3 : tie.Need-slice-write-out-3
-slice-write-out-3 c = simp length-set (omega arith)
-
-slice-write-out-4 : tie.Need-slice-write-out-4
-slice-write-out-4 c = simp length-set (omega arith)
-
-array-read-out : tie.Need-array-read-out
-array-read-out c = omega (arith, known c)
-
-slice-write-out-5 : tie.Need-slice-write-out-5
-slice-write-out-5 c = simp length-set (omega arith)
-
-array-read-out-2 : tie.Need-array-read-out-2
-array-read-out-2 c = omega (arith, known c)
-
-slice-write-out-6 : tie.Need-slice-write-out-6
-slice-write-out-6 c = simp length-set (omega arith)
-
-same-length : tie.Need-same-length
-same-length c = simp length-set
-
 returns : tie.Need-returns
 returns c =
     let start = c .before .before in
@@ -59,24 +32,24 @@ write-trailer-spec =
     tie.close
     (tie.spec
     (λ c κs. search needs)
-    sub-place
+    (λ c. known c .0)
     (λ c. search needs)
     (λ c. search needs)
     (λ c. search needs)
     (λ c. search needs)
     (λ c. search needs)
-    slice-write-out-2
+    (λ c. simp length-set (omega arith))
     (λ c. search needs)
-    slice-write-out-3
+    (λ c. simp length-set (omega arith))
     (λ c. search needs)
-    slice-write-out-4
-    array-read-out
+    (λ c. simp length-set (omega arith))
+    (λ c. omega (arith, known c))
     (λ c. search needs)
-    slice-write-out-5
+    (λ c. simp length-set (omega arith))
     (λ c. search needs)
-    array-read-out-2
+    (λ c. omega (arith, known c))
     (λ c. search needs)
-    slice-write-out-6
+    (λ c. simp length-set (omega arith))
     (λ c. search needs)
-    same-length
+    (λ c. simp length-set)
     returns)

@@ -1,6 +1,6 @@
 -- The parts that are lent are the table and the records, where the input begins with a table; and the room is asked for before.
-use Prim.Native.Nat.{ℕ, _+_, _*_, _/_, _≤_, _<_}
-use mathlib.Core.Path.{_≡_, refl, sym, _∙_, ap}
+use Prim.Native.Nat.{_+_, _*_, _≤_}
+use mathlib.Core.Path.{_≡_, sym, _∙_, ap}
 use mathlib.Core.Bool.{true, false}
 use native.Mathlib.Omega.{arith}
 use borrow.Author.Needs.{needs}
@@ -49,12 +49,6 @@ within c =
     let k = told (c .before .before .before .before .before .args .input .now) (Beginning.Table n) (c .before .before .beginning-of .ensures) (c .long .given .1) in
     omega arith
 
-sub-count-records : tie.Need-sub-count-records
-sub-count-records c = within (c .before)
-
-part-count-records-start : tie.Need-part-count-records-start
-part-count-records-start c = within (c .before)
-
 -- how many records are counted
 counted : (c : tie.After-count-records)
     → let l = c .before .before .before .before .before .before .before .before .args .input .now in
@@ -77,15 +71,6 @@ roomy : (c : tie.Else1)
     → let a = c .before .before .before .before .before .before .before .before .before .args in
     longestExplained * length (recordsIn (recordBytes (a .input .now))) ≤ length (a .out .now)
 roomy c = let n = counted (c .before) in omega arith
-
-slice-aggregate-explain : tie.Need-slice-aggregate-explain
-slice-aggregate-explain c = sym (length-take-le _ _ (within (c .before .before .before .before .before)))
-
-sub-explain : tie.Need-sub-explain
-sub-explain c = within (c .before .before .before .before .before .before)
-
-part-explain-start : tie.Need-part-explain-start
-part-explain-start c = within (c .before .before .before .before .before .before)
 
 explain-requires : tie.Need-explain-requires
 explain-requires c κs =
@@ -118,15 +103,15 @@ explain-text-spec =
     (λ c κs. search needs)
     (λ c. search needs)
     returns
-    sub-count-records
-    part-count-records-start
+    (λ c. within (c .before))
+    (λ c. within (c .before))
     (λ c. search needs)
     (λ c κs. search needs)
     returns-2
-    slice-aggregate-explain
+    (λ c. sym (length-take-le _ _ (within (c .before .before .before .before .before))))
     (λ c κs. search needs)
-    sub-explain
-    part-explain-start
+    (λ c. within (c .before .before .before .before .before .before))
+    (λ c. within (c .before .before .before .before .before .before))
     (λ c. search needs)
     explain-requires
     (λ c. search needs)

@@ -45,18 +45,6 @@ within c =
     let k = told (c .before .before .before .before .before .args .input .now) (Beginning.Table n) (c .before .before .beginning-of .ensures) (c .long .given .1) in
     omega arith
 
-slice-aggregate-play : tie.Need-slice-aggregate-play
-slice-aggregate-play c = sym (length-take-le _ _ (within (c .before .before)))
-
-sub-play : tie.Need-sub-play
-sub-play c = within (c .before .before .before)
-
-part-play-start : tie.Need-part-play-start
-part-play-start c = within (c .before .before .before)
-
-play-requires : tie.Need-play-requires
-play-requires c κs = rw (c .before .before .fresh .ensures) (fresh-playable _)
-
 returns-2 : tie.Need-returns-2
 returns-2 c =
     let long = c .before .before .before .before .before .before .before .before in
@@ -78,11 +66,11 @@ player-text-spec =
     (λ c κs. search needs)
     (λ c. search needs)
     returns
-    slice-aggregate-play
+    (λ c. sym (length-take-le _ _ (within (c .before .before))))
     (λ c κs. search needs)
-    sub-play
-    part-play-start
+    (λ c. within (c .before .before .before))
+    (λ c. within (c .before .before .before))
     (λ c. search needs)
-    play-requires
+    (λ c κs. rw (c .before .before .fresh .ensures) (fresh-playable _))
     (λ c. search needs)
     returns-2)

@@ -40,18 +40,6 @@ within c =
     let k = told (c .before .before .before .before .args .input .now) (Beginning.Table n) (c .before .before .beginning-of .ensures) (c .long .given .1) in
     omega arith
 
-slice-aggregate-tally-records : tie.Need-slice-aggregate-tally-records
-slice-aggregate-tally-records c = sym (length-take-le _ _ (within (c .before .before)))
-
-sub-tally-records : tie.Need-sub-tally-records
-sub-tally-records c = within (c .before .before .before .before)
-
-part-tally-records-start : tie.Need-part-tally-records-start
-part-tally-records-start c = within (c .before .before .before .before)
-
-tally-records-requires : tie.Need-tally-records-requires
-tally-records-requires c κs = rw (c .before .before .fresh .ensures) (fresh-playable _)
-
 returns-2 : tie.Need-returns-2
 returns-2 c =
     let tally = c .before in
@@ -73,11 +61,11 @@ tally-of-spec =
     (λ c. search needs)
     (λ c κs. search needs)
     returns
-    slice-aggregate-tally-records
+    (λ c. sym (length-take-le _ _ (within (c .before .before))))
     (λ c κs. search needs)
     (λ c κs. search needs)
-    sub-tally-records
-    part-tally-records-start
+    (λ c. within (c .before .before .before .before))
+    (λ c. within (c .before .before .before .before))
     (λ c. search needs)
-    tally-records-requires
+    (λ c κs. rw (c .before .before .fresh .ensures) (fresh-playable _))
     returns-2)

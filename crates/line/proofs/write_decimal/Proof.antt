@@ -11,9 +11,6 @@ use borrow.Author.Needs.{needs}
 use Rattle.line.proofs.write_decimal.Statement.{statement}
 use Rattle.line.proofs.write_decimal.Tie as tie
 
-slice-write-out-2 : tie.Need-slice-write-out-2
-slice-write-out-2 c = simp length-set (omega arith)
-
 returns : tie.Need-returns
 returns c =
     let a = c .before .args in
@@ -21,27 +18,12 @@ returns c =
     let w = written-sets (a .out .now) (a .at) (digit (a .x) ∷ a .end ∷ []) (omega arith) in
     (rw e, (rw e (simp towards-suc w), omega arith))
 
-slice-write-out-4 : tie.Need-slice-write-out-4
-slice-write-out-4 c = simp length-set (omega arith)
-
-slice-write-out-5 : tie.Need-slice-write-out-5
-slice-write-out-5 c = simp length-set (omega arith)
-
 returns-2 : tie.Need-returns-2
 returns-2 c =
     let a = c .before .before .args in
     let e = decimal-two (a .x) (c .before .if1 .left) (c .if2 .taken) in
     let w = written-sets (a .out .now) (a .at) (digit (a .x / 10) ∷ digit (a .x % 10) ∷ a .end ∷ []) (omega arith) in
     (rw e, (rw e (simp towards-suc w), omega arith))
-
-slice-write-out-7 : tie.Need-slice-write-out-7
-slice-write-out-7 c = simp length-set (omega arith)
-
-slice-write-out-8 : tie.Need-slice-write-out-8
-slice-write-out-8 c = simp length-set (omega arith)
-
-slice-write-out-9 : tie.Need-slice-write-out-9
-slice-write-out-9 c = simp length-set (omega arith)
 
 returns-3 : tie.Need-returns-3
 returns-3 c =
@@ -57,7 +39,7 @@ write-decimal-spec =
     (λ c. search needs)
     (λ c. search needs)
     (λ c. search needs)
-    slice-write-out-2
+    (λ c. simp length-set (omega arith))
     (λ c. search needs)
     (λ c. search needs)
     returns
@@ -65,9 +47,9 @@ write-decimal-spec =
     (λ c. search needs)
     (λ c. search needs)
     (λ c. search needs)
-    slice-write-out-4
+    (λ c. simp length-set (omega arith))
     (λ c. search needs)
-    slice-write-out-5
+    (λ c. simp length-set (omega arith))
     (λ c. search needs)
     (λ c. search needs)
     returns-2
@@ -75,12 +57,12 @@ write-decimal-spec =
     (λ c. search needs)
     (λ c. search needs)
     (λ c. search needs)
-    slice-write-out-7
+    (λ c. simp length-set (omega arith))
     (λ c. search needs)
     (λ c. search needs)
-    slice-write-out-8
+    (λ c. simp length-set (omega arith))
     (λ c. search needs)
-    slice-write-out-9
+    (λ c. simp length-set (omega arith))
     (λ c. search needs)
     (λ c. search needs)
     returns-3)

@@ -1,6 +1,4 @@
 -- `line::write_four` meets its contract: each number behind the one before it.
-use Prim.Native.Nat.{_+_, _≤_}
-use mathlib.Core.Path.{_≡_}
 use mathlib.Core.List.{[], _∷_}
 use native.Mathlib.Omega.{arith}
 use borrow.Author.Needs.{needs}

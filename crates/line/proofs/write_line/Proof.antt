@@ -1,5 +1,4 @@
 -- `line::write_line` meets its contract: four numbers, four more behind them, and the last two.
-use mathlib.Core.Path.{_≡_}
 use mathlib.Core.List.{[], _∷_}
 use native.Mathlib.Omega.{arith}
 use borrow.Author.Needs.{needs}

@@ -18,9 +18,6 @@ Inv-loop a b c d zero₀ i₀ zero i = (i ≤ 32) × (all isBlank (a ∷ b ∷ c
 abbrev μ-loop : tie.MeasureT-loop
 μ-loop a b c d zero₀ i₀ zero i = 32 - i
 
-loop-holds : tie.Need-loop-holds Inv-loop μ-loop
-loop-holds c = (search needs, fours-begin _ _ _ _)
-
 loop-again : tie.Need-loop-again Inv-loop μ-loop
 loop-again c =
     let o = c .before .before .before .before .before .loop in
@@ -47,7 +44,7 @@ blank-four-spec =
     (tie.spec
     Inv-loop
     μ-loop
-    loop-holds
+    (λ c. (search needs, fours-begin _ _ _ _))
     (λ c. search needs)
     (λ c. search needs)
     (λ c. search needs)

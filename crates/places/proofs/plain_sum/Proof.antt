@@ -26,12 +26,6 @@ Inv-loop table h t size sum₀ i₀ sum i =
 abbrev μ-loop : tie.MeasureT-loop
 μ-loop table h t size sum₀ i₀ sum i = h - i
 
-size-requires : tie.Need-size-requires Inv-loop μ-loop
-size-requires c κs = let g = good-shaped (c .before .args .table .now) (c .before .pre .0) in omega arith
-
-loop-holds : tie.Need-loop-holds Inv-loop μ-loop
-loop-holds c = ((search needs, search needs), (omega arith, refl))
-
 returns : tie.Need-returns Inv-loop μ-loop
 unfolding plainScreen plainSum
 returns c =
@@ -95,8 +89,8 @@ plain-sum-spec =
     (tie.spec
     Inv-loop
     μ-loop
-    size-requires
-    loop-holds
+    (λ c κs. let g = good-shaped (c .before .args .table .now) (c .before .pre .0) in omega arith)
+    (λ c. ((search needs, search needs), (omega arith, refl)))
     (λ c. search needs)
     returns
     mode-requires

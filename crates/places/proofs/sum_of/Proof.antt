@@ -17,9 +17,6 @@ Inv-loop t sum₀ i₀ sum i = (i ≤ 32) × ((sum ≤ 255 * i) × (total (t .sc
 abbrev μ-loop : tie.MeasureT-loop
 μ-loop t sum₀ i₀ sum i = 32 - i
 
-loop-holds : tie.Need-loop-holds Inv-loop μ-loop
-loop-holds c = (search needs, (search needs, omega arith))
-
 add-sum : tie.Need-add-sum Inv-loop μ-loop
 add-sum c =
     let x : Fits w8 (getD (c .before .before .before .args .t1 .screens) (c .before .before .loop .i) 0) = search needs in
@@ -48,7 +45,7 @@ sum-of-spec =
     (tie.spec
     Inv-loop
     μ-loop
-    loop-holds
+    (λ c. (search needs, (search needs, omega arith)))
     (λ c. search needs)
     (λ c. search needs)
     add-sum

@@ -18,9 +18,6 @@ use Rattle.places.proofs.TaskFits.{task-fits}
 use Rattle.places.proofs.used_sum.Statement.{statement}
 use Rattle.places.proofs.used_sum.Tie as tie
 
-size-requires : tie.Need-size-requires
-size-requires c κs = let g = good-shaped (c .before .args .table .now) (c .before .pre) in omega arith
-
 returns : tie.Need-returns
 unfolding usedSum
 returns c =
@@ -107,7 +104,7 @@ pub used-sum-spec : {M : Type 1} → statement M
 used-sum-spec =
     tie.close
     (tie.spec
-    size-requires
+    (λ c κs. let g = good-shaped (c .before .args .table .now) (c .before .pre) in omega arith)
     returns
     (λ c. search needs)
     returns-2

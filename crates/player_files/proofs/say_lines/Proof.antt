@@ -19,9 +19,6 @@ slice-aggregate-play c = search needs
 array-share-prefix-output : tie.Need-array-share-prefix-output
 array-share-prefix-output c = rw (c .before .play .kept .1 .1 .1 .0) (c .before .play .ensures .1 .1 .1 .1 .1)
 
-slice-aggregate-print : tie.Need-slice-aggregate-print
-slice-aggregate-print c = sym (length-take-le _ _ (array-share-prefix-output (c .before)))
-
 returns : tie.Need-returns
 returns c =
     let play = c .before .before .before .before in
@@ -40,6 +37,6 @@ say-lines-spec =
     slice-aggregate-play
     (λ c κs. search needs)
     array-share-prefix-output
-    slice-aggregate-print
+    (λ c. sym (length-take-le _ _ (array-share-prefix-output (c .before))))
     (λ c κs. search needs)
     returns)

@@ -19,9 +19,6 @@ explain-requires c κs =
 array-share-prefix-output : tie.Need-array-share-prefix-output
 array-share-prefix-output c = rw (c .before .explain .kept .1 .1 .1 .1 .0) (c .before .explain .ensures .1 .1 .1 .1 .1)
 
-slice-aggregate-print : tie.Need-slice-aggregate-print
-slice-aggregate-print c = sym (length-take-le _ _ (array-share-prefix-output (c .before)))
-
 returns : tie.Need-returns
 returns c =
     let explain = c .before .before .before .before in
@@ -34,6 +31,6 @@ say-reasons-spec =
     slice-aggregate-explain
     explain-requires
     array-share-prefix-output
-    slice-aggregate-print
+    (λ c. sym (length-take-le _ _ (array-share-prefix-output (c .before))))
     (λ c κs. search needs)
     returns)

@@ -12,9 +12,6 @@ use Rattle.table.proofs.BeginningLaws.{told}
 use Rattle.reading.proofs.read_table.Statement.{statement}
 use Rattle.reading.proofs.read_table.Tie as tie
 
-slice-aggregate-read-block : tie.Need-slice-aggregate-read-block
-slice-aggregate-read-block c = sym (length-take-le 2 (c .before .before .args .buffer .now) (omega arith))
-
 -- what was read, and what stands in the buffer then
 few : (c : tie.After-read-block)
     → let there = c .read-block .last .1 .0 ++ drop 2 (c .before .before .before .args .buffer .now) in
@@ -26,15 +23,6 @@ few c =
     let all = length-append (read .last .1 .0) (drop 2 buffer) in
     let rest = length-drop 2 buffer in
     (omega (arith, read .ensures, read .kept .1 .0), (omega (arith, read .ensures), omega (arith, read .kept .1 .0)))
-
-slice-reshare-prefix-beginning-of : tie.Need-slice-reshare-prefix-beginning-of
-slice-reshare-prefix-beginning-of c = few (c .before .before) .1 .0
-
-slice-aggregate-beginning-of : tie.Need-slice-aggregate-beginning-of
-slice-aggregate-beginning-of c = sym (length-take-le _ _ (few (c .before .before .before) .1 .0))
-
-returns : tie.Need-returns
-returns c = omega (arith, few (c .before .before .before .before .before) .0)
 
 -- the table is cut there
 abbrev first : tie.After-long → tie.After-read-block
@@ -48,21 +36,6 @@ cut c =
     let l = length-take-le (read .read-block .result .count) there (few read .1 .0) in
     (omega arith, omega arith)
 
-returns-2 : tie.Need-returns-2
-returns-2 c = omega (arith, few (first (c .before .before)) .0)
-
-sub-read-block : tie.Need-sub-read-block
-sub-read-block c = omega (arith, cut (c .before .before) .0)
-
-part-read-block-start : tie.Need-part-read-block-start
-part-read-block-start c = omega (arith, cut (c .before .before) .0)
-
-part-read-block-end : tie.Need-part-read-block-end
-part-read-block-end c =
-    let k = cut (c .before .before) .1 in
-    let l = few (first (c .before .before)) .1 .1 in
-    omega arith
-
 returns-3 : tie.Need-returns-3
 returns-3 c =
     let then = c .before .before .before in
@@ -74,28 +47,25 @@ returns-3 c =
     let lent = mid-len (read .read-block .result .count) (long .long .given .0 .0) there (omega arith) in
     omega (arith, then .read-block2 .ensures, then .read-block2 .kept .1 .0)
 
-add-t14 : tie.Need-add-t14
-add-t14 c = let r = returns-3 c in omega arith
-
 pub read-table-spec : {M : Type 1} → statement M
 read-table-spec =
     tie.close
     (tie.spec
     (λ c. search needs)
-    slice-aggregate-read-block
+    (λ c. sym (length-take-le 2 (c .before .before .args .buffer .now) (omega arith)))
     (λ c κs. search needs)
-    slice-reshare-prefix-beginning-of
-    slice-aggregate-beginning-of
+    (λ c. few (c .before .before) .1 .0)
+    (λ c. sym (length-take-le _ _ (few (c .before .before .before) .1 .0)))
     (λ c κs. search needs)
     (λ c. search needs)
     (λ c. search needs)
-    returns
+    (λ c. omega (arith, few (c .before .before .before .before .before) .0))
     (λ c. search needs)
-    returns-2
-    sub-read-block
-    part-read-block-start
-    part-read-block-end
+    (λ c. omega (arith, few (first (c .before .before)) .0))
+    (λ c. omega (arith, cut (c .before .before) .0))
+    (λ c. omega (arith, cut (c .before .before) .0))
+    (λ c. let k = cut (c .before .before) .1 in let l = few (first (c .before .before)) .1 .1 in omega arith)
     (λ c κs. search needs)
-    add-t14
+    (λ c. let r = returns-3 c in omega arith)
     (λ c. search needs)
     returns-3)

@@ -45,12 +45,6 @@ row c =
     let k = root-known (a .table .now) (a .t2) (a .n) (omega arith) (start .pre .each) (c .before .loop .i) (omega arith) in
     omega arith
 
-mode-requires : tie.Need-mode-requires Inv-loop μ-loop
-mode-requires c κs = omega (arith, row c)
-
-affinity-requires-2 : tie.Need-affinity-requires-2 Inv-loop μ-loop
-affinity-requires-2 c κs = omega (arith, row (c .before))
-
 -- the test of the root at i is the code's
 tested : (c : tie.After-affinity2 Inv-loop μ-loop)
     → akin (c .before .before .before .before .before .before .args .table .now) (c .before .before .before .before .before .before .args .b)
@@ -102,8 +96,8 @@ by-affinity-spec =
     loop-holds
     (λ c. search needs)
     (λ c. search needs)
-    mode-requires
-    affinity-requires-2
+    (λ c κs. omega (arith, row c))
+    (λ c κs. omega (arith, row (c .before)))
     (λ c. search needs)
     (λ c. search needs)
     (λ c. search needs)

@@ -22,9 +22,6 @@ Inv-loop n b roots i₀ i = (i ≤ n) × (find (rootIs b) (take n roots) ≡ beh
 abbrev μ-loop : tie.MeasureT-loop
 μ-loop n b roots i₀ i = n - i
 
-loop-holds : tie.Need-loop-holds Inv-loop μ-loop
-loop-holds c = (search needs, find-begin (rootIs (c .args .b)) (take (c .args .n) (c .args .t1)))
-
 loop-again : tie.Need-loop-again Inv-loop μ-loop
 loop-again c =
     let here = c .before .before in
@@ -49,4 +46,4 @@ returns-2 c =
 pub by-root-spec : {M : Type 1} → statement M
 by-root-spec =
     tie.close
-    (tie.spec Inv-loop μ-loop loop-holds (λ c. search needs) (λ c. search needs) (λ c. search needs) (λ c. search needs) (λ c. search needs) loop-again returns returns-2)
+    (tie.spec Inv-loop μ-loop (λ c. (search needs, find-begin (rootIs (c .args .b)) (take (c .args .n) (c .args .t1)))) (λ c. search needs) (λ c. search needs) (λ c. search needs) (λ c. search needs) (λ c. search needs) loop-again returns returns-2)

@@ -17,12 +17,6 @@ Inv-loop s roots₀ i₀ roots i = (i ≤ 16) × ((length roots ≡ 16) × (take
 abbrev μ-loop : tie.MeasureT-loop
 μ-loop s roots₀ i₀ roots i = 16 - i
 
-loop-holds : tie.Need-loop-holds Inv-loop μ-loop
-loop-holds c = (search needs, (length-replicate {A = ℕ} 16 0, refl))
-
-element-copy-out-t : tie.Need-element-copy-out-t Inv-loop μ-loop
-element-copy-out-t c = search (needs, long)
-
 loop-again : tie.Need-loop-again Inv-loop μ-loop
 loop-again c =
     let o = c .before .before .loop in
@@ -39,4 +33,4 @@ returns c =
 
 pub roots-of-spec : {M : Type 1} → statement M
 roots-of-spec =
-    tie.close (tie.spec Inv-loop μ-loop loop-holds (λ c. search needs) element-copy-out-t (λ c. search needs) (λ c. search needs) (λ c. search needs) loop-again returns)
+    tie.close (tie.spec Inv-loop μ-loop (λ c. (search needs, (length-replicate {A = ℕ} 16 0, refl))) (λ c. search needs) (λ c. search (needs, long)) (λ c. search needs) (λ c. search needs) (λ c. search needs) loop-again returns)

@@ -20,9 +20,6 @@ Inv-loop b t i₀ i = (i ≤ t .height) × (find (eqb b) (viewTask t .screens) �
 abbrev μ-loop : tie.MeasureT-loop
 μ-loop b t i₀ i = t .height - i
 
-loop-holds : tie.Need-loop-holds Inv-loop μ-loop
-loop-holds c = (search needs, find-begin (eqb (c .args .b)) (viewTask (c .args .t1) .screens))
-
 loop-again : tie.Need-loop-again Inv-loop μ-loop
 loop-again c =
     let here = c .before .before .before in
@@ -60,7 +57,7 @@ topmost-spec =
     (tie.spec
     Inv-loop
     μ-loop
-    loop-holds
+    (λ c. (search needs, find-begin (eqb (c .args .b)) (viewTask (c .args .t1) .screens)))
     (λ c. search needs)
     (λ c. search needs)
     (λ c. search needs)

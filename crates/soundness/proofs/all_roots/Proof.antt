@@ -17,9 +17,6 @@ Inv-loop roots all₀ i₀ all′ i = (i ≤ 16) × (all isRoot roots ≡ (all�
 abbrev μ-loop : tie.MeasureT-loop
 μ-loop roots all₀ i₀ all′ i = 16 - i
 
-loop-holds : tie.Need-loop-holds Inv-loop μ-loop
-loop-holds c = (search needs, refl)
-
 loop-again : tie.Need-loop-again Inv-loop μ-loop
 unfolding isRoot
 loop-again c =
@@ -38,4 +35,4 @@ returns c =
     sym ((rw (all-end isRoot roots (o .i) (omega arith)) at (o .inv .1)) ∙ and-true (o .all))
 
 pub all-roots-spec : {M : Type 1} → statement M
-all-roots-spec = tie.close (tie.spec Inv-loop μ-loop loop-holds (λ c. search needs) (λ c. search needs) (λ c. search needs) loop-again returns)
+all-roots-spec = tie.close (tie.spec Inv-loop μ-loop (λ c. (search needs, refl)) (λ c. search needs) (λ c. search needs) (λ c. search needs) loop-again returns)

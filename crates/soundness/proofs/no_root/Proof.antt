@@ -18,9 +18,6 @@ Inv-loop from n b roots i₀ i = (i ≤ n) × (all (otherRoot b) (drop from (tak
 abbrev μ-loop : tie.MeasureT-loop
 μ-loop from n b roots i₀ i = n - i
 
-loop-holds : tie.Need-loop-holds Inv-loop μ-loop
-loop-holds c = (search needs, refl)
-
 returns : tie.Need-returns Inv-loop μ-loop
 unfolding otherRoot
 returns c =
@@ -52,7 +49,7 @@ no-root-spec =
     (tie.spec
     Inv-loop
     μ-loop
-    loop-holds
+    (λ c. (search needs, refl))
     (λ c. search needs)
     returns
     (λ c. search needs)

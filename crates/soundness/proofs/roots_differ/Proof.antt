@@ -22,9 +22,6 @@ Inv-loop table n roots i₀ i =
 abbrev μ-loop : tie.MeasureT-loop
 μ-loop table n roots i₀ i = n - i
 
-loop-holds : tie.Need-loop-holds Inv-loop μ-loop
-loop-holds c = (search needs, refl)
-
 mode-requires : tie.Need-mode-requires Inv-loop μ-loop
 unfolding rootsKnown
 mode-requires c κs =
@@ -85,7 +82,7 @@ roots-differ-spec =
     (tie.spec
     Inv-loop
     μ-loop
-    loop-holds
+    (λ c. (search needs, refl))
     (λ c. search needs)
     (λ c. search needs)
     mode-requires

@@ -7,12 +7,6 @@ use Rattle.table.proofs.BeginningLaws.{begins-table, begins-cut, begins
 use Rattle.table.proofs.beginning_of.Statement.{statement}
 use Rattle.table.proofs.beginning_of.Tie as tie
 
-returns : tie.Need-returns
-returns c = sym (begins-bad (c .before .before .before .args .input .now) (λ g. omega arith))
-
-returns-2 : tie.Need-returns-2
-returns-2 c = sym (begins-bad (c .before .before .before .before .args .input .now) (λ g. omega arith))
-
 returns-3 : tie.Need-returns-3
 returns-3 c =
     let said = c .before .before .before .length-said in
@@ -26,4 +20,4 @@ returns-4 c =
     ap Beginning.Table (said .ensures) ∙ sym (begins-table l (record { some = omega arith; most = omega arith }) (omega arith))
 
 pub beginning-of-spec : {M : Type 1} → statement M
-beginning-of-spec = tie.close (tie.spec (λ c κs. search needs) returns returns-2 returns-3 returns-4)
+beginning-of-spec = tie.close (tie.spec (λ c κs. search needs) (λ c. sym (begins-bad (c .before .before .before .args .input .now) (λ g. omega arith))) (λ c. sym (begins-bad (c .before .before .before .before .args .input .now) (λ g. omega arith))) returns-3 returns-4)

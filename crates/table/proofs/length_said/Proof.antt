@@ -12,20 +12,8 @@ returns c =
     let none : getD l 0 0 ≡ 0 = List·getD-eq-default l 0 (omega arith) in
     omega arith
 
-size-requires : tie.Need-size-requires
-size-requires c κs = search needs
-
-cast-result : tie.Need-cast-result
-cast-result c = search needs
-
-mul-result : tie.Need-mul-result
-mul-result c = search needs
-
-add-result : tie.Need-add-result
-add-result c = search needs
-
 returns-2 : tie.Need-returns-2
 returns-2 c = search needs
 
 pub length-said-spec : {M : Type 1} → statement M
-length-said-spec = tie.close (tie.spec returns size-requires cast-result mul-result add-result returns-2)
+length-said-spec = tie.close (tie.spec returns (λ c κs. search needs) (λ c. search needs) (λ c. search needs) (λ c. search needs) returns-2)

@@ -20,9 +20,6 @@ Inv-loop table n x₀ x = (x ≤ n) × (allBelow x (λ y. leb (modeOf table y) s
 abbrev μ-loop : tie.MeasureT-loop
 μ-loop table n x₀ x = n - x
 
-loop-holds : tie.Need-loop-holds Inv-loop μ-loop
-loop-holds c = (omega arith, refl)
-
 returns : tie.Need-returns Inv-loop μ-loop
 returns c =
     let a = c .before .before .before .before .before .args in
@@ -48,7 +45,7 @@ modes-fit-spec =
     (tie.spec
     Inv-loop
     μ-loop
-    loop-holds
+    (λ c. (omega arith, refl))
     (λ c κs. search needs)
     returns
     (λ c. search needs)

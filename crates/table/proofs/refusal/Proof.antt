@@ -8,18 +8,6 @@ use Rattle.model.proofs.Walks.{said-yes, said-no}
 use Rattle.table.proofs.refusal.Statement.{statement}
 use Rattle.table.proofs.refusal.Tie as tie
 
-returns : tie.Need-returns
-returns c = sym (refusal-1 (c .before .before .args .table .now) (λ s. omega arith))
-
-returns-2 : tie.Need-returns-2
-returns-2 c = sym (refusal-1 (c .before .before .before .before .args .table .now) (λ s. omega arith))
-
-returns-3 : tie.Need-returns-3
-returns-3 c = sym (refusal-1 (c .before .before .before .before .before .args .table .now) (λ s. omega arith))
-
-returns-4 : tie.Need-returns-4
-returns-4 c = sym (refusal-1 (c .before .before .before .before .before .before .args .table .now) (λ s. omega arith))
-
 returns-5 : tie.Need-returns-5
 returns-5 c =
     sym (refusal-2 (c .before .before .before .before .before .before .before .before .args .table .now) (record { long = omega arith; some = omega arith; most = omega arith }) (λ f. omega arith))
@@ -45,14 +33,14 @@ pub refusal-spec : {M : Type 1} → statement M
 refusal-spec =
     tie.close
     (tie.spec
-    returns
+    (λ c. sym (refusal-1 (c .before .before .args .table .now) (λ s. omega arith)))
     (λ c κs. search needs)
     (λ c. search needs)
     (λ c. search needs)
     (λ c. search needs)
-    returns-2
-    returns-3
-    returns-4
+    (λ c. sym (refusal-1 (c .before .before .before .before .args .table .now) (λ s. omega arith)))
+    (λ c. sym (refusal-1 (c .before .before .before .before .before .args .table .now) (λ s. omega arith)))
+    (λ c. sym (refusal-1 (c .before .before .before .before .before .before .args .table .now) (λ s. omega arith)))
     (λ c κs. search needs)
     returns-5
     (λ c κs. search needs)

@@ -24,9 +24,6 @@ loop-holds c = summed-none (c .args .t1) (sizes c) (c .pre)
 element-copy-out-t : tie.Need-element-copy-out-t Inv-loop μ-loop
 element-copy-out-t c = let start = c .before .before in let few = blank-few (start .args .t1) (start .pre) in omega arith
 
-mul-t : tie.Need-mul-t Inv-loop μ-loop
-mul-t c = let i = element-copy-out-t c in omega arith
-
 more : (c : tie.After-wide Inv-loop μ-loop)
     → let l = c .before .before .before in
     Summed (l .before .args .t1) (l .loop .total + taskBehind (l .before .args .t1) (l .loop .i) .height) (l .loop .i + 1)
@@ -41,9 +38,6 @@ add-total c =
     let few = blank-few (start .args .t1) (start .pre) in
     omega (arith, more c .low, more c .inside, c .wide .ensures, few)
 
-loop-again : tie.Need-loop-again Inv-loop μ-loop
-loop-again c = rw (c .wide .ensures) (more c)
-
 returns : tie.Need-returns Inv-loop μ-loop
 returns c =
     let start = c .before .before in
@@ -57,11 +51,11 @@ standing-spec =
     μ-loop
     loop-holds
     (λ c. search needs)
-    mul-t
+    (λ c. let i = element-copy-out-t c in omega arith)
     element-copy-out-t
     (λ c κs. search needs)
     add-total
     (λ c. search needs)
     (λ c. search needs)
-    loop-again
+    (λ c. rw (c .wide .ensures) (more c))
     returns)
