@@ -24,18 +24,8 @@ pub report-on-spec : {M : Type 1} → statement M
 report-on-spec =
     tie.close
     (tie.spec
-    (λ c. search needs)
-    (λ c κs. search needs)
-    (λ c. search needs)
-    array-share-prefix-buffer
-    (λ c. sym (length-take-le _ _ (array-share-prefix-buffer (c .before))))
-    (λ c κs. search needs)
-    (λ c. search needs)
-    (λ c κs. search needs)
-    (λ c κs. search needs)
-    (λ c κs. search needs)
-    (λ c. search needs)
-    array-share-prefix-buffer-2
-    (λ c. sym (length-take-le _ _ (array-share-prefix-buffer-2 (c .before))))
-    (λ c κs. search needs)
+    (λ c. search needs) (λ c κs. search needs) (λ c. search needs) array-share-prefix-buffer
+    (λ c. sym (length-take-le _ _ (array-share-prefix-buffer (c .before)))) (λ c κs. search needs) (λ c. search needs)
+    (λ c κs. search needs) (λ c κs. search needs) (λ c κs. search needs) (λ c. search needs) array-share-prefix-buffer-2
+    (λ c. sym (length-take-le _ _ (array-share-prefix-buffer-2 (c .before)))) (λ c κs. search needs)
     (λ c. search needs))

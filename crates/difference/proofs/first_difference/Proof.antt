@@ -132,15 +132,5 @@ pub first-difference-spec : {M : Type 1} → statement M
 first-difference-spec =
     tie.close
     (tie.spec
-    Inv-loop
-    μ-loop
-    look-at-requires
-    look-at-requires-2
-    loop-holds
-    (λ c κs. search needs)
-    back-requires
-    back-requires-2
-    add-backs
-    loop-less
-    loop-again
-    returns)
+    Inv-loop μ-loop look-at-requires look-at-requires-2 loop-holds (λ c κs. search needs) back-requires back-requires-2
+    add-backs loop-less loop-again returns)

@@ -33,9 +33,7 @@ pub compare-spec : {M : Type 1} → statement M
 compare-spec =
     tie.close
     (tie.spec
-    (λ c κs. search needs)
-    (λ c κs. search needs)
+    (λ c κs. search needs) (λ c κs. search needs)
     (λ c κs. let p = c .before .before .before .before .pre in ap tableRefusal (sym (p .1)) ∙ p .0)
-    (λ c. sym (length-take-le _ _ (c .before .before .before .table-end .ensures .1)))
-    first-difference-requires
+    (λ c. sym (length-take-le _ _ (c .before .before .before .table-end .ensures .1))) first-difference-requires
     returns)

@@ -21,10 +21,5 @@ pub ending-of-spec : {M : Type 1} → statement M
 ending-of-spec =
     tie.close
     (tie.spec
-    (λ c κs. search needs)
-    (λ c. sym (length-take-le _ _ (c .before .table-end .ensures .1)))
-    (λ c. search needs)
-    (λ c. search needs)
-    (λ c. search needs)
-    (λ c κs. search needs)
-    returns)
+    (λ c κs. search needs) (λ c. sym (length-take-le _ _ (c .before .table-end .ensures .1))) (λ c. search needs)
+    (λ c. search needs) (λ c. search needs) (λ c κs. search needs) returns)

@@ -123,27 +123,9 @@ pub portion-of-spec : {M : Type 1} → statement M
 portion-of-spec =
     tie.close
     (tie.spec
-    Inv-loop
-    μ-loop
-    (λ c κs. search needs)
-    (λ c κs. search needs)
-    loop-holds
-    (λ c. search needs)
-    (λ c. search needs)
-    (λ c. search needs)
-    (λ c κs. search needs)
-    (λ c. let f = fits c .1 in omega arith)
-    (λ c. search needs)
-    (λ c. search needs)
-    (λ c. fits c .1)
-    is-in-requires
-    noted-requires
-    (λ c. search needs)
-    (λ c. search needs)
-    (λ c. fits (c .before .before .before) .1)
-    bytes-in-requires
-    (λ c. omega (arith, summed c, fits (c .before .before .before .before .before) .1))
-    add-i
-    (λ c. let f = fits (c .before .before .before .before .before) in omega (arith, f .0, f .1))
-    loop-again
-    returns)
+    Inv-loop μ-loop (λ c κs. search needs) (λ c κs. search needs) loop-holds (λ c. search needs) (λ c. search needs)
+    (λ c. search needs) (λ c κs. search needs) (λ c. let f = fits c .1 in omega arith) (λ c. search needs)
+    (λ c. search needs) (λ c. fits c .1) is-in-requires noted-requires (λ c. search needs) (λ c. search needs)
+    (λ c. fits (c .before .before .before) .1) bytes-in-requires
+    (λ c. omega (arith, summed c, fits (c .before .before .before .before .before) .1)) add-i
+    (λ c. let f = fits (c .before .before .before .before .before) in omega (arith, f .0, f .1)) loop-again returns)

@@ -17,9 +17,6 @@ pub same-table-spec : {M : Type 1} → statement M
 same-table-spec =
     tie.close
     (tie.spec
-    (λ c κs. search needs)
-    (λ c κs. search needs)
+    (λ c κs. search needs) (λ c κs. search needs)
     (λ c. sym (length-take-le _ _ (c .before .before .table-end .ensures .1)))
-    (λ c. sym (length-take-le _ _ (c .before .before .table-end2 .ensures .1)))
-    (λ c κs. search needs)
-    returns)
+    (λ c. sym (length-take-le _ _ (c .before .before .table-end2 .ensures .1))) (λ c κs. search needs) returns)

@@ -38,16 +38,8 @@ pub length-spec : {M : Type 1} → statement M
 length-spec =
     tie.close
     (tie.spec
-    Inv-loop
-    μ-loop
-    (λ c. search needs)
-    (λ c. let f = blank-few (c .args .t1) (c .pre) in search needs)
-    (λ c. search needs)
-    (λ c. search needs)
-    (λ c. search needs)
-    (λ c. search needs)
-    (λ c. omega (arith, next c .low))
-    (λ c. search needs)
-    (λ c. search needs)
+    Inv-loop μ-loop (λ c. search needs) (λ c. let f = blank-few (c .args .t1) (c .pre) in search needs)
+    (λ c. search needs) (λ c. search needs) (λ c. search needs) (λ c. search needs) (λ c. omega (arith, next c .low))
+    (λ c. search needs) (λ c. search needs)
     (λ c. let k = next c .low in let l = next c .long in (omega arith, (omega arith, (omega arith, omega arith))))
     returns)

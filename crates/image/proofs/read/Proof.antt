@@ -32,18 +32,8 @@ pub read-spec : {M : Type 1} → statement M
 read-spec =
     tie.close
     (tie.spec
-    (λ c. six (c .before))
-    (λ c. search needs)
-    (λ c. omega (arith, six (c .before .before)))
-    (λ c. search needs)
-    (λ c. omega (arith, six (c .before .before .before)))
-    (λ c. search needs)
-    (λ c. omega (arith, six (c .before .before .before .before)))
-    (λ c. search needs)
-    (λ c. omega (arith, six (c .before .before .before .before .before)))
-    (λ c κs. search needs)
-    (λ c κs. search needs)
-    returns
-    slice-aggregate-read-tasks
-    (λ c κs. search needs)
-    returns-2)
+    (λ c. six (c .before)) (λ c. search needs) (λ c. omega (arith, six (c .before .before))) (λ c. search needs)
+    (λ c. omega (arith, six (c .before .before .before))) (λ c. search needs)
+    (λ c. omega (arith, six (c .before .before .before .before))) (λ c. search needs)
+    (λ c. omega (arith, six (c .before .before .before .before .before))) (λ c κs. search needs) (λ c κs. search needs)
+    returns slice-aggregate-read-tasks (λ c κs. search needs) returns-2)

@@ -69,29 +69,10 @@ pub read-tasks-spec : {M : Type 1} → statement M
 read-tasks-spec =
     tie.close
     (tie.spec
-    Inv-loop
-    μ-loop
-    (λ c κs. search needs)
-    loop-holds
-    (λ c. search needs)
-    (λ c κs. search needs)
-    returns
-    (λ c. search needs)
-    (λ c. search needs)
-    (λ c κs. search needs)
-    (λ c. search needs)
-    (λ c. search needs)
-    (λ c κs. search needs)
-    returns-2
-    (λ c. search needs)
-    (λ c κs. let f = fitting c in omega (arith, c .before .wide .ensures .0))
-    (λ c. search needs)
+    Inv-loop μ-loop (λ c κs. search needs) loop-holds (λ c. search needs) (λ c κs. search needs) returns
+    (λ c. search needs) (λ c. search needs) (λ c κs. search needs) (λ c. search needs) (λ c. search needs)
+    (λ c κs. search needs) returns-2 (λ c. search needs)
+    (λ c κs. let f = fitting c in omega (arith, c .before .wide .ensures .0)) (λ c. search needs)
     (λ c. let few = c .before .before .before .before .before .before .before .before .before .pre in omega arith)
-    (λ c. search needs)
-    (λ c. let f = fitting (c .before) in omega arith)
-    (λ c. search needs)
-    (λ c. search needs)
-    loop-again
-    (λ c κs. search needs)
-    returns-3
-    returns-4)
+    (λ c. search needs) (λ c. let f = fitting (c .before) in omega arith) (λ c. search needs) (λ c. search needs)
+    loop-again (λ c κs. search needs) returns-3 returns-4)

@@ -85,17 +85,7 @@ pub write-spec : {M : Type 1} → statement M
 write-spec =
     tie.close
     (tie.spec
-    Inv-loop
-    μ-loop
-    (λ c. search needs)
-    loop-holds
-    (λ c. search needs)
-    (λ c. search needs)
-    write-task-requires
-    (λ c. search needs)
-    (λ c. search needs)
-    loop-again
-    (λ c κs. let w = c .before .before .before .before .pre .0 in (w .main, w .mark))
-    write-trailer-requires
-    (λ c. c .before .before .write-trailer .kept .0 ∙ kept (c .before .before .before .before .before .before))
-    returns)
+    Inv-loop μ-loop (λ c. search needs) loop-holds (λ c. search needs) (λ c. search needs) write-task-requires
+    (λ c. search needs) (λ c. search needs) loop-again
+    (λ c κs. let w = c .before .before .before .before .pre .0 in (w .main, w .mark)) write-trailer-requires
+    (λ c. c .before .before .write-trailer .kept .0 ∙ kept (c .before .before .before .before .before .before)) returns)

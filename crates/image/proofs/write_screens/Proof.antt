@@ -60,17 +60,6 @@ pub write-screens-spec : {M : Type 1} → statement M
 write-screens-spec =
     tie.close
     (tie.spec
-    Inv-loop
-    μ-loop
-    (λ c. search needs)
-    loop-holds
-    (λ c. search needs)
-    (λ c. search needs)
-    (λ c. search needs)
-    (λ c. search needs)
-    (λ c. omega (arith, kept (c .before .before)))
-    (λ c. search needs)
-    loop-again
-    (λ c. search needs)
-    (λ c. kept (c .before))
-    returns)
+    Inv-loop μ-loop (λ c. search needs) loop-holds (λ c. search needs) (λ c. search needs) (λ c. search needs)
+    (λ c. search needs) (λ c. omega (arith, kept (c .before .before))) (λ c. search needs) loop-again
+    (λ c. search needs) (λ c. kept (c .before)) returns)

@@ -29,10 +29,5 @@ pub write-task-spec : {M : Type 1} → statement M
 write-task-spec =
     tie.close
     (tie.spec
-    (λ c. search needs)
-    (λ c. search needs)
-    (λ c. simp length-set (omega arith))
-    (λ c. search needs)
-    (λ c κs. search needs)
-    (λ c. c .before .before .write-screens .kept .0 ∙ simp length-set)
-    returns)
+    (λ c. search needs) (λ c. search needs) (λ c. simp length-set (omega arith)) (λ c. search needs)
+    (λ c κs. search needs) (λ c. c .before .before .write-screens .kept .0 ∙ simp length-set) returns)

@@ -98,21 +98,9 @@ pub explain-text-spec : {M : Type 1} → statement M
 explain-text-spec =
     tie.close
     (tie.spec
-    (λ c κs. search needs)
-    (λ c. search needs)
-    (λ c κs. search needs)
-    (λ c. search needs)
-    returns
-    (λ c. within (c .before))
-    (λ c. within (c .before))
-    (λ c. search needs)
-    (λ c κs. search needs)
-    returns-2
-    (λ c. sym (length-take-le _ _ (within (c .before .before .before .before .before))))
-    (λ c κs. search needs)
+    (λ c κs. search needs) (λ c. search needs) (λ c κs. search needs) (λ c. search needs) returns
+    (λ c. within (c .before)) (λ c. within (c .before)) (λ c. search needs) (λ c κs. search needs) returns-2
+    (λ c. sym (length-take-le _ _ (within (c .before .before .before .before .before)))) (λ c κs. search needs)
     (λ c. within (c .before .before .before .before .before .before))
-    (λ c. within (c .before .before .before .before .before .before))
-    (λ c. search needs)
-    explain-requires
-    (λ c. search needs)
-    returns-3)
+    (λ c. within (c .before .before .before .before .before .before)) (λ c. search needs) explain-requires
+    (λ c. search needs) returns-3)

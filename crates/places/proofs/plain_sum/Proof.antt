@@ -87,17 +87,6 @@ pub plain-sum-spec : {M : Type 1} → statement M
 plain-sum-spec =
     tie.close
     (tie.spec
-    Inv-loop
-    μ-loop
-    (λ c κs. let g = good-shaped (c .before .args .table .now) (c .before .pre .0) in omega arith)
-    (λ c. ((search needs, search needs), (omega arith, refl)))
-    (λ c. search needs)
-    returns
-    mode-requires
-    returns-2
-    (λ c. search needs)
-    add-sum
-    (λ c. search needs)
-    (λ c. search needs)
-    loop-again
-    returns-3)
+    Inv-loop μ-loop (λ c κs. let g = good-shaped (c .before .args .table .now) (c .before .pre .0) in omega arith)
+    (λ c. ((search needs, search needs), (omega arith, refl))) (λ c. search needs) returns mode-requires returns-2
+    (λ c. search needs) add-sum (λ c. search needs) (λ c. search needs) loop-again returns-3)

@@ -43,13 +43,5 @@ pub sum-of-spec : {M : Type 1} → statement M
 sum-of-spec =
     tie.close
     (tie.spec
-    Inv-loop
-    μ-loop
-    (λ c. (search needs, (search needs, omega arith)))
-    (λ c. search needs)
-    (λ c. search needs)
-    add-sum
-    (λ c. search needs)
-    (λ c. search needs)
-    loop-again
-    returns)
+    Inv-loop μ-loop (λ c. (search needs, (search needs, omega arith))) (λ c. search needs) (λ c. search needs) add-sum
+    (λ c. search needs) (λ c. search needs) loop-again returns)

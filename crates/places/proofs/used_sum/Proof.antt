@@ -104,16 +104,6 @@ pub used-sum-spec : {M : Type 1} → statement M
 used-sum-spec =
     tie.close
     (tie.spec
-    (λ c κs. let g = good-shaped (c .before .args .table .now) (c .before .pre) in omega arith)
-    returns
-    (λ c. search needs)
-    returns-2
-    returns-3
-    mode-requires
-    (λ c κs. search needs)
-    returns-4
-    returns-5
-    (λ c κs. search needs)
-    returns-6
-    (λ c. search needs)
-    returns-7)
+    (λ c κs. let g = good-shaped (c .before .args .table .now) (c .before .pre) in omega arith) returns
+    (λ c. search needs) returns-2 returns-3 mode-requires (λ c κs. search needs) returns-4 returns-5
+    (λ c κs. search needs) returns-6 (λ c. search needs) returns-7)

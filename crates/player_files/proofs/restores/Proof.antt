@@ -23,16 +23,8 @@ pub restores-spec : {M : Type 1} → statement M
 restores-spec =
     tie.close
     (tie.spec
-    Inv-loop
-    μ-loop
-    (λ c κs. search needs)
-    (λ c. met-start (c .before .before .args .block .now) (c .none .result) (c .none .ensures))
-    (λ c. search needs)
+    Inv-loop μ-loop (λ c κs. search needs)
+    (λ c. met-start (c .before .before .args .block .now) (c .none .result) (c .none .ensures)) (λ c. search needs)
     (λ c κs. let l = c .before .before .loop .inv in let few = l .few in let number = l .number in omega arith)
-    (λ c. search needs)
-    returns
-    (λ c. let number = c .before .before .before .before .loop .inv .number in omega arith)
-    (λ c. search needs)
-    (λ c. search needs)
-    loop-again
-    (λ c. met-end (c .before .loop .inv) (omega arith)))
+    (λ c. search needs) returns (λ c. let number = c .before .before .before .before .loop .inv .number in omega arith)
+    (λ c. search needs) (λ c. search needs) loop-again (λ c. met-end (c .before .loop .inv) (omega arith)))

@@ -34,9 +34,5 @@ pub say-lines-spec : {M : Type 1} → statement M
 say-lines-spec =
     tie.close
     (tie.spec
-    slice-aggregate-play
-    (λ c κs. search needs)
-    array-share-prefix-output
-    (λ c. sym (length-take-le _ _ (array-share-prefix-output (c .before))))
-    (λ c κs. search needs)
-    returns)
+    slice-aggregate-play (λ c κs. search needs) array-share-prefix-output
+    (λ c. sym (length-take-le _ _ (array-share-prefix-output (c .before)))) (λ c κs. search needs) returns)

@@ -28,9 +28,5 @@ pub say-reasons-spec : {M : Type 1} → statement M
 say-reasons-spec =
     tie.close
     (tie.spec
-    slice-aggregate-explain
-    explain-requires
-    array-share-prefix-output
-    (λ c. sym (length-take-le _ _ (array-share-prefix-output (c .before))))
-    (λ c κs. search needs)
-    returns)
+    slice-aggregate-explain explain-requires array-share-prefix-output
+    (λ c. sym (length-take-le _ _ (array-share-prefix-output (c .before)))) (λ c κs. search needs) returns)

@@ -12,11 +12,6 @@ pub stop-spec : {M : Type 1} → statement M
 stop-spec =
     tie.close
     (tie.spec
-    (λ c. search needs)
-    (λ c κs. search needs)
-    array-share-prefix-line
-    (λ c. sym (length-take-le _ _ (array-share-prefix-line (c .before))))
-    (λ c κs. search needs)
-    (λ c κs. search needs)
-    (λ c. search needs)
-    (λ c. search needs))
+    (λ c. search needs) (λ c κs. search needs) array-share-prefix-line
+    (λ c. sym (length-take-le _ _ (array-share-prefix-line (c .before)))) (λ c κs. search needs) (λ c κs. search needs)
+    (λ c. search needs) (λ c. search needs))

@@ -26,15 +26,7 @@ pub compare-named-spec : {M : Type 1} → statement M
 compare-named-spec =
     tie.close
     (tie.spec
-    (λ c. sym (length-replicate {A = ℕ} 1048576 0))
-    (λ c κs. search needs)
-    (λ c. search needs)
-    (λ c. sym (length-replicate {A = ℕ} 1048576 0))
-    (λ c κs. search needs)
-    (λ c. search needs)
-    array-share-prefix-first
-    (λ c. sym (length-take-le _ _ (array-share-prefix-first (c .before))))
-    array-share-prefix-second
-    (λ c. sym (length-take-le _ _ (array-share-prefix-second (c .before))))
-    tell-requires
-    (λ c. search needs))
+    (λ c. sym (length-replicate {A = ℕ} 1048576 0)) (λ c κs. search needs) (λ c. search needs)
+    (λ c. sym (length-replicate {A = ℕ} 1048576 0)) (λ c κs. search needs) (λ c. search needs) array-share-prefix-first
+    (λ c. sym (length-take-le _ _ (array-share-prefix-first (c .before)))) array-share-prefix-second
+    (λ c. sym (length-take-le _ _ (array-share-prefix-second (c .before)))) tell-requires (λ c. search needs))

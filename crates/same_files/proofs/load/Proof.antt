@@ -12,16 +12,7 @@ pub load-spec : {M : Type 1} → statement M
 load-spec =
     tie.close
     (tie.spec
-    (λ c κs. search needs)
-    (λ c. search needs)
-    (λ c κs. search needs)
-    (λ c κs. search needs)
-    (λ c. search needs)
-    (λ c κs. search needs)
-    (λ c κs. search needs)
+    (λ c κs. search needs) (λ c. search needs) (λ c κs. search needs) (λ c κs. search needs) (λ c. search needs)
+    (λ c κs. search needs) (λ c κs. search needs)
     (λ c. rw (c .unread .ensures) (zero-le, (λ h. absurd (false≢true h), λ h. absurd (false≢true h))))
-    array-share-prefix-path
-    (λ c. search needs)
-    (λ c κs. search needs)
-    (λ c. search needs)
-    (λ c. search needs))
+    array-share-prefix-path (λ c. search needs) (λ c κs. search needs) (λ c. search needs) (λ c. search needs))

@@ -19,17 +19,7 @@ pub tell-spec : {M : Type 1} → statement M
 tell-spec =
     tie.close
     (tie.spec
-    (λ c κs. search needs)
-    (λ c. search needs)
-    (λ c κs. search needs)
-    (λ c. search needs)
-    compare-requires
-    (λ c. search needs)
-    write-verdict-requires
-    array-share-prefix-out
-    (λ c. sym (length-take-le _ _ (array-share-prefix-out (c .before))))
-    (λ c κs. search needs)
-    (λ c. search needs)
-    (λ c κs. search needs)
-    (λ c. search needs)
-    (λ c. search needs))
+    (λ c κs. search needs) (λ c. search needs) (λ c κs. search needs) (λ c. search needs) compare-requires
+    (λ c. search needs) write-verdict-requires array-share-prefix-out
+    (λ c. sym (length-take-le _ _ (array-share-prefix-out (c .before)))) (λ c κs. search needs) (λ c. search needs)
+    (λ c κs. search needs) (λ c. search needs) (λ c. search needs))

@@ -90,17 +90,6 @@ pub by-affinity-spec : {M : Type 1} → statement M
 by-affinity-spec =
     tie.close
     (tie.spec
-    Inv-loop
-    μ-loop
-    affinity-requires
-    loop-holds
-    (λ c. search needs)
-    (λ c. search needs)
-    (λ c κs. omega (arith, row c))
-    (λ c κs. omega (arith, row (c .before)))
-    (λ c. search needs)
-    (λ c. search needs)
-    (λ c. search needs)
-    loop-again
-    returns
-    returns-2)
+    Inv-loop μ-loop affinity-requires loop-holds (λ c. search needs) (λ c. search needs) (λ c κs. omega (arith, row c))
+    (λ c κs. omega (arith, row (c .before))) (λ c. search needs) (λ c. search needs) (λ c. search needs) loop-again
+    returns returns-2)

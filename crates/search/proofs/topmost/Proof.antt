@@ -55,16 +55,6 @@ pub topmost-spec : {M : Type 1} → statement M
 topmost-spec =
     tie.close
     (tie.spec
-    Inv-loop
-    μ-loop
-    (λ c. (search needs, find-begin (eqb (c .args .b)) (viewTask (c .args .t1) .screens)))
-    (λ c. search needs)
-    (λ c. search needs)
-    (λ c. search needs)
-    (λ c. search needs)
-    (λ c. search needs)
-    (λ c. search needs)
-    (λ c. search needs)
-    loop-again
-    returns
-    returns-2)
+    Inv-loop μ-loop (λ c. (search needs, find-begin (eqb (c .args .b)) (viewTask (c .args .t1) .screens)))
+    (λ c. search needs) (λ c. search needs) (λ c. search needs) (λ c. search needs) (λ c. search needs)
+    (λ c. search needs) (λ c. search needs) loop-again returns returns-2)

@@ -47,10 +47,4 @@ pub main-sound-spec : {M : Type 1} → statement M
 main-sound-spec =
     tie.close
     (tie.spec
-    returns
-    returns-2
-    (λ c. search needs)
-    (λ c. search needs)
-    (λ c. search needs)
-    main-screen-requires
-    returns-3)
+    returns returns-2 (λ c. search needs) (λ c. search needs) (λ c. search needs) main-screen-requires returns-3)

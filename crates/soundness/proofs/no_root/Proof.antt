@@ -47,12 +47,5 @@ pub no-root-spec : {M : Type 1} → statement M
 no-root-spec =
     tie.close
     (tie.spec
-    Inv-loop
-    μ-loop
-    (λ c. (search needs, refl))
-    (λ c. search needs)
-    returns
-    (λ c. search needs)
-    (λ c. search needs)
-    loop-again
-    returns-2)
+    Inv-loop μ-loop (λ c. (search needs, refl)) (λ c. search needs) returns (λ c. search needs) (λ c. search needs)
+    loop-again returns-2)

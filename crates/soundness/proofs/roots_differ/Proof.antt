@@ -80,16 +80,5 @@ pub roots-differ-spec : {M : Type 1} → statement M
 roots-differ-spec =
     tie.close
     (tie.spec
-    Inv-loop
-    μ-loop
-    (λ c. (search needs, refl))
-    (λ c. search needs)
-    (λ c. search needs)
-    mode-requires
-    (λ c κs. search needs)
-    returns
-    (λ c. search needs)
-    loop-again
-    (λ c. search needs)
-    loop-again-2
-    returns-2)
+    Inv-loop μ-loop (λ c. (search needs, refl)) (λ c. search needs) (λ c. search needs) mode-requires
+    (λ c κs. search needs) returns (λ c. search needs) loop-again (λ c. search needs) loop-again-2 returns-2)

@@ -33,16 +33,9 @@ pub refusal-spec : {M : Type 1} → statement M
 refusal-spec =
     tie.close
     (tie.spec
-    (λ c. sym (refusal-1 (c .before .before .args .table .now) (λ s. omega arith)))
-    (λ c κs. search needs)
-    (λ c. search needs)
-    (λ c. search needs)
-    (λ c. search needs)
+    (λ c. sym (refusal-1 (c .before .before .args .table .now) (λ s. omega arith))) (λ c κs. search needs)
+    (λ c. search needs) (λ c. search needs) (λ c. search needs)
     (λ c. sym (refusal-1 (c .before .before .before .before .args .table .now) (λ s. omega arith)))
     (λ c. sym (refusal-1 (c .before .before .before .before .before .args .table .now) (λ s. omega arith)))
     (λ c. sym (refusal-1 (c .before .before .before .before .before .before .args .table .now) (λ s. omega arith)))
-    (λ c κs. search needs)
-    returns-5
-    (λ c κs. search needs)
-    returns-6
-    returns-7)
+    (λ c κs. search needs) returns-5 (λ c κs. search needs) returns-6 returns-7)

@@ -47,15 +47,6 @@ pub standing-spec : {M : Type 1} → statement M
 standing-spec =
     tie.close
     (tie.spec
-    Inv-loop
-    μ-loop
-    loop-holds
-    (λ c. search needs)
-    (λ c. let i = element-copy-out-t c in omega arith)
-    element-copy-out-t
-    (λ c κs. search needs)
-    add-total
-    (λ c. search needs)
-    (λ c. search needs)
-    (λ c. rw (c .wide .ensures) (more c))
+    Inv-loop μ-loop loop-holds (λ c. search needs) (λ c. let i = element-copy-out-t c in omega arith) element-copy-out-t
+    (λ c κs. search needs) add-total (λ c. search needs) (λ c. search needs) (λ c. rw (c .wide .ensures) (more c))
     returns)
