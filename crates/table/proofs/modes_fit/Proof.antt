@@ -20,6 +20,9 @@ Inv-loop table n x₀ x = (x ≤ n) × (allBelow x (λ y. leb (modeOf table y) s
 abbrev μ-loop : tie.MeasureT-loop
 μ-loop table n x₀ x = n - x
 
+loop-holds : tie.Need-loop-holds Inv-loop μ-loop
+loop-holds c = (omega arith, refl)
+
 returns : tie.Need-returns Inv-loop μ-loop
 returns c =
     let a = c .before .before .before .before .before .args in
@@ -43,5 +46,5 @@ pub modes-fit-spec : {M : Type 1} → statement M
 modes-fit-spec =
     tie.close
     (tie.spec
-    Inv-loop μ-loop (λ c. (omega arith, refl)) (λ c κs. search needs) returns (λ c. search needs) (λ c. search needs)
+    Inv-loop μ-loop loop-holds (λ c κs. search needs) returns (λ c. search needs) (λ c. search needs)
     loop-again returns-2)
