@@ -8,7 +8,7 @@
  * For all arguments: an accepted call answers 0 and what is then in front; a refused call answers the number of the
  * first check that fails and zeros, and session and buffers keep every byte. The checks go in the order 1, 2, 20, then
  * those named for the call. A session that is sound under the table stays so. The tally's two calls have a check of
- * their own, 31.
+ * their own, 31, and a load, which has no session, has 1, 2 and 32.
  *
  * A pointer with a length is to that many bytes, and no pointer is null, even with length 0. What a call may write, a
  * session or a buffer, shares no byte with its other arguments. The library keeps no pointer, allocates nothing and has
@@ -92,7 +92,8 @@ static inline const char *milchkompass_flag_name(uint32_t flag) {
     }
 }
 
-/* The refusals; milchkompass_refusal_text says what each means. 9 is the player's alone, and 31 a tally's. */
+/* The refusals; milchkompass_refusal_text says what each means. 9 is the player's alone, 31 a tally's, and
+ * 32 a load's. */
 enum milchkompass_refusal {
     MILCHKOMPASS_ACCEPTED = 0,
     MILCHKOMPASS_TABLE_LENGTH = 1,
@@ -110,7 +111,8 @@ enum milchkompass_refusal {
     MILCHKOMPASS_TASKS_FULL = 23,
     MILCHKOMPASS_TASK_FULL = 24,
     MILCHKOMPASS_NO_SUCH_EDITION = 30,
-    MILCHKOMPASS_NOT_TALLIED = 31
+    MILCHKOMPASS_NOT_TALLIED = 31,
+    MILCHKOMPASS_SEED_ZERO = 32
 };
 
 /* What a refusal means, in one plain sentence. */
@@ -133,6 +135,7 @@ static inline const char *milchkompass_refusal_text(uint8_t refusal) {
     case MILCHKOMPASS_TASK_FULL: return "a screen is to be pushed onto a task of 32";
     case MILCHKOMPASS_NO_SUCH_EDITION: return "a launch names an edition that is none of 0, 6, 7 and 8";
     case MILCHKOMPASS_NOT_TALLIED: return "library only, from a tally: it has 65,535 calls already, an accepted height is above 32, or no list of answers gives its numbers";
+    case MILCHKOMPASS_SEED_ZERO: return "the seed of a load is 0";
     default: return "no refusal of a call";
     }
 }
@@ -233,6 +236,14 @@ typedef struct milchkompass_ending {
     bool alike;
 } milchkompass_ending;
 
+/* What a load gives: the refusal (0 if none), the state after its last record, which is the seed where it made none and
+ * 0 where it is refused, and how many records it made (0 if refused). */
+typedef struct milchkompass_load_reply {
+    uint8_t refusal;
+    uint32_t state;
+    size_t count;
+} milchkompass_load_reply;
+
 /* A tally of answers: the sum of the front heights of the accepted ones, how many were accepted and how many refused,
  * and the greatest front height of the accepted ones. It belongs to its caller. */
 typedef struct milchkompass_tally {
@@ -319,6 +330,12 @@ milchkompass_answer milchkompass_play_call(const uint8_t *table, size_t table_le
  * checks: 1, 2. */
 milchkompass_ending milchkompass_same_ending(const uint8_t *table, size_t table_length, const uint8_t *first,
                                              size_t first_length, const uint8_t *second, size_t second_length);
+
+/* Load. After it the buffer begins with the records that the generator makes from the seed, six bytes each and as many
+ * as fit; the 0 to 5 bytes beyond them stay. A load from the state that it gives goes on where it ended. Its checks: 1,
+ * 2, 32. */
+milchkompass_load_reply milchkompass_load(const uint8_t *table, size_t table_length, uint32_t seed, uint8_t *out,
+                                          size_t out_length);
 
 /* Add. An answer, by its refusal and its front height, joins the tally, and 0 is given; the height of a refused answer
  * is not looked at. Otherwise 31, and the tally keeps its numbers: where it has MILCHKOMPASS_TALLY_MAX answers already,

@@ -55,6 +55,14 @@ pub struct SaveReply {
     pub length: usize,
 }
 
+/// What a load gives.
+#[repr(C)]
+pub struct LoadReply {
+    pub refusal: u8,
+    pub state: u32,
+    pub count: usize,
+}
+
 /// Why a start goes as it does.
 #[repr(C)]
 pub struct Reason {
@@ -161,6 +169,13 @@ extern "C" {
         second: *const u8,
         second_length: usize,
     ) -> Ending;
+    fn milchkompass_load(
+        table: *const u8,
+        table_length: usize,
+        seed: u32,
+        out: *mut u8,
+        out_length: usize,
+    ) -> LoadReply;
     fn milchkompass_tally_add(t: *mut Tally, refusal: u8, height: u8) -> u8;
     fn milchkompass_tally_report(t: Tally) -> Report;
 }
@@ -264,6 +279,11 @@ pub fn same_ending(table: &[u8], first: &[u8], second: &[u8]) -> Ending {
             second.len(),
         )
     }
+}
+
+pub fn load(table: &[u8], seed: u32, out: &mut [u8]) -> LoadReply {
+    let (bytes, length) = (out.as_mut_ptr(), out.len());
+    unsafe { milchkompass_load(table.as_ptr(), table.len(), seed, bytes, length) }
 }
 
 /// No table is made for a tally, so the interface is compared here.

@@ -48,6 +48,7 @@ refusals! {
     24 TaskFull "a screen is to be pushed onto a task of 32"
     30 NoSuchEdition "a launch names an edition that is none of 0, 6, 7 and 8"
     31 NotTallied "library only, from a tally: it has 65,535 calls already, an accepted height is above 32, or no list of answers gives its numbers"
+    32 SeedZero "the seed of a load is 0"
 }
 
 impl Refusal {
@@ -68,7 +69,8 @@ impl Refusal {
 }
 
 /// The refusal of this number, as the player prints it. 0 is none: the call is
-/// accepted. 9 is that of a record, played or in a replay, and 31 a tally's.
+/// accepted. 9 is that of a record, played or in a replay, 31 a tally's, and
+/// 32 a load's.
 impl TryFrom<u8> for Refusal {
     type Error = UnknownNumber;
 

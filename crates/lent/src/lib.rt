@@ -1,6 +1,6 @@
 // The calls for programs in C and Rust. A slice is a pointer and a length there; a session or a tally that a call may change
-// is lent, and the call writes the new one there. Nothing is decided here: each call is the one of `navigator`, of `recording` or
-// of `tally`, by value, and its session or its tally is stored.
+// is lent, and the call writes the new one there. Nothing is decided here: each call is the one of `navigator`, of `recording`, of
+// `loads` or of `tally`, by value, and its session or its tally is stored.
 
 ghost use mathlib.Core.Path.{_≡_};
 ghost use mathlib.Core.Logic.{_↔_};
@@ -23,8 +23,11 @@ ghost use Rattle.recording.specs.OneCall.{recordLength, callLength, calledStore
 ghost use Rattle.recording.specs.Replay.{EndAlike, TellsImages};
 ghost use Rattle.tally.specs.Tallies.{added, reported, KnowsTallies, TalliesJoin, ReportsLists};
 ghost use Rattle.tally.specs.Tallied.{RoundsHalfToEven};
+ghost use Rattle.loads.specs.Loads.{loaded, loadOf};
+ghost use Rattle.loads.specs.Promises.{GoesOn, NoneDraws};
 ghost use Rattle.lent.specs.Abi.{abiNumber};
 use image_calls::SaveReply;
+use loads::LoadReply;
 use model::Answer;
 use model::Reason;
 use recording::Ending;
@@ -212,6 +215,19 @@ pub extern "C" fn milchkompass_same_ending(table: &[u8], first: &[u8], second: &
     ensures promise { λ _. ⌜ KeepsPromise3 (now (table .entry)) ⌝ }
 {
     recording::same_ending(table, first, second)
+}
+
+// ---- loads
+
+// A load: as many whole records from the seed on as fit into the buffer; the bytes beyond them, or all of it where the load is
+// refused, stay.
+#[no_mangle]
+pub extern "C" fn milchkompass_load(table: &[u8], seed: u32, out: &mut [u8]) -> LoadReply
+    ensures gives { λ r. ⌜ loaded r (now (out .exit)) ≡ loadOf (now (table .entry)) seed (now (out .entry)) ⌝ }
+    ensures goes_on { λ r. ⌜ GoesOn (now (table .entry)) seed (loaded r (now (out .exit))) ⌝ }
+    ensures draws { λ r. ⌜ NoneDraws (now (table .entry)) (loaded r (now (out .exit))) ⌝ }
+{
+    loads::load(table, seed, out)
 }
 
 // ---- tallies
