@@ -50,6 +50,9 @@ module _ (tb : List ℕ) (seed : ℕ) where
       go zero f = record { table = f; some = seed-known seed (table-taken f ∙ e) }
       go (suc k) f = let r = table-refused (suc k) (sym f) (λ z. omega arith) in absurd (omega arith)
 
+  pub taken-load : Taken → 0 ≡ loadRefusal tb seed
+  taken-load t = seed-taken seed (t .some) ∙ table-taken (t .table)
+
 -- ---- what it gives
 
 module _ (tb : List ℕ) (seed : ℕ) (d : List ℕ) where
@@ -62,7 +65,7 @@ module _ (tb : List ℕ) (seed : ℕ) (d : List ℕ) where
   load-refused (suc k) e n = settled e
 
   pub load-done : Taken tb seed → loadOf tb seed d ≡ settleLoad 0 (sizeOf tb) seed d
-  load-done t = settled (seed-taken seed (t .some) ∙ table-taken tb seed (t .table))
+  load-done t = settled (taken-load tb seed t)
 
 -- the records written at the start of the buffer
 pub filled-written : (n seed : ℕ) (d : List ℕ) → written d 0 (recordsFrom n seed (fitting d)) ≡ filled n seed d
