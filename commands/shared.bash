@@ -106,9 +106,23 @@ synopsis() {
     done
 }
 
-# Fails where a value is not of its kind: K is the number of a record, anything else the name of a file.
+# Sets `value` to the number that a text is, in base ten or in hex behind 0x, or fails where it is none or too large.
+declare -A most=([SEED]=4294967295 [RECORDS]=1000000000000)
+numeral() { # KIND TEXT
+    local digits=$2 base=10
+    [[ $2 != 0x* ]] || { base=16 && digits=${2#0x}; }
+    case $base-$digits in 10-*[!0-9]* | 16-*[!0-9a-fA-F]* | *-) refuse "$1 '$2' is no number" ;; esac
+    digits=${digits#"${digits%%[!0]*}"}
+    [ "${#digits}" -le 15 ] && value=$(($base#${digits:-0})) && [ "$value" -le "${most[$1]}" ] || refuse "$1 $2 is above ${most[$1]}"
+}
+
+# Fails where a value is not of its kind: K is the number of a record, SEED and RECORDS are those of a load, anything else is the
+# name of a file.
 fits() { # WHAT KIND VALUE
+    local value
     case $2 in
+        SEED) numeral SEED "$3" && [ "$value" -ne 0 ] || refuse 'SEED is 0 (refusal 32)' ;;
+        RECORDS) numeral RECORDS "$3" ;;
         K) [[ $3 =~ ^0*[1-9][0-9]*$ ]] || refuse "$1 '$3' is no record's number, of which the first is 1" ;;
         *) [ -n "$3" ] || refuse "$1 is an empty name" ;;
     esac
@@ -166,7 +180,7 @@ take_plain() { # ARGUMENT
     [ "${#plain[@]}" -lt "${#wanted[@]}" ] || [ "${wanted[-1]}" = ... ] || refuse "'$1' is one argument too many"
     fits "${wanted[at]}" "${wanted[at]}" "$1"
     plain+=("$1")
-    [ "${wanted[at]}" = K ] || files+=("$1")
+    case ${wanted[at]} in K | SEED | RECORDS) ;; *) files+=("$1") ;; esac
 }
 
 # --to K is not before --from K. Numbers of more digits than these the program compares.

@@ -4,8 +4,8 @@
 mkdir "$work/copy" "$work/kit" "$work/programs" "$work/copy/tools"
 cp -R milch commands crates crates.txt sample.recording bindings "$work/copy"
 cp -R tools/milch "$work/copy/tools"
-for program in player same explain depth milch; do cp "$(kept "$program")" "$work/programs/$program"; done
-for program in player same explain depth; do cp .built/"$program"-*.o "$work/programs/$program.o"; done
+for program in player same explain depth load milch; do cp "$(kept "$program")" "$work/programs/$program"; done
+for program in player same explain depth load; do cp .built/"$program"-*.o "$work/programs/$program.o"; done
 # It notes each build, reads its standard input, takes a second, and fails beside another one. Two files make it fail, and
 # make it change a source.
 cat >"$work/kit/rt" <<STAND_IN
@@ -52,6 +52,10 @@ builds() { # NUMBER NAME
 check 'a missing file is told without a build' 2 '' 'milch: nothing-here: no such file' ./milch play nothing-here
 check 'a missing argument is told without a build' 2 '' "$(refused play 'FILE is missing')" ./milch play
 check 'missing files are told without a build' 2 '' $'milch: nothing-here: no such file\nmilch: nor-here: no such file' ./milch depth nothing-here nor-here
+check 'load with the seed 0, without a build' 2 '' "$(refused load 'SEED is 0 (refusal 32)')" ./milch load sample.recording 0 1
+check 'load with too many records, without a build' 2 '' "$(refused load 'RECORDS 1000000000001 is above 1000000000000')" \
+    ./milch load sample.recording 1 1000000000001
+check 'load of a missing file, without a build' 2 '' 'milch: nothing-here: no such file' ./milch load nothing-here 1 1
 check 'show: a missing file, without a build' 2 '' 'milch: nothing-here: no such file' ./milch show nothing-here
 check 'show: a missing file of names, without a build' 2 '' 'milch: no-names: no such file' ./milch show sample.recording --names no-names
 check 'show: an unknown option, without a build' 2 '' "$(refused show 'no option --fast is known')" ./milch show sample.recording --fast
