@@ -16,6 +16,7 @@
 //! - `play`: the player, from standard input's format to lines, with or without
 //!   the reasons under starts
 //! - `lists`: lists of calls as bytes, with restores, and whether two end alike
+//! - `load`: records made from a seed, which everybody can make again
 //! - `tally`: what is kept of a list of answers, and the report of it
 //! - `depth`: the depth report of a recording in the player's format
 //! - `random`, `hex`, `closings`: random numbers and tables, bytes as text, counts
@@ -37,6 +38,7 @@ pub mod edition;
 pub mod hex;
 pub mod image;
 pub mod lists;
+pub mod load;
 pub mod no_affinity;
 pub mod no_history;
 pub mod play;
@@ -88,4 +90,6 @@ pub enum Refusal {
     NoSuchEdition = 30,
     /// Tally: it is full, it is of no list of answers, or the height is above 32.
     NotTallied = 31,
+    /// Load: the seed is 0.
+    SeedZero = 32,
 }
