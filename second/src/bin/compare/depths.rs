@@ -140,7 +140,9 @@ impl Manner for Depths {
     }
 
     fn compared(output: Output) -> Result<Vec<u8>, String> {
-        let Output { lines, warnings } = output;
+        let Output {
+            lines, warnings, ..
+        } = output;
         if warnings.is_empty() {
             return Ok(lines);
         }
@@ -184,6 +186,12 @@ pub fn run(
         checker.check(&input)?;
     }
     checker.tell("fixed recordings", begun);
+
+    let begun = Instant::now();
+    for input in make::loads(&mut Random::new(options.seed)) {
+        checker.check(&input)?;
+    }
+    checker.tell("loads", begun);
 
     let begun = Instant::now();
     for input in recordings::long() {

@@ -80,6 +80,12 @@ pub fn run(options: &Options, checker: &mut Checker) -> Result<(), Box<Differenc
     checker.tell("fixed inputs", begun);
 
     let begun = Instant::now();
+    for input in make::loads(&mut Random::new(options.seed)) {
+        checker.check(&input)?;
+    }
+    checker.tell("loads", begun);
+
+    let begun = Instant::now();
     let calls = limits::limits(checker)?;
     checker.tell(&format!("limits ({calls} calls)"), begun);
 

@@ -1,7 +1,8 @@
-//! Compares an outside player or report program with this package's navigator.
+//! Compares an outside player, report program or generator of loads with this package's
+//! own.
 //!
 //!     compare [--player PATH | --explain PATH] [--seed N] [--records N] [--sweep]
-//!     compare --depth PATH [--seed N] [--records N]
+//!     compare (--depth PATH | --load PATH) [--seed N] [--records N]
 //!
 //! Inputs are made from a seed, played through the outside program and through
 //! the library here, and compared line by line. With `--explain` the program is
@@ -19,6 +20,8 @@
 //! too many calls or one with a No-History front never came up, or a mean in the middle
 //! of two tenths, with an even one below or an odd one, fewer than 100 times (see
 //! `depths`).
+//!
+//! With `--load` the program is one that makes a load (see `loads`).
 
 mod check;
 mod counts;
@@ -27,6 +30,7 @@ mod fronts;
 mod heights;
 mod limits;
 mod lines;
+mod loads;
 mod make;
 mod no_history;
 mod outside;
@@ -51,6 +55,7 @@ use outside::Program;
 enum Kind {
     Lines(Writing),
     Depth,
+    Load,
 }
 
 struct Options {
@@ -88,15 +93,16 @@ fn options() -> Option<Options> {
             "--player" => options.name(arguments.next()?, Kind::Lines(push_line))?,
             "--explain" => options.name(arguments.next()?, Kind::Lines(push_explained))?,
             "--depth" => options.name(arguments.next()?, Kind::Depth)?,
+            "--load" => options.name(arguments.next()?, Kind::Load)?,
             "--seed" => options.seed = arguments.next()?.parse().ok()?,
             "--records" => options.records = arguments.next()?.parse().ok()?,
             "--sweep" => options.sweep = true,
             _ => return None,
         }
     }
-    // The sweep's records are too many for a report.
-    let swept_depth = options.sweep && matches!(options.program, Some((_, Kind::Depth)));
-    (!swept_depth).then_some(options)
+    // The sweep's records are too many for a report, and a load is not played.
+    let swept = options.sweep && !matches!(options.program(), (_, Kind::Lines(_)));
+    (!swept).then_some(options)
 }
 
 /// Compares, and tells what was found.
@@ -126,7 +132,7 @@ fn main() -> ExitCode {
         eprintln!(
             "usage: compare [--player PATH | --explain PATH] [--seed N] [--records N] [--sweep]"
         );
-        eprintln!("       compare --depth PATH [--seed N] [--records N]");
+        eprintln!("       compare (--depth PATH | --load PATH) [--seed N] [--records N]");
         return ExitCode::from(2);
     };
     let (program, kind) = options.program();
@@ -134,7 +140,10 @@ fn main() -> ExitCode {
         eprintln!("compare: there is no {}", program.display());
         return ExitCode::from(2);
     }
-    let program = Program { path: program };
+    let program = Program {
+        path: program,
+        arguments: Vec::new(),
+    };
     match kind {
         Kind::Lines(writing) => {
             let checker = Checker::new(program, Lines::new(writing));
@@ -144,5 +153,6 @@ fn main() -> ExitCode {
             let checker = Checker::new(program, Depths::default());
             compare(&options, checker, depths::run)
         }
+        Kind::Load => loads::compare(&options, program.path),
     }
 }

@@ -2,6 +2,7 @@
 //! and random ones of several styles.
 
 use second::edition::EDITIONS;
+use second::load;
 use second::play::{Player, RECORD};
 use second::random::Random;
 use second::table::{flag_word, ALL_FLAGS, FLAGS, MULTIPLE_TASK, NEW_TASK, NO_HISTORY};
@@ -158,6 +159,29 @@ fn editions() -> Vec<u8> {
         }
     }
     records
+}
+
+/// The seeds of loads: the least, the last, and powers of two.
+const SEEDS: [u32; 6] = [1, 2, 1 << 16, 1 << 31, u32::MAX, 0x1234_5678];
+
+/// Of how many records a load is.
+const LOAD: usize = 4000;
+
+/// Recordings made by the generator of loads, under T, the smallest and the largest
+/// tables and random ones.
+pub fn loads(random: &mut Random) -> Vec<Input> {
+    let mut tables = vec![T.to_vec()];
+    for screens in [1, 2, 3, 9, 64] {
+        tables.push(random.table(screens, 2, &[4, 2, 2, 1]));
+    }
+    let mut inputs = Inputs::default();
+    for table in tables {
+        for seed in SEEDS.into_iter().chain([random.next() as u32 | 1]) {
+            let what = format!("a load from seed {seed:08x}");
+            inputs.add(&what, &table, &load::records(&table, seed, LOAD));
+        }
+    }
+    inputs.0
 }
 
 /// How a stretch of records is made.

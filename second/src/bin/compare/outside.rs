@@ -1,8 +1,9 @@
 //! Runs the outside program on an input.
 
+use std::ffi::OsString;
 use std::io::{self, Read, Write};
 use std::path::PathBuf;
-use std::process::{Child, Command, Stdio};
+use std::process::{Child, Command, ExitStatus, Stdio};
 use std::sync::mpsc::{self, Receiver};
 use std::thread::{self, Scope};
 use std::time::Duration;
@@ -16,6 +17,7 @@ pub struct Output {
     pub lines: Vec<u8>,
     /// On standard error, if that was heard.
     pub warnings: Vec<u8>,
+    pub status: ExitStatus,
 }
 
 /// What is compared: a program, or what a test puts in its place.
@@ -30,14 +32,28 @@ pub trait Outside {
     ) -> (Result<Output, String>, T);
 }
 
-/// A program. What can go wrong: it could not be started, did not end in time, or did
-/// not exit with 0.
+/// A program, with the arguments that it gets. What can go wrong: it could not be
+/// started, did not end in time, or did not exit with 0.
 pub struct Program {
     pub path: PathBuf,
+    pub arguments: Vec<OsString>,
 }
 
 impl Outside for Program {
     fn run<T>(
+        &self,
+        input: &[u8],
+        hear: bool,
+        meanwhile: impl FnOnce() -> T,
+    ) -> (Result<Output, String>, T) {
+        let (output, other) = self.ended(input, hear, meanwhile);
+        (output.and_then(well), other)
+    }
+}
+
+impl Program {
+    /// The same, however the program exits.
+    pub fn ended<T>(
         &self,
         input: &[u8],
         hear: bool,
@@ -63,12 +79,11 @@ impl Outside for Program {
             (ended(child, lines, warnings), other)
         })
     }
-}
 
-impl Program {
     fn start(&self, hear: bool) -> io::Result<Child> {
         let stderr = if hear { Stdio::piped() } else { Stdio::null() };
         Command::new(&self.path)
+            .args(&self.arguments)
             .stdin(Stdio::piped())
             .stdout(Stdio::piped())
             .stderr(stderr)
@@ -106,7 +121,18 @@ fn ended(mut child: Child, lines: Gathered, warnings: Gathered) -> Result<Output
             Err(format!("its output cannot be read: {error}"))
         }
         (.., Err(error)) => Err(format!("it cannot be waited for: {error}")),
-        (.., Ok(status)) if !status.success() => Err(format!("it ended with {status}")),
-        (Ok(Ok(lines)), Ok(Ok(warnings)), Ok(_)) => Ok(Output { lines, warnings }),
+        (Ok(Ok(lines)), Ok(Ok(warnings)), Ok(status)) => Ok(Output {
+            lines,
+            warnings,
+            status,
+        }),
+    }
+}
+
+/// What was written by a program that exits with 0.
+fn well(output: Output) -> Result<Output, String> {
+    match output.status.success() {
+        true => Ok(output),
+        false => Err(format!("it ended with {}", output.status)),
     }
 }

@@ -1,11 +1,16 @@
-//! The comparison of depth reports finds wrong roundings: in the outside program's place
-//! stands the second navigator, whose mean is rounded anew.
+//! The comparison of depth reports finds wrong roundings, and that of loads wrong loads:
+//! in the outside program's place stands the second navigator, whose mean is rounded
+//! anew, or its generator with one thing wrong.
+
+use std::process::ExitStatus;
 
 use second::depth::Depth;
-use second::play::Player;
+use second::load;
+use second::play::{Player, RECORD};
 
 use crate::check::{Checker, Manner};
 use crate::depths::{self, Depths};
+use crate::loads::{self, Loading};
 use crate::outside::{Output, Outside};
 use crate::Options;
 
@@ -43,6 +48,7 @@ impl Outside for StandIn {
             } else {
                 Vec::new()
             },
+            status: ExitStatus::default(),
         };
         (Ok(output), meanwhile())
     }
@@ -99,5 +105,81 @@ fn wrong_roundings_are_found() {
         let (found, _) = compared(rounding);
         let said = found.unwrap_or_else(|| panic!("{name} is not found"));
         assert!(said.starts_with("difference, found in: "), "{said}");
+    }
+}
+
+/// Makes loads as the library here does, with one thing changed in what is asked for or
+/// in what is written.
+struct WrongLoad {
+    asked: fn(&mut loads::Asked),
+    written: fn(&mut Vec<u8>),
+}
+
+impl Loading for WrongLoad {
+    fn load(&self, asked: &loads::Asked) -> Result<Option<Vec<u8>>, String> {
+        let mut asked = asked.clone();
+        (self.asked)(&mut asked);
+        let table = &asked.file[..asked.table];
+        let mut records = vec![0; asked.records * RECORD];
+        if load::fill(table, asked.seed, &mut records).is_err() {
+            return Ok(None);
+        }
+        let mut written = [table, &records].concat();
+        (self.written)(&mut written);
+        Ok(Some(written))
+    }
+}
+
+/// What the comparison says, and what did not come up.
+fn compared_loads(loading: WrongLoad) -> (Option<String>, Vec<String>) {
+    let mut checker = loads::Checker::new(loading);
+    let found = loads::run(&mut checker, 1, 100_000);
+    let missing = checker.cases.missing();
+    (
+        found.err().map(|difference| difference.to_string()),
+        missing,
+    )
+}
+
+#[test]
+fn a_right_load_is_not_found_and_every_case_comes_up() {
+    let right = WrongLoad {
+        asked: |_| (),
+        written: |_| (),
+    };
+    assert_eq!(compared_loads(right), (None, Vec::new()));
+}
+
+#[test]
+fn wrong_loads_are_found_with_a_small_example() {
+    let asked: [fn(&mut loads::Asked); 4] = [
+        |asked| asked.seed = asked.seed.max(1),
+        |asked| asked.seed = asked.seed.swap_bytes(),
+        |asked| asked.records += 1,
+        |asked| asked.table = asked.file.len(),
+    ];
+    let written: [fn(&mut Vec<u8>); 3] = [
+        |written| {
+            if let Some(last) = written.last_mut() {
+                *last ^= 1;
+            }
+        },
+        |written| drop(written.drain(..4)),
+        |written| written.truncate(6_000),
+    ];
+    let wrong = (asked.map(|asked| WrongLoad {
+        asked,
+        written: |_| (),
+    }))
+    .into_iter()
+    .chain(written.map(|written| WrongLoad {
+        asked: |_| (),
+        written,
+    }));
+    for (number, loading) in wrong.enumerate() {
+        let (found, _) = compared_loads(loading);
+        let said = found.unwrap_or_else(|| panic!("wrong load {number} is not found"));
+        assert!(said.starts_with("difference, found in: "), "{said}");
+        assert!(said.len() < 1000, "{said}");
     }
 }
