@@ -8,6 +8,8 @@
 //!   up, how many screens were closed, and how often there was a No-History front
 //! - `sessions`, `damage`: random good and bad tables, sessions and images
 //! - `starts`: random screens and flag words
+//! - `pages`, `fault`: memory between pages that may not be touched, and which call a
+//!   fault came in
 //! - `run`: options and endings of the comparing programs
 //!
 //! The programs: `images` compares save and restore, `calls` all calls, `reasons`
@@ -19,8 +21,10 @@ pub mod call;
 pub mod check;
 pub mod counts;
 pub mod damage;
+pub mod fault;
 pub mod library;
 pub mod no_history;
+pub mod pages;
 pub mod run;
 pub mod sessions;
 pub mod starts;

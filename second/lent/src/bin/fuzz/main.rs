@@ -9,9 +9,7 @@
 //! call's number and exit code 1, and so does an answer, session or buffer that
 //! is not the second navigator's, and a change of any other byte.
 
-mod fault;
 mod made;
-mod pages;
 
 use std::process::ExitCode;
 use std::time::{Duration, Instant};
@@ -20,15 +18,13 @@ use second::random::Random;
 
 use lent_calls::call::{by_library, Call, Kind, Outcome};
 use lent_calls::check::{buffer_before, Checked, Checker};
+use lent_calls::fault;
+use lent_calls::pages::{Edge, Pages};
 use lent_calls::run;
 use lent_calls::stored::{Stored, SESSION};
 
 use made::{Base, Made};
-use pages::{Edge, Pages};
 
-/// How many bytes beside a region are watched, and what they hold.
-const WATCHED: usize = 64;
-const WATCHED_BYTE: u8 = 0x5a;
 /// How many calls are made from one table and session.
 const CALLS_OF_A_BASE: u64 = 20;
 
@@ -38,7 +34,7 @@ fn main() -> ExitCode {
         eprintln!("usage: fuzz [--seed N] [--seconds N] [--calls N]");
         return ExitCode::from(2);
     };
-    fault::watch();
+    fault::watch("fuzz");
     let begun = Instant::now();
     let end = begun + Duration::from_secs(seconds);
     let mut checker = run::checker();
@@ -85,12 +81,11 @@ impl Memory {
     fn call(&mut self, checker: &mut Checker, random: &mut Random, bytes: &Made) -> Checked {
         let before = buffer_before(bytes.call(&bytes.image));
         let present = bytes.session.bytes();
-        let mut edge = || random.one_of(&[Edge::BeginsAt, Edge::EndsAt]);
-        let edges = [edge(), edge(), edge(), edge()];
-        let table = place(&mut self.table, &bytes.table, edges[0]);
-        let session = place(&mut self.session, &present, edges[1]);
-        let image = place(&mut self.image, &bytes.image, edges[2]);
-        let buffer = place(&mut self.buffer, &before, edges[3]);
+        let edges = [(); 4].map(|()| Edge::random(random));
+        let table = self.table.place(&bytes.table, edges[0]);
+        let session = self.session.place(&present, edges[1]);
+        let image = self.image.place(&bytes.image, edges[2]);
+        let buffer = self.buffer.place(&before, edges[3]);
 
         let reply = by_library(bytes.call(image), table, Stored::lent(session), buffer);
         let outcome = Outcome {
@@ -100,28 +95,14 @@ impl Memory {
         };
         let outside = *table != bytes.table[..]
             || *image != bytes.image[..]
-            || touched(&mut self.table, bytes.table.len(), edges[0])
-            || touched(&mut self.session, SESSION, edges[1])
-            || touched(&mut self.image, bytes.image.len(), edges[2])
-            || touched(&mut self.buffer, before.len(), edges[3]);
+            || self.table.touched(bytes.table.len(), edges[0])
+            || self.session.touched(SESSION, edges[1])
+            || self.image.touched(bytes.image.len(), edges[2])
+            || self.buffer.touched(before.len(), edges[3]);
         let call = bytes.call(&bytes.image);
         checker.judge("fuzz", &bytes.table, &bytes.session, call, outcome, outside)?;
         Ok(())
     }
-}
-
-/// Puts bytes at an edge, and marks those beside them.
-fn place<'a>(pages: &'a mut Pages, bytes: &[u8], edge: Edge) -> &'a mut [u8] {
-    pages.beside(bytes.len(), edge, WATCHED).fill(WATCHED_BYTE);
-    let region = pages.region(bytes.len(), edge);
-    region.copy_from_slice(bytes);
-    region
-}
-
-/// Whether the bytes beside a region were written.
-fn touched(pages: &mut Pages, length: usize, edge: Edge) -> bool {
-    let beside = pages.beside(length, edge, WATCHED);
-    beside.iter().any(|&byte| byte != WATCHED_BYTE)
 }
 
 impl Made {

@@ -3,6 +3,8 @@
 use std::ffi::c_void;
 use std::slice;
 
+use second::random::Random;
+
 const PAGE: usize = 4096;
 const NOTHING: i32 = 0;
 const READ_AND_WRITE: i32 = 1 | 2;
@@ -21,6 +23,10 @@ extern "C" {
     fn mprotect(at: *mut c_void, length: usize, protection: i32) -> i32;
 }
 
+/// How many bytes beside a region are watched, and what they hold.
+const WATCHED: usize = 64;
+const WATCHED_BYTE: u8 = 0x5a;
+
 /// A whole number of pages between two that may not be touched.
 pub struct Pages {
     first: *mut u8,
@@ -28,10 +34,16 @@ pub struct Pages {
 }
 
 /// Which of the two pages a region touches.
-#[derive(Clone, Copy)]
+#[derive(Clone, Copy, Debug)]
 pub enum Edge {
     BeginsAt,
     EndsAt,
+}
+
+impl Edge {
+    pub fn random(random: &mut Random) -> Edge {
+        random.one_of(&[Edge::BeginsAt, Edge::EndsAt])
+    }
 }
 
 impl Pages {
@@ -53,7 +65,7 @@ impl Pages {
     }
 
     /// A region of this length at one of the two edges.
-    pub fn region(&mut self, length: usize, edge: Edge) -> &mut [u8] {
+    fn region(&mut self, length: usize, edge: Edge) -> &mut [u8] {
         assert!(length <= self.length, "there is room");
         let from = match edge {
             Edge::BeginsAt => 0,
@@ -63,9 +75,23 @@ impl Pages {
         unsafe { slice::from_raw_parts_mut(self.first.add(from), length) }
     }
 
-    /// The bytes, up to this many, on the open side of a region.
-    pub fn beside(&mut self, length: usize, edge: Edge, many: usize) -> &mut [u8] {
-        let many = many.min(self.length - length);
+    /// Puts bytes at an edge, and marks those beside them.
+    pub fn place(&mut self, bytes: &[u8], edge: Edge) -> &mut [u8] {
+        self.beside(bytes.len(), edge).fill(WATCHED_BYTE);
+        let region = self.region(bytes.len(), edge);
+        region.copy_from_slice(bytes);
+        region
+    }
+
+    /// Whether the bytes beside a region were written.
+    pub fn touched(&mut self, length: usize, edge: Edge) -> bool {
+        let beside = self.beside(length, edge);
+        beside.iter().any(|&byte| byte != WATCHED_BYTE)
+    }
+
+    /// The watched bytes on the open side of a region.
+    fn beside(&mut self, length: usize, edge: Edge) -> &mut [u8] {
+        let many = WATCHED.min(self.length - length);
         let from = match edge {
             Edge::BeginsAt => length,
             Edge::EndsAt => self.length - length - many,
