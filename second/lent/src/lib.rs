@@ -14,8 +14,8 @@
 //!
 //! The programs: `images` compares save and restore, `calls` all calls, `reasons`
 //! why and start, `lists` records played one by one and the endings of lists of
-//! them, `tallies` the tally's step and its report, `fuzz` makes calls on any bytes
-//! at the edges of memory, `calls_bench` measures.
+//! them, `tallies` the tally's step and its report, `loads` the generator of loads,
+//! `fuzz` makes calls on any bytes at the edges of memory, `calls_bench` measures.
 
 pub mod call;
 pub mod check;
