@@ -8,14 +8,14 @@
 //!   up, how many screens were closed, and how often there was a No-History front
 //! - `sessions`, `damage`: random good and bad tables, sessions and images
 //! - `starts`: random screens and flag words
-//! - `pages`, `fault`: memory between pages that may not be touched, and which call a
-//!   fault came in
+//! - `memory`, `pages`, `fault`: bytes that are lent at the edges of memory, the pages
+//!   there, and which call a fault came in
+//! - `smaller`: smaller examples of a difference
 //! - `run`: options and endings of the comparing programs
 //!
-//! The programs: `images` compares save and restore, `calls` all calls, `reasons`
-//! why and start, `lists` records played one by one and the endings of lists of
-//! them, `tallies` the tally's step and its report, `loads` the generator of loads,
-//! `fuzz` makes calls on any bytes at the edges of memory, `calls_bench` measures.
+//! Each program says at its head what it compares: `calls` all calls of one session,
+//! `images`, `reasons`, `lists` and others some of them or what else there is; `fuzz`
+//! makes calls on any bytes at the edges of memory, `calls_bench` measures.
 
 pub mod call;
 pub mod check;
@@ -23,9 +23,11 @@ pub mod counts;
 pub mod damage;
 pub mod fault;
 pub mod library;
+pub mod memory;
 pub mod no_history;
 pub mod pages;
 pub mod run;
 pub mod sessions;
+pub mod smaller;
 pub mod starts;
 pub mod stored;

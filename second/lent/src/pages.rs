@@ -65,7 +65,7 @@ impl Pages {
     }
 
     /// A region of this length at one of the two edges.
-    fn region(&mut self, length: usize, edge: Edge) -> &mut [u8] {
+    pub fn region(&mut self, length: usize, edge: Edge) -> &mut [u8] {
         assert!(length <= self.length, "there is room");
         let from = match edge {
             Edge::BeginsAt => 0,

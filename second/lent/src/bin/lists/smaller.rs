@@ -2,18 +2,14 @@
 //! as long as the difference stays.
 
 use second::lists;
-use second::Session;
 
-use lent_calls::stored::Stored;
+use lent_calls::smaller::{self, fewer_screens};
 
 use crate::check::{Asked, Ended, Played};
 
 /// What differs and of which nothing smaller that is tried does.
-pub fn smallest(mut asked: Asked, differs: impl Fn(&Asked) -> bool) -> Asked {
-    while let Some(fewer) = smaller(&asked).into_iter().find(|fewer| differs(fewer)) {
-        asked = fewer;
-    }
-    asked
+pub fn smallest(asked: Asked, differs: impl Fn(&Asked) -> bool) -> Asked {
+    smaller::smallest(asked, smaller, differs)
 }
 
 fn smaller(asked: &Asked) -> Vec<Asked> {
@@ -62,29 +58,4 @@ fn shorter(list: &[u8]) -> Vec<Vec<u8>> {
     without.reverse();
     without.extend(list.split_last().map(|(_, front)| front.to_vec()));
     without
-}
-
-/// The session fresh, with each one of its tasks left out, or each one of its screens.
-fn fewer_screens(stored: &Stored) -> Vec<Stored> {
-    let session = stored.view();
-    if Stored::hold(&session).as_ref() != Some(stored) || session.is_empty() {
-        return Vec::new();
-    }
-    let mut fewer = vec![Session::fresh()];
-    for at in 0..session.tasks.len() {
-        let mut without = session.clone();
-        without.tasks.remove(at);
-        without.main = match without.main {
-            main if main == at + 1 => 0,
-            main if main > at + 1 => main - 1,
-            main => main,
-        };
-        fewer.push(without);
-        for place in 0..session.tasks[at].screens.len() {
-            let mut without = session.clone();
-            without.tasks[at].screens.remove(place);
-            fewer.push(without);
-        }
-    }
-    fewer.iter().filter_map(Stored::hold).collect()
 }

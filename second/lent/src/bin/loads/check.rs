@@ -1,14 +1,13 @@
 //! Makes a load by both, at the edges of memory, and compares all that they give.
 
 use std::fmt;
-use std::hint::black_box;
 
 use second::hex::hex;
 use second::load::{self, Load};
-use second::random::Random;
 
 use lent_calls::fault;
-use lent_calls::pages::{Edge, Pages};
+use lent_calls::memory::{Left, Memory};
+use lent_calls::smaller;
 
 use crate::cases::Counts;
 use crate::library::{Library, Reply};
@@ -25,18 +24,13 @@ pub struct Asked {
     pub buffer: Vec<u8>,
 }
 
-#[derive(PartialEq)]
-struct Given {
-    reply: Reply,
-    buffer: Vec<u8>,
-}
+/// What a load gives, and what it leaves: the table and the buffer.
+type Given = Left<Reply, 2>;
 
 pub struct Difference {
     what: &'static str,
     asked: Asked,
     library: Given,
-    /// Whether the library wrote outside of what it may write.
-    outside: bool,
     second: Given,
 }
 
@@ -44,9 +38,7 @@ pub type Checked<T = ()> = Result<T, Box<Difference>>;
 
 pub struct Checker<L> {
     library: L,
-    table: Pages,
-    buffer: Pages,
-    edges: Random,
+    memory: Memory<2>,
     pub counts: Counts,
     /// Loads made by the library.
     pub calls: u64,
@@ -56,9 +48,7 @@ impl<L: Library> Checker<L> {
     pub fn new(library: L) -> Checker<L> {
         Checker {
             library,
-            table: Pages::new(LONGEST_TABLE),
-            buffer: Pages::new(LONGEST),
-            edges: Random::new(0),
+            memory: Memory::new([LONGEST_TABLE, LONGEST]),
             counts: Counts::new(),
             calls: 0,
         }
@@ -67,71 +57,45 @@ impl<L: Library> Checker<L> {
     /// Makes a load by both.
     pub fn check(&mut self, what: &'static str, asked: Asked) -> Checked {
         let second = by_second(&asked);
-        self.counts.add(&asked, second.reply);
+        self.counts.add(&asked, second.given);
         fault::begin_call(self.calls);
         self.calls += 1;
-        let (library, outside) = self.by_library(&asked);
-        if library == second && !outside {
+        if self.by_library(&asked) == second {
             return Ok(());
         }
-        Err(Box::new(self.smallest(what, asked)))
-    }
-
-    /// What the library gives, and whether it wrote outside of what it may write.
-    fn by_library(&mut self, asked: &Asked) -> (Given, bool) {
-        let edges = [(); 2].map(|()| Edge::random(&mut self.edges));
-        let table = self.table.place(&asked.table, edges[0]);
-        let buffer = self.buffer.place(&asked.buffer, edges[1]);
-        let reply = self.library.load(table, asked.seed, buffer);
-        let given = Given {
-            reply,
-            buffer: buffer.to_vec(),
-        };
-        // What the library may only read is looked at anew.
-        let outside = *black_box(table) != asked.table[..]
-            || self.table.touched(asked.table.len(), edges[0])
-            || self.buffer.touched(asked.buffer.len(), edges[1]);
-        (given, outside)
-    }
-
-    /// The difference with the shortest buffer with which it stays.
-    fn smallest(&mut self, what: &'static str, asked: Asked) -> Difference {
-        let mut smallest = self.difference(what, asked.clone());
-        loop {
-            let length = smallest.asked.buffer.len();
-            let lengths = [0, length / 2, length.saturating_sub(1)];
-            let shorter = lengths.into_iter().filter(|&shorter| shorter < length);
-            let found = (shorter.collect::<Vec<_>>().into_iter())
-                .map(|shorter| {
-                    let mut asked = smallest.asked.clone();
-                    asked.buffer.truncate(shorter);
-                    self.difference(what, asked)
-                })
-                .find(Difference::is_one);
-            match found {
-                Some(shorter) => smallest = shorter,
-                None => return smallest,
-            }
-        }
-    }
-
-    fn difference(&mut self, what: &'static str, asked: Asked) -> Difference {
-        let (library, outside) = self.by_library(&asked);
-        let second = by_second(&asked);
-        Difference {
+        let differs = |asked: &Asked| self.by_library(asked) != by_second(asked);
+        let asked = smaller::smallest(asked, shorter, differs);
+        Err(Box::new(Difference {
             what,
+            library: self.by_library(&asked),
+            second: by_second(&asked),
             asked,
-            library,
-            outside,
-            second,
-        }
+        }))
+    }
+
+    fn by_library(&mut self, asked: &Asked) -> Given {
+        let Asked {
+            table,
+            seed,
+            buffer,
+        } = asked;
+        let Checker {
+            library, memory, ..
+        } = self;
+        memory.lend([table, buffer], |[table, buffer]| {
+            library.load(table, *seed, buffer)
+        })
     }
 }
 
 fn by_second(asked: &Asked) -> Given {
     let mut buffer = asked.buffer.clone();
-    let reply = loaded_by_second(&asked.table, asked.seed, &mut buffer);
-    Given { reply, buffer }
+    let given = loaded_by_second(&asked.table, asked.seed, &mut buffer);
+    Left {
+        given,
+        bytes: [asked.table.clone(), buffer],
+        outside: false,
+    }
 }
 
 pub fn loaded_by_second(table: &[u8], seed: u32, buffer: &mut [u8]) -> Reply {
@@ -149,10 +113,18 @@ pub fn loaded_by_second(table: &[u8], seed: u32, buffer: &mut [u8]) -> Reply {
     }
 }
 
-impl Difference {
-    fn is_one(&self) -> bool {
-        self.outside || self.library != self.second
-    }
+/// The same with a shorter buffer.
+fn shorter(asked: &Asked) -> Vec<Asked> {
+    let length = asked.buffer.len();
+    let lengths = [0, length / 2, length.saturating_sub(1)];
+    let shorter = lengths.into_iter().filter(|&shorter| shorter < length);
+    shorter
+        .map(|shorter| {
+            let mut asked = asked.clone();
+            asked.buffer.truncate(shorter);
+            asked
+        })
+        .collect()
 }
 
 impl fmt::Display for Difference {
@@ -165,20 +137,19 @@ impl fmt::Display for Difference {
         writeln!(f, "difference, found in: {}", self.what)?;
         writeln!(f, "table, hex: {}", hex(table, 1))?;
         writeln!(f, "seed, hex: {seed:08x}")?;
-        let pairs = (0..).zip(self.library.buffer.iter().zip(&self.second.buffer));
-        let first = pairs.filter(|(_, (one, other))| one != other);
-        let first = first.map(|(place, _)| place).next();
+        let [library, second] = [&self.library, &self.second].map(|given| &given.bytes[1]);
+        let alike = library.iter().zip(second).take_while(|(a, b)| a == b);
+        let from = alike.count() / 6 * 6;
         let shown = |bytes: &[u8]| {
-            let from = first.unwrap_or(0) / 6 * 6;
             let end = bytes.len().min(from + 24);
             format!("from byte {from}, hex: {}", hex(&bytes[from..end], 6))
         };
         writeln!(f, "buffer of {} bytes {}", buffer.len(), shown(buffer))?;
         for (name, given) in [("library", &self.library), ("second", &self.second)] {
-            writeln!(f, "{name}: {:?}", given.reply)?;
-            writeln!(f, "  buffer {}", shown(&given.buffer))?;
+            writeln!(f, "{name}: {:?}", given.given)?;
+            writeln!(f, "  buffer {}", shown(&given.bytes[1]))?;
         }
-        if self.outside {
+        if self.library.bytes[0] != self.second.bytes[0] || self.library.outside {
             writeln!(f, "the library wrote outside")?;
         }
         Ok(())
