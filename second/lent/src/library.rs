@@ -135,7 +135,7 @@ extern "C" {
 
 impl Answer {
     /// The nine numbers in their order.
-    fn numbers(self) -> [u8; 9] {
+    pub fn numbers(self) -> [u8; 9] {
         [
             self.refusal,
             self.screen,
