@@ -19,7 +19,7 @@ abbrev beyond : List ℕ
 beyond = 7 ∷ 8 ∷ []
 
 abbrev gave : ℕ → ℕ → ℕ → List ℕ → Loaded
-gave number count state buffer = record { refusal = number; count = count; state = state; buffer = buffer }
+gave k count state buffer = record { refusal = k; count = count; state = state; buffer = buffer }
 
 seed-1 : loadOf (table 0) 1 (six ++ six ++ beyond)
     ≡ gave 0 2 0x6c1b0001 (0x04 ∷ 0x02 ∷ 0x60 ∷ 0x00 ∷ 0x00 ∷ 0x00 ∷ 0x04 ∷ 0x02 ∷ 0x6c ∷ 0x02 ∷ 0x00 ∷ 0x00 ∷ beyond)

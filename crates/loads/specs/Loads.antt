@@ -31,7 +31,7 @@ loaded r buffer = record { refusal = r .refusal; count = r .count; state = r .st
 
 -- "with count and state 0"
 abbrev pub refusedLoad : ℕ → LoadReply
-refusedLoad number = record { refusal = number; state = 0; count = 0 }
+refusedLoad k = record { refusal = k; state = 0; count = 0 }
 
 -- "as many whole records as fit"
 abbrev pub fitting : List ℕ → ℕ

@@ -81,11 +81,11 @@ pub fn refusal(table: &[u8], seed: u32) -> u8
     of_seed
 }
 
-fn refuse(number: u8) -> LoadReply
-    ensures { λ r. ⌜ r ≡ refusedLoad number ⌝ }
+fn refuse(refusal: u8) -> LoadReply
+    ensures { λ r. ⌜ r ≡ refusedLoad refusal ⌝ }
 {
     LoadReply {
-        refusal: number,
+        refusal: refusal,
         state: 0,
         count: 0,
     }
@@ -97,9 +97,9 @@ pub fn load(table: &[u8], seed: u32, out: &mut [u8]) -> LoadReply
     ensures goes_on { λ r. ⌜ GoesOn (now (table .entry)) seed (loaded r (now (out .exit))) ⌝ }
     ensures draws { λ r. ⌜ NoneDraws (now (table .entry)) (loaded r (now (out .exit))) ⌝ }
 {
-    let number = refusal(table, seed);
-    if number != 0 {
-        return refuse(number);
+    let refused = refusal(table, seed);
+    if refused != 0 {
+        return refuse(refused);
     }
     let count = out.len() / records::LENGTH;
     let last = fill(out, count, table::size(table), seed);
