@@ -1,13 +1,15 @@
-//! Loads are compared: the program gets the name of a file that begins with a table, a
-//! seed and a number of records, and writes the table and the records.
+//! Loads are compared: the program reads a table, or a recording that begins with one, on
+//! standard input, gets a seed and a number of records as arguments, and writes the table
+//! and the records; with `--records` these alone, with `--state` a line with the state
+//! after them, as 0x and eight digits.
 //!
 //! Tables alone and with a recording behind them, of each seed and each small number of
 //! records, and then larger ones from the seed until there are as many records as asked
-//! for. Where the table or the seed is refused, the program is to write nothing, give a
-//! message, and exit with 2.
+//! for. Where the table or the seed is refused, the program is to write nothing on
+//! standard output, and a message on standard error.
 
+use std::ffi::OsString;
 use std::fmt;
-use std::fs;
 use std::path::PathBuf;
 use std::process::ExitCode;
 use std::time::Instant;
@@ -29,12 +31,31 @@ const SEEDS: [u32; 8] = [1, 2, 3, 1 << 15, 1 << 16, 1 << 31, u32::MAX - 1, u32::
 const SMALL: usize = 20;
 /// The greatest number of records.
 const LARGEST: u64 = 1_000_000;
-/// What a program exits with that refuses.
-const REFUSED: i32 = 2;
+
+/// What is to be written.
+#[derive(Clone, Copy, Debug, PartialEq)]
+pub enum Form {
+    Whole,
+    Records,
+    State,
+}
+
+const FORMS: [Form; 3] = [Form::Whole, Form::Records, Form::State];
+
+impl Form {
+    fn option(self) -> Option<&'static str> {
+        match self {
+            Form::Whole => None,
+            Form::Records => Some("--records"),
+            Form::State => Some("--state"),
+        }
+    }
+}
 
 /// What is asked for.
 #[derive(Clone)]
 pub struct Asked {
+    pub form: Form,
     /// A table, good or bad, and how many bytes of the file it is.
     pub file: Vec<u8>,
     pub table: usize,
@@ -51,13 +72,20 @@ impl Asked {
     fn expected(&self) -> Option<Vec<u8>> {
         let table = self.table();
         let mut records = vec![0; self.records * RECORD];
-        load::fill(table, self.seed, &mut records).ok()?;
-        Some([table, &records].concat())
+        let load = load::fill(table, self.seed, &mut records).ok()?;
+        Some(match self.form {
+            Form::Whole => [table, &records].concat(),
+            Form::Records => records,
+            Form::State => format!("0x{:08x}\n", load.state).into_bytes(),
+        })
     }
 }
 
 /// What is to come up.
-const CASES: [Case<Asked>; 9] = [
+const CASES: [Case<Asked>; 12] = [
+    ("table and records", |asked| is(asked, Form::Whole)),
+    ("records alone", |asked| is(asked, Form::Records)),
+    ("the state alone", |asked| is(asked, Form::State)),
     ("a table alone", |asked| asked.file.len() == asked.table),
     ("a recording", |asked| asked.file.len() > asked.table),
     ("no record", |asked| {
@@ -73,6 +101,11 @@ const CASES: [Case<Asked>; 9] = [
     ("seed 0", |asked| refusal(asked) == Some(32)),
 ];
 
+/// Whether records are made, and written in this form.
+fn is(asked: &Asked, form: Form) -> bool {
+    asked.form == form && asked.records > 0 && refusal(asked).is_none()
+}
+
 fn refusal(asked: &Asked) -> Option<u8> {
     let refused = load::fill(asked.table(), asked.seed, &mut []).err()?;
     Some(refused as u8)
@@ -84,27 +117,28 @@ pub trait Loading {
     fn load(&self, asked: &Asked) -> Result<Option<Vec<u8>>, String>;
 }
 
-/// The program, and the file that it is to read.
-struct Outside {
-    program: PathBuf,
-    file: PathBuf,
-}
+/// The program.
+struct Outside(PathBuf);
 
 impl Loading for Outside {
     fn load(&self, asked: &Asked) -> Result<Option<Vec<u8>>, String> {
-        let cannot = |error| format!("{} cannot be written: {error}", self.file.display());
-        fs::write(&self.file, &asked.file).map_err(cannot)?;
-        let (seed, records) = (asked.seed.to_string(), asked.records.to_string());
+        let numbers = [asked.seed.to_string(), asked.records.to_string()];
+        let option = asked.form.option().map(OsString::from);
         let program = Program {
-            path: self.program.clone(),
-            arguments: vec![self.file.clone().into(), seed.into(), records.into()],
+            path: self.0.clone(),
+            arguments: numbers
+                .map(OsString::from)
+                .into_iter()
+                .chain(option)
+                .collect(),
         };
-        let (output, ()) = program.ended(&[], true, || ());
+        let (output, ()) = program.ended(&asked.file, true, || ());
         let output = output?;
-        let is_refused = output.lines.is_empty() && !output.warnings.is_empty();
+        let says = !output.warnings.is_empty() && !output.warnings.starts_with(b"warning: ");
         match output.status.code() {
             Some(0) if output.warnings.is_empty() => Ok(Some(output.lines)),
-            Some(REFUSED) if is_refused => Ok(None),
+            // The program's messages, and not its status, say what went wrong.
+            Some(_) if says && output.lines.is_empty() => Ok(None),
             _ => Err(format!(
                 "it ended with {}, {} bytes on standard output, on standard error: {}",
                 output.status,
@@ -112,12 +146,6 @@ impl Loading for Outside {
                 String::from_utf8_lossy(&output.warnings)
             )),
         }
-    }
-}
-
-impl Drop for Outside {
-    fn drop(&mut self) {
-        let _ = fs::remove_file(&self.file);
     }
 }
 
@@ -189,10 +217,8 @@ impl<L: Loading> Checker<L> {
 
 /// Compares, and tells what was found.
 pub fn compare(options: &Options, program: PathBuf) -> ExitCode {
-    let name = format!("load-{}.recording", std::process::id());
-    let file = std::env::temp_dir().join(name);
     let begun = Instant::now();
-    let mut checker = Checker::new(Outside { program, file });
+    let mut checker = Checker::new(Outside(program));
     if let Err(difference) = run(&mut checker, options.seed, options.records) {
         print!("{difference}");
         println!("compare: seed {}, a difference", options.seed);
@@ -234,18 +260,20 @@ pub fn run(
         };
         let seed = random.next() as u32 | 1;
         let behind = random.percent(50);
-        checker.check(asked(&table, behind, seed, records as usize))?;
+        let form = random.one_of(&FORMS);
+        checker.check(asked(&table, behind, (seed, form), records as usize))?;
     }
     Ok(())
 }
 
 /// A table alone, or with a launch and a cut record behind it.
-fn asked(table: &[u8], behind: bool, seed: u32, records: usize) -> Asked {
+fn asked(table: &[u8], behind: bool, (seed, form): (u32, Form), records: usize) -> Asked {
     let more = match behind {
         true => [&record(1, 0, 0)[..], &[5, 6, 7]].concat(),
         false => Vec::new(),
     };
     Asked {
+        form,
         file: [table, &more].concat(),
         table: table.len(),
         seed,
@@ -258,12 +286,15 @@ fn fixed(checker: &mut Checker<impl Loading>, random: &mut Random) -> Result<(),
     let largest = random.table(64, 5, &[1, 1, 1, 1]);
     let smallest = [1, 0, 0, 0];
     for (place, table) in [&T[..], &largest, &smallest].into_iter().enumerate() {
-        for seed in SEEDS {
-            checker.check(asked(table, place == 1, seed, 10_000))?;
+        for (seed, form) in SEEDS
+            .iter()
+            .flat_map(|&seed| FORMS.map(|form| (seed, form)))
+        {
+            checker.check(asked(table, place == 1, (seed, form), 10_000))?;
         }
-        for records in 0..=SMALL {
+        for (records, form) in (0..=SMALL).flat_map(|records| FORMS.map(|form| (records, form))) {
             let seed = SEEDS[records % SEEDS.len()];
-            checker.check(asked(table, records % 2 == 1, seed, records))?;
+            checker.check(asked(table, records % 2 == 1, (seed, form), records))?;
         }
     }
     Ok(())
@@ -278,13 +309,13 @@ fn refused(checker: &mut Checker<impl Loading>) -> Result<(), Box<Difference>> {
     for table in tables {
         assert!(Table::parse(table).is_err(), "the table is bad");
         for seed in [0, 1] {
-            for records in [0, 3] {
-                checker.check(asked(table, false, seed, records))?;
+            for (records, form) in [(0, Form::Whole), (3, Form::Records), (3, Form::State)] {
+                checker.check(asked(table, false, (seed, form), records))?;
             }
         }
     }
-    for records in [0, 3] {
-        checker.check(asked(&T, true, 0, records))?;
+    for (records, form) in [(0, Form::State), (3, Form::Records), (3, Form::Whole)] {
+        checker.check(asked(&T, true, (0, form), records))?;
     }
     Ok(())
 }
@@ -292,14 +323,19 @@ fn refused(checker: &mut Checker<impl Loading>) -> Result<(), Box<Difference>> {
 impl fmt::Display for Difference {
     fn fmt(&self, f: &mut fmt::Formatter) -> fmt::Result {
         let Asked {
+            form,
             file,
             seed,
             records,
             ..
         } = &self.asked;
         writeln!(f, "difference, found in: loads")?;
-        writeln!(f, "file, hex: {}", hex(file, 1))?;
-        writeln!(f, "seed {seed} (hex {seed:08x}), {records} records")?;
+        writeln!(f, "table, or more, hex: {}", hex(file, 1))?;
+        let option = form.option().unwrap_or("table and records");
+        writeln!(
+            f,
+            "seed {seed} (hex {seed:08x}), {records} records, {option}"
+        )?;
         let here = self.asked.expected();
         match (&self.outside, &here) {
             (Ok(Some(outside)), Some(here)) => {

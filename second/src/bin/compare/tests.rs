@@ -10,7 +10,7 @@ use second::play::{Player, RECORD};
 
 use crate::check::{Checker, Manner};
 use crate::depths::{self, Depths};
-use crate::loads::{self, Loading};
+use crate::loads::{self, Form, Loading};
 use crate::outside::{Output, Outside};
 use crate::Options;
 
@@ -121,10 +121,14 @@ impl Loading for WrongLoad {
         (self.asked)(&mut asked);
         let table = &asked.file[..asked.table];
         let mut records = vec![0; asked.records * RECORD];
-        if load::fill(table, asked.seed, &mut records).is_err() {
+        let Ok(load) = load::fill(table, asked.seed, &mut records) else {
             return Ok(None);
-        }
-        let mut written = [table, &records].concat();
+        };
+        let mut written = match asked.form {
+            Form::Whole => [table, &records].concat(),
+            Form::Records => records,
+            Form::State => format!("0x{:08x}\n", load.state).into_bytes(),
+        };
         (self.written)(&mut written);
         Ok(Some(written))
     }
@@ -152,7 +156,13 @@ fn a_right_load_is_not_found_and_every_case_comes_up() {
 
 #[test]
 fn wrong_loads_are_found_with_a_small_example() {
-    let asked: [fn(&mut loads::Asked); 4] = [
+    let asked: [fn(&mut loads::Asked); 6] = [
+        |asked| asked.form = Form::Whole,
+        |asked| {
+            if asked.form == Form::State && asked.records > 20 {
+                asked.seed ^= 1;
+            }
+        },
         |asked| asked.seed = asked.seed.max(1),
         |asked| asked.seed = asked.seed.swap_bytes(),
         |asked| asked.records += 1,
