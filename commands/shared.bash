@@ -113,7 +113,8 @@ numeral() { # KIND TEXT
     [[ $2 != 0x* ]] || { base=16 && digits=${2#0x}; }
     case $base-$digits in 10-*[!0-9]* | 16-*[!0-9a-fA-F]* | *-) refuse "$1 '$2' is no number" ;; esac
     digits=${digits#"${digits%%[!0]*}"}
-    [ "${#digits}" -le 15 ] && value=$(($base#${digits:-0})) && [ "$value" -le "${most[$1]}" ] || refuse "$1 $2 is above ${most[$1]}"
+    [ "${#digits}" -le 15 ] && value=$(($base#${digits:-0})) && [ "$value" -le "${most[$1]}" ] ||
+        refuse "$1 $2 is above ${most[$1]}"
 }
 
 # Fails where a value is not of its kind: K is the number of a record, SEED and RECORDS are those of a load, anything else is the

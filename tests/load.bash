@@ -8,7 +8,8 @@ check 'load, seed 1' 0 "$work/two-made" '' ./milch load "$sample" 1 2
 check 'load of a table alone' 0 "$work/two-made" '' ./milch load "$work/table" 1 2
 check 'load of -' 0 "$work/two-made" '' bash -c "cat '$sample' | ./milch load - 1 2"
 check 'load of <(..)' 0 "$work/two-made" '' bash -c "./milch load <(cat '$work/table') 1 2"
-check 'load of numbers with zeros in front, and in hex' 0 "$work/two-made" '' ./milch load "$sample" 0x00000000000000000001 000000000000000000002
+check 'load of numbers with zeros in front, and in hex' 0 "$work/two-made" '' \
+    ./milch load "$sample" 0x00000000000000000001 000000000000000000002
 check 'load, the records alone' 0 "$work/two-records" '' ./milch load "$sample" 1 2 --records
 check 'load, the state alone' 0 0x6c1b0001 '' ./milch load "$sample" 1 2 --state
 check 'load, the state after one record' 0 0x60180001 '' ./milch load --state "$sample" 1 1
@@ -23,10 +24,12 @@ check 'load, the state after no record' 0 0x00000007 '' ./milch load "$sample" 7
 state=$(./milch load "$sample" 0xabcdef 12345 --state)
 { ./milch load "$sample" 0xabcdef 12345 && ./milch load "$sample" "$state" 33333 --records; } >"$work/in-parts"
 check 'load in two parts is the load in one' 0 '' '' cmp "$work/load" "$work/in-parts"
-check 'load in two parts: the state' 0 "$(./milch load "$sample" 0xabcdef 45678 --state)" '' ./milch load "$sample" "$state" 33333 --state
+check 'load in two parts: the state' 0 "$(./milch load "$sample" 0xabcdef 45678 --state)" '' \
+    ./milch load "$sample" "$state" 33333 --state
 check 'load: its length' 0 $((14 + 6 * 45678)) '' stat -c %s "$work/load"
 check 'load: a recording that is played, and none of 3, 4, 9' 0 '45678 some-accepted' '' bash -c \
-    "./milch play '$work/load' | awk '\$2 == 3 || \$2 == 4 || \$2 == 9 { exit 1 } \$2 == 0 { some = \"some-accepted\" } END { print NR, some }'"
+    "./milch play '$work/load' |
+        awk '\$2 == 3 || \$2 == 4 || \$2 == 9 { exit 1 } \$2 == 0 { some = \"some-accepted\" } END { print NR, some }'"
 
 # ---- arguments
 
@@ -37,8 +40,10 @@ check 'load with four arguments' 2 '' "$(refused load "'4' is one argument too m
 check 'load with the seed 0' 2 '' "$(refused load 'SEED is 0 (refusal 32)')" ./milch load "$sample" 0 2
 check 'load with the seed 0x0' 2 '' "$(refused load 'SEED is 0 (refusal 32)')" ./milch load "$sample" 0x0 2
 check 'load with a seed too large' 2 '' "$(refused load 'SEED 4294967296 is above 4294967295')" ./milch load "$sample" 4294967296 2
-check 'load with a seed far too large' 2 '' "$(refused load 'SEED 0x10000000000000001 is above 4294967295')" ./milch load "$sample" 0x10000000000000001 2
-check 'load with too many records' 2 '' "$(refused load 'RECORDS 1000000000001 is above 1000000000000')" ./milch load "$sample" 1 1000000000001
+check 'load with a seed far too large' 2 '' "$(refused load 'SEED 0x10000000000000001 is above 4294967295')" \
+    ./milch load "$sample" 0x10000000000000001 2
+check 'load with too many records' 2 '' "$(refused load 'RECORDS 1000000000001 is above 1000000000000')" \
+    ./milch load "$sample" 1 1000000000001
 check 'load with far too many records' 2 '' "$(refused load 'RECORDS 18446744073709551617 is above 1000000000000')" \
     ./milch load "$sample" 1 18446744073709551617
 for text in one 1e3 1.5 0x 0xg 1x ' 1' '' +1; do
@@ -47,7 +52,8 @@ for text in one 1e3 1.5 0x 0xg 1x ' 1' '' +1; do
 done
 check 'load with a seed below 0' 2 '' "$(refused load 'no option -1 is known')" ./milch load "$sample" -1 2
 check 'load with - for the seed' 2 '' "$(refused load "SEED '-' is no number")" ./milch load - - 2
-check 'load, records and state' 2 '' "$(refused load '--records and --state are given, of which one is taken')" ./milch load "$sample" 1 2 --records --state
+check 'load, records and state' 2 '' "$(refused load '--records and --state are given, of which one is taken')" \
+    ./milch load "$sample" 1 2 --records --state
 
 # ---- what cannot be read, is refused, or cannot be written
 

@@ -1,13 +1,12 @@
 -- A text of digits read one by one: what the rest of it makes of the number so far.
 use Prim.Native.Nat.{ℕ, _+_, _-_, _*_, _≤_, _<_}
-use mathlib.Core.Path.{_≡_, refl, _∙_, ap}
+use mathlib.Core.Path.{_≡_, refl, ap}
 use mathlib.Core.List.{List, [], _∷_}
 use native.Mathlib.Numerals.{add-one}
 use native.Mathlib.Omega.{arith}
 use lib.ListN.{length, getD, drop, drop-of-length-le}
 use lib.Seq.{drop-cons}
 use borrow.Author.Tests.{lt-ltb, le-ltb}
-use Rattle.load_files.specs.declared.Number.{Number}
 use Rattle.load_files.specs.declared.Number.the-variants.{Is, Nothing}
 use Rattle.load_files.specs.Numbers.{mostAsked, numberFrom, numberIn}
 

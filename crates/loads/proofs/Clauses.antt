@@ -40,7 +40,8 @@ module _ (n seed : ℕ) (d₁ d₂ d : List ℕ) (fit : fitting d ≡ fitting d�
 
 -- the record behind i others
 record-at : (n s a i : ℕ) (rest : List ℕ) → i < a
-    → drop (6 * i) (recordsFrom n s a ++ rest) ≡ recordFrom n (stateAfter s i) ++ (recordsFrom n (next (stateAfter s i)) (a - i - 1) ++ rest)
+    → drop (6 * i) (recordsFrom n s a ++ rest)
+    ≡ recordFrom n (stateAfter s i) ++ (recordsFrom n (next (stateAfter s i)) (a - i - 1) ++ rest)
 unfolding recordsFrom
 record-at n s a i rest h =
     let j = a - i - 1 in
@@ -57,7 +58,8 @@ module _ (tb : List ℕ) (seed : ℕ) (d : List ℕ) (small : seed < 0x100000000
   goes-on t e second whole fit =
       let ne = t .some in
       let s = after-state seed (fitting d) (omega arith, small) in
-      rw (load-done tb seed whole t, load-done tb (stateAfter seed (fitting d)) second (record { table = t .table; some = λ z. omega arith }))
+      let later : Taken tb (stateAfter seed (fitting d)) = record { table = t .table; some = λ z. omega arith } in
+      rw (load-done tb seed whole t, load-done tb (stateAfter seed (fitting d)) second later)
       (joins (sizeOf tb) seed d second whole fit)
 
   draws : Taken tb seed → NoneDraws tb (settleLoad 0 (sizeOf tb) seed d)

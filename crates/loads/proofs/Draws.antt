@@ -1,7 +1,7 @@
 -- Each record has a kind of 1 to 5, a screen of the table and no bit outside the seven: it draws none of 3, 4, 9.
-use Prim.Native.Nat.{ℕ, zero, suc, _+_, _*_, _/_, _%_, _≤_, _<_, min}
-use mathlib.Core.Path.{_≡_, refl, sym, _∙_, ap, ap₂}
-use mathlib.Core.Bool.{Bool, false, not}
+use Prim.Native.Nat.{ℕ, zero, suc, _+_, _/_, _%_, _≤_, _<_, min}
+use mathlib.Core.Path.{_≡_, refl, sym, _∙_, ap}
+use mathlib.Core.Bool.{false, not}
 use mathlib.Core.List.{List, _++_}
 use native.Mathlib.Nat.{mod-lt}
 use native.Mathlib.Omega.{arith}
@@ -11,14 +11,14 @@ use lib.Dec.{eqb}
 use borrow.Author.Tests.{eq-eqb, eqb-false, lt-ltb}
 use Rattle.model.specs.Refusals.{Check, accepted, refusal}
 use Rattle.model.specs.Table.{sizeOf}
-use Rattle.model.specs.Session.{State}
 use Rattle.model.specs.Answers.{lookAt}
 use Rattle.model.specs.Flags.{sevenOf, hasOtherBit}
 use Rattle.model.specs.Calls.{Call, launch, start, finishingStart, back, look, startChecks, checksIn, ownChecks}
-use Rattle.model.specs.Player.{Request, asks, unplayable, wordOf, requestOf, recordsIn}
+use Rattle.model.specs.Player.{Request, requestOf, recordsIn}
 use Rattle.model.proofs.Logic.{Each, if-elim, first-elim, contradiction}
 use Rattle.flags.proofs.Masks.{SEVEN, seven}
 use Rattle.records.specs.Records.{bytesOfRecord}
+use Rattle.records.proofs.Words.{word-back}
 use Rattle.session.specs.declared.Session.{Session}
 use Rattle.session.specs.Stored.{view, soundStored}
 use Rattle.calls.specs.StoredCalls.{givenBy, refusalStored, callStored, replyStored}
@@ -73,7 +73,8 @@ module _ (tb : List ℕ) (c : Session) where
   unfolding callStored refusalStored refusal
   call-none k h =
       rw (settled k (refusalStored tb c k))
-      (first-elim (λ k. NoneOf349 (k .refusal)) accepted (λ k. k .applies) (checksIn tb (soundStored tb c) (ownChecks tb (view c) k))
+      (first-elim (λ k. NoneOf349 (k .refusal)) accepted (λ k. k .applies)
+      (checksIn tb (soundStored tb c) (ownChecks tb (view c) k))
       (λ e. under 1 (omega arith), λ e. (λ e. under 2 (omega arith), λ e. (λ e. above 20 (omega arith), λ e. h))))
 
   module _ (b w : ℕ) (below : b < sizeOf tb) (none : hasOtherBit w ≡ false) where
@@ -98,7 +99,8 @@ module _ (tb : List ℕ) (c : Session) where
     unfolding requestOf ownChecks
     request-none kind low high =
         if-elim Drawn (eqb kind 1) _ _
-        (λ e. call-none (launch b) (λ e. above 22 (omega arith), λ e. (λ e. above 30 (omega arith), λ e. under 0 (omega arith)))) (λ e₁.
+        (λ e.
+        call-none (launch b) (λ e. above 22 (omega arith), λ e. (λ e. above 30 (omega arith), λ e. under 0 (omega arith)))) (λ e₁.
         if-elim Drawn (eqb kind 2) _ _ (λ e. call-none (start b w) start-fine) (λ e₂.
         if-elim Drawn (eqb kind 3) _ _ (λ e. call-none (finishingStart b w) start-fine) (λ e₃.
         if-elim Drawn (eqb kind 4) _ _ (λ e. call-none back (λ e. above 21 (omega arith), λ e. under 0 (omega arith))) (λ e₄.
@@ -112,15 +114,14 @@ module _ (tb : List ℕ) (c : Session) where
 
   -- ---- a record
 
-  word-back : (w : ℕ) → wordOf (w / 0x1000000) (w / 0x10000 % 0x100) (w / 0x100 % 0x100) (w % 0x100) ≡ w
-  word-back w = omega arith
-
   played : (k b w : ℕ) (rest : List ℕ) → playedStored tb c (bytesOfRecord k b w ++ rest) ≡ replyStored tb c (requestOf k b w)
   unfolding playedStored recordsIn
   played k b w rest = rw (word-back w)
 
-  pub record-none : (s : ℕ) (rest : List ℕ) → 1 ≤ sizeOf tb → NoneOf349 (playedStored tb c (recordFrom (sizeOf tb) s ++ rest) .answer .refusal)
+  pub record-none : (s : ℕ) (rest : List ℕ) → 1 ≤ sizeOf tb
+      → NoneOf349 (playedStored tb c (recordFrom (sizeOf tb) s ++ rest) .answer .refusal)
   unfolding recordFrom
   record-none s rest h =
       rw (played (step s % 5 + 1) (step (step s) % sizeOf tb) (sevenOf (next s)) rest)
-      (request-none (step (step s) % sizeOf tb) (sevenOf (next s)) (mod-lt (step (step s)) h) (seven-alone (next s)) (step s % 5 + 1) (omega arith) (omega arith))
+      (request-none (step (step s) % sizeOf tb) (sevenOf (next s)) (mod-lt (step (step s)) h) (seven-alone (next s))
+      (step s % 5 + 1) (omega arith) (omega arith))

@@ -28,7 +28,8 @@ state-append s (suc a) b = ap (stateAfter s) (suc-add a b) ∙ state-append (nex
 -- one record more
 pub records-more : (n s a : ℕ) → recordsFrom n s (a + 1) ≡ recordsFrom n s a ++ recordFrom n (stateAfter s a)
 unfolding recordsFrom
-records-more n s a = records-append n s a 1 ∙ ap (λ (l : List ℕ). recordsFrom n s a ++ l) (append-nil (recordFrom n (stateAfter s a)))
+records-more n s a =
+    records-append n s a 1 ∙ ap (λ (l : List ℕ). recordsFrom n s a ++ l) (append-nil (recordFrom n (stateAfter s a)))
 
 pub state-more : (s a : ℕ) → stateAfter s (a + 1) ≡ next (stateAfter s a)
 unfolding stateAfter

@@ -12,7 +12,7 @@ use Rattle.model.specs.Table.{sizeOf, tableChecks, tableRefusal}
 use Rattle.model.proofs.RefusalLaws.{refusal-applies, refusal-passes, refusal-append-refused, refusal-append-passed}
 use Rattle.model.proofs.WrittenLaws.{written-start}
 use Rattle.loads.specs.Generator.{recordsFrom}
-use Rattle.loads.specs.Loads.{seedChecks, seedRefusal, loadRefusal, Loaded, loaded, refusedLoad, fitting, filled, settleLoad, loadOf}
+use Rattle.loads.specs.Loads.{seedChecks, seedRefusal, loadRefusal, loaded, refusedLoad, fitting, filled, settleLoad, loadOf}
 use Rattle.loads.proofs.GeneratorLaws.{records-length}
 
 -- ---- its refusal

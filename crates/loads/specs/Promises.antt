@@ -22,8 +22,8 @@ pub record Joins (first second whole : Loaded) : Type 0 where
   pub records : made whole ≡ made first ++ made second
 
 -- "making a then b records, the second run seeded with the state after the first, makes those of a + b": of a load that was not
--- refused, whatever buffer the second run is lent, and every buffer for the whole in which as many records fit as in both. Each of
--- the three may have up to five bytes beyond its records.
+-- refused, whatever buffer the second run is lent, and every buffer for the whole in which as many records fit as in both. Each
+-- of the three may have up to five bytes beyond its records.
 abbrev pub GoesOn : List ℕ → ℕ → Loaded → Type 0
 GoesOn tb seed first =
     first .refusal ≡ 0 → (second whole : List ℕ) → fitting whole ≡ first .count + fitting second

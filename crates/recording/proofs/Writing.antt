@@ -11,6 +11,7 @@ use Rattle.model.specs.Player.{requestOf, wordOf}
 use Rattle.model.specs.Histories.{IsByte, IsWord, Passable}
 use Rattle.model.proofs.ListLaws.{All-append}
 use Rattle.records.specs.Records.{bytesOfRecord}
+use Rattle.records.proofs.Words.{word-back}
 use Rattle.recording.specs.CallBytes.{restoreKind, imageLength, callOf, firstCalls, callsIn}
 use Rattle.recording.proofs.Reading.{calls-whole}
 
@@ -38,9 +39,6 @@ ImageFits look = Unit {0}
 ImageFits (restore bytes) = IsWord (length bytes)
 
 -- ---- and read back
-
-word-back : (w : ℕ) → wordOf (w / 0x1000000) (w / 0x10000 % 0x100) (w / 0x100 % 0x100) (w % 0x100) ≡ w
-word-back w = omega arith
 
 -- a record and the image that follows it
 record-back : (k b w : ℕ) (image rest : List ℕ) → length image ≡ imageLength k w

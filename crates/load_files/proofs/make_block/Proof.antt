@@ -1,7 +1,6 @@
 -- The load of a block's bytes, at the start of the buffer.
 use Prim.Native.Nat.{_*_}
 use mathlib.Core.Path.{sym, _∙_, ap}
-use native.Mathlib.Omega.{arith}
 use lib.ListN.{take, drop}
 use lib.Seq.{length-take-le}
 use borrow.Author.Needs.{needs}
@@ -21,8 +20,8 @@ returns c =
     let start = block .before .before .before in
     let a = start .args in
     let end = 6 * block .block-of .result in
-    block-made (a .table .now) (a .state) (a .left) (take end (a .buffer .now)) (drop end (a .buffer .now)) (start .fits .state .fits) (start .pre .0)
-    (sym (slice-aggregate-load (c .before .before .before)) ∙ ap (λ n. 6 * n) (block .block-of .ensures))
+    block-made (a .table .now) (a .state) (a .left) (take end (a .buffer .now)) (drop end (a .buffer .now)) (start .fits .state .fits)
+    (start .pre .0) (sym (slice-aggregate-load (c .before .before .before)) ∙ ap (λ n. 6 * n) (block .block-of .ensures))
     (c .before .before .load .ensures .0)
 
 pub make-block-spec : {M : Type 1} → statement M

@@ -1,5 +1,5 @@
 -- The loop's invariant: what the rest of the text makes of the number so far is what the text stands for.
-use Prim.Native.Nat.{ℕ, _+_, _-_, _*_, _≤_}
+use Prim.Native.Nat.{ℕ, _-_, _≤_}
 use mathlib.Core.Path.{_≡_, sym, _∙_}
 use mathlib.Core.List.{List}
 use native.Mathlib.Omega.{arith}
@@ -7,7 +7,8 @@ use lib.ListN.{length, drop}
 use borrow.Author.Needs.{needs}
 use Rattle.load_files.specs.declared.Number.{Number}
 use Rattle.load_files.specs.Numbers.{mostAsked, numberFrom, numberIn}
-use Rattle.load_files.proofs.Digits.{number-begins, number-none, number-ends, digit-below, digit-above, digit-most, digit-read}
+use Rattle.load_files.proofs.Digits.{number-begins, number-none, number-ends}
+use Rattle.load_files.proofs.Digits.{digit-below, digit-above, digit-most, digit-read}
 use Rattle.load_files.proofs.number_in.Statement.{statement}
 use Rattle.load_files.proofs.number_in.Tie as tie
 
@@ -53,13 +54,9 @@ returns-4 c =
 loop-again : tie.Need-loop-again Inv-loop μ-loop
 loop-again c =
     let at = c .before .before .before .before .before .before in
-    let e = c .before .wide .ensures in (
-      omega arith,
-      (
-        omega arith,
-        rw e (sym (so at (digit-read (text at) (at .loop .value) (at .loop .i) (omega arith) (omega arith) (omega arith) (omega arith)))),
-      ),
-    )
+    let e = c .before .wide .ensures in
+    let r = digit-read (text at) (at .loop .value) (at .loop .i) (omega arith) (omega arith) (omega arith) (omega arith) in
+    (omega arith, (omega arith, rw e (sym (so at r))))
 
 returns-5 : tie.Need-returns-5 Inv-loop μ-loop
 returns-5 c = so (c .before) (number-ends (text (c .before)) (c .before .loop .value) (c .before .loop .i) (omega arith))

@@ -17,7 +17,8 @@ use Rattle.load_files.proofs.run.Tie as tie
 
 abbrev Inv-loop : tie.InvT-loop
 Inv-loop table seed records writes state₀ left₀ buffer₀ state left buffer =
-    (left ≤ records) × ((state ≡ stateAfter seed (records - left)) × ((loadRefusal table state ≡ 0) × (length buffer ≡ 6 * mostRecords)))
+    (left ≤ records)
+    × ((state ≡ stateAfter seed (records - left)) × ((loadRefusal table state ≡ 0) × (length buffer ≡ 6 * mostRecords)))
 
 abbrev μ-loop : tie.MeasureT-loop
 μ-loop table seed records writes state₀ left₀ buffer₀ state left buffer = left
@@ -70,14 +71,11 @@ loop-again c =
     let a = here .before .before .before .before .before .args in
     let made = here .make-block .ensures in
     let b = block here in
-    let on : (a .records - l .left) + blockOf (l .left) ≡ a .records - (l .left - here .make-block .result .count) = omega arith in (
-      omega arith,
-      (
-        made .state ∙ ap (λ s. stateAfter s (blockOf (l .left))) (l .inv .1 .0) ∙ sym (state-append (a .seed) (a .records - l .left) (blockOf (l .left)))
-            ∙ ap (stateAfter (a .seed)) on,
-        (made .goesOn, b .1 .1),
-      ),
-    )
+    let done = a .records - l .left in
+    let more = blockOf (l .left) in
+    let on : done + more ≡ a .records - (l .left - here .make-block .result .count) = omega arith in
+    let after = ap (λ s. stateAfter s more) (l .inv .1 .0) ∙ sym (state-append (a .seed) done more) in
+    (omega arith, (made .state ∙ after ∙ ap (stateAfter (a .seed)) on, (made .goesOn, b .1 .1)))
 
 returns-2 : tie.Need-returns-2 Inv-loop μ-loop
 returns-2 c =

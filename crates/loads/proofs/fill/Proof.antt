@@ -35,7 +35,8 @@ loop-again c =
     let i = here .loop .i in
     let v = here .loop .inv .1 in
     let w = c .before .before .write-record .ensures in
-    let p : 6 * (i + 1) ≡ 6 * i + length (recordFrom (a .n) (here .loop .state)) = omega (arith, record-length (a .n) (here .loop .state)) in
+    let long = record-length (a .n) (here .loop .state) in
+    let p : 6 * (i + 1) ≡ 6 * i + length (recordFrom (a .n) (here .loop .state)) = omega arith in
     let r = wrote-append (v .1) (omega arith) (record { place = p; text = w .1 }) in
     (omega arith, (w .0 ∙ ap next (v .0) ∙ sym (state-more (a .seed) i), rw (records-more (a .n) (a .seed) i, ← v .0) r))
 

@@ -1,5 +1,5 @@
 -- A load that is refused before a byte is written, or as many records as fit.
-use mathlib.Core.Path.{_≡_, sym, _∙_}
+use mathlib.Core.Path.{sym, _∙_}
 use native.Mathlib.Omega.{arith}
 use borrow.Author.Needs.{needs}
 use Rattle.model.specs.Table.{sizeOf}
@@ -18,7 +18,7 @@ returns c =
     load-clauses (a .table .now) (a .seed) (a .out .now) (start .fits .seed .fits) (rw (c .refuse .ensures) (sym e))
 
 -- past the checks
-taken : (c : tie.Else1) → Taken (c .before .before .before .before .args .table .now) (c .before .before .before .before .args .seed)
+taken : (c : tie.Else1) → let a = c .before .before .before .before .args in Taken (a .table .now) (a .seed)
 taken c =
     let a = c .before .before .before .before .args in
     load-taken (a .table .now) (a .seed) (sym (c .before .refusal .ensures) ∙ c .if1 .left)

@@ -1,7 +1,6 @@
 -- The three steps, and the record that their states make.
 use Prim.Native.Nat.{ℕ, _+_, _%_}
-use mathlib.Core.Path.{_≡_, refl, _∙_, ap}
-use mathlib.Core.List.{List}
+use mathlib.Core.Path.{_≡_, _∙_, ap}
 use native.Mathlib.Nat.{mod-lt}
 use native.Mathlib.Omega.{arith}
 use lib.Bits.{bitAnd}
@@ -23,7 +22,9 @@ module _ (s : ℕ) {first second third : ℕ} (e₁ : first ≡ step s) (e₂ : 
   made n = rw (seven third, thrice, e₂, e₁)
 
 cast-screen : tie.Need-cast-screen
-cast-screen c = let start = c .before .before .before .before in omega (arith, mod-lt (c .before .step2 .result) {m = start .args .n} (start .pre .0))
+cast-screen c =
+    let start = c .before .before .before .before in
+    omega (arith, mod-lt (c .before .step2 .result) {m = start .args .n} (start .pre .0))
 
 returns : tie.Need-returns
 returns c =
