@@ -1,14 +1,14 @@
 -- One operation by its kind, and the operations read two bytes at a time.
 use Prim.Native.Nat.{ℕ, suc, _+_, _*_, _≤_, _<_}
 use mathlib.Core.Path.{_≡_, refl, ap, _∙_}
-use mathlib.Core.Bool.{Bool, true, false}
+use mathlib.Core.Bool.{Bool, true, false, _||_, true≢false}
 use mathlib.Core.List.{List, [], _∷_, _++_}
 use native.Mathlib.Omega.{arith}
-use lib.Dec.{eqb}
+use lib.Dec.{eqb, ltb}
 use lib.ListN.{length, getD, drop, length-append, length-drop}
 use lib.Seq.{drop-cons}
-use borrow.Author.Tests.{eq-eqb, ne-eqb, eqb-true, eqb-false}
-use Rattle.panels.specs.Operations.{mostPanels, operation, operated, removeTopmost, operationsIn}
+use borrow.Author.Tests.{eq-eqb, ne-eqb, eqb-true, eqb-false, ltb-false}
+use Rattle.panels.specs.Operations.{mostPanels, Operation, operation, operated, carriedOut, makesNine, removeTopmost, operationsIn}
 use Rattle.panels.proofs.PanelLaws.{topmost-shorter}
 
 module _ (k p : ℕ) (xs : List ℕ) where
@@ -32,6 +32,17 @@ module _ (k p : ℕ) (xs : List ℕ) where
       go true b e f = rw (op-add (eqb-true k 1 e)) (omega (arith, length-append xs (p ∷ []), room (eqb-true k 1 e)))
       go false true e f = rw (op-remove (eqb-false k 1 e) (eqb-true k 2 f)) (omega (arith, topmost-shorter p xs))
       go false false e f = rw (op-replace (eqb-false k 1 e) (eqb-false k 2 f)) (omega arith)
+
+-- where no operation makes nine panels
+pub or-false : (a b : Bool) → (a || b) ≡ false → (a ≡ false) × (b ≡ false)
+or-false true b e = absurd (true≢false e)
+or-false false b e = (refl, e)
+
+pub carried-low : (os : List Operation) (xs : List ℕ) → makesNine os xs ≡ false → length xs ≤ mostPanels → length (carriedOut os xs) ≤ mostPanels
+carried-low [] xs e l = l
+carried-low (o ∷ os) xs e l =
+    let h = or-false (ltb mostPanels (length (operated o xs))) (makesNine os (operated o xs)) e in
+    carried-low os (operated o xs) (h .1) (ltb-false mostPanels (length (operated o xs)) (h .0))
 
 -- ---- the operations as bytes
 
