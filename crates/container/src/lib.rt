@@ -18,7 +18,7 @@ use panels::Panels;
 pub struct Container {
     pub now: Panels,
     pub steps: u8,
-    pub kept: [Panels; 8],
+    pub kept: [Panels; Container::STEPS],
 }
 
 // The container after a call and 0, or the container as it was and the refusal.
@@ -28,18 +28,22 @@ pub struct Reply {
 }
 
 impl Container {
+    // The most steps that are recorded.
+    pub const STEPS: usize = 8;
+    pub const MOST: u8 = Container::STEPS as u8;
+
     // A container without panels and without steps.
     pub fn empty() -> Container
         ensures { λ r. ⌜ r ≡ emptyContainer ⌝ }
     {
         let none = Panels {
             count: 0,
-            panels: [0; 8],
+            panels: [0; Panels::PANELS],
         };
         Container {
             now: none,
             steps: 0,
-            kept: [none; 8],
+            kept: [none; Container::STEPS],
         }
     }
 
@@ -48,13 +52,13 @@ impl Container {
         ensures { λ r. ⌜ r ≡ goodContainer self ⌝ }
     {
         let n = self.steps as usize;
-        if (8 < n) | (8 < self.now.count) {
+        if (Container::STEPS < n) | (Panels::MOST < self.now.count) {
             return false;
         }
         let mut i: usize = 0;
         while i < n {
             let q = self.kept[i];
-            if 8 < q.count {
+            if Panels::MOST < q.count {
                 return false;
             }
             i += 1;
@@ -148,7 +152,7 @@ impl Container {
             };
         }
         let steps = self.steps;
-        if ((recorded == 0) & (steps != 0)) | ((recorded != 0) & (steps == 8)) {
+        if ((recorded == 0) & (steps != 0)) | ((recorded != 0) & (steps == Container::MOST)) {
             return Reply {
                 container: self,
                 refusal: 38,

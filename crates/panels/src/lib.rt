@@ -9,7 +9,7 @@ ghost use Rattle.panels.specs.Stored.{noPanels, viewPanels, holdPanels, 
 #[repr(C)]
 pub struct Panels {
     pub count: u8,
-    pub panels: [u8; 8],
+    pub panels: [u8; Panels::PANELS],
 }
 
 // The panels that a step makes and 0, or none and 37.
@@ -19,12 +19,16 @@ pub struct Carried {
 }
 
 impl Panels {
+    // The most panels that stand.
+    pub const PANELS: usize = 8;
+    pub const MOST: u8 = Panels::PANELS as u8;
+
     pub fn none() -> Panels
         ensures { λ r. ⌜ r ≡ noPanels ⌝ }
     {
         Panels {
             count: 0,
-            panels: [0; 8],
+            panels: [0; Panels::PANELS],
         }
     }
 
@@ -103,7 +107,7 @@ impl Panels {
         while i < n {
             let kind = operations[2 * i];
             let p = operations[2 * i + 1];
-            if (kind == 1) & (out.count == 8) {
+            if (kind == 1) & (out.count == Panels::MOST) {
                 let none = Panels::none();
                 return Carried {
                     panels: none,
