@@ -7,13 +7,13 @@ use native.Mathlib.Omega.{arith}
 use lib.Dec.{eqb}
 use lib.ListN.{length, take, length-map, length-take, length-append}
 use lib.Seq.{getD-at, take-at}
-use borrow.Author.Tests.{eqb-true, eqb-false, ne-eqb, not-false}
+use borrow.Author.Tests.{eqb-true, eqb-false, ne-eqb}
 use Rattle.model.specs.Lists.{if_then_else_}
 use Rattle.model.specs.Refusals.{refusal}
 use Rattle.model.specs.Histories.{after}
 use Rattle.model.proofs.ListLaws.{All-append}
 use Rattle.model.proofs.RefusalLaws.{refusal-skip}
-use Rattle.panels.specs.Operations.{operationsIn}
+use Rattle.panels.specs.Operations.{operationsIn, goodOperations}
 use Rattle.panels.specs.Stored.{viewPanels}
 use Rattle.panels.proofs.PanelLaws.{view-low}
 use Rattle.panels.proofs.OperationLaws.{carried-low}
@@ -25,6 +25,7 @@ use Rattle.container.specs.declared.Reply.{Reply}
 use Rattle.container.proofs.Storing.{Low, Fits, view-hold, empty-held, held-steps, held-good}
 use Rattle.container.proofs.KeptLaws.{is-good, each-low}
 use Rattle.container.proofs.CallLaws.{reply, accepted, taken}
+use Rattle.container.proofs.StepLaws.{both-true}
 use Rattle.container.proofs.Telling.{empty-tells, passed, accepted-tells}
 
 -- ---- lists of calls
@@ -76,7 +77,7 @@ module _ (p : Step) (c : Container) (e : p .recorded ≡ true) (h : refusalAt (s
 
   good : goodContainer c ≡ true
   unfolding checksOf
-  good = not-false (goodContainer c) (refusal-skip 35 _ _ (refusal-skip 35 _ _ h .1) .0)
+  good = both-true (goodOperations (p .operations)) (goodContainer c) (refusal-skip 35 _ _ h .0) .1
 
   more : length (stepped p (view c) .kept) ≡ suc (length (view c .kept))
   unfolding stepped

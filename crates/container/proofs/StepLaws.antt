@@ -1,7 +1,7 @@
 -- What a step gives, by what the code found.
 use Prim.Native.Nat.{ℕ, _≤_, _<_}
 use mathlib.Core.Path.{_≡_, refl, sym, ap, _∙_}
-use mathlib.Core.Bool.{Bool, true, false, not, _&&_, _||_}
+use mathlib.Core.Bool.{Bool, true, false, not, _&&_, _||_, true≢false}
 use mathlib.Core.List.{List, map}
 use native.Mathlib.Omega.{arith}
 use lib.Dec.{eqb}
@@ -33,18 +33,22 @@ place-test r n b e = go (eqb r 0) (eqb n 0) refl e
     go true false q f = rw q f
     go false x q f = f
 
-module _ (r : ℕ) (l : List ℕ) (c : Container) where
-  pub operations-36 : goodOperations l ≡ false → reply c 36 ≡ called (stepOf r l) c
-  unfolding refusal checksOf
-  operations-36 o = refused (stepOf r l) c 35 (rw o)
+pub both-true : (a b : Bool) → (not a || not b) ≡ false → (a ≡ true) × (b ≡ true)
+both-true true true e = (refl, refl)
+both-true true false e = absurd (true≢false e)
+both-true false b e = absurd (true≢false e)
 
-  module _ (o : goodOperations l ≡ true) where
-    pub container-36 : goodContainer c ≡ false → reply c 36 ≡ called (stepOf r l) c
-    unfolding refusal checksOf
-    container-36 g = refused (stepOf r l) c 35 (rw (o, g))
+module _ (r : ℕ) (l : List ℕ) (c : Container) where
+  pub step-36 : (not (goodOperations l) || not (goodContainer c)) ≡ true → reply c 36 ≡ called (stepOf r l) c
+  unfolding refusal checksOf
+  step-36 t = refused (stepOf r l) c 35 (rw t)
+
+  module _ (p : (not (goodOperations l) || not (goodContainer c)) ≡ false) where
+    g : goodContainer c ≡ true
+    g = both-true (goodOperations l) (goodContainer c) p .1
 
     -- the operations gave f
-    module _ (g : goodContainer c ≡ true) (f : Carried) (e : f ≡ carriedOr37 (operationsIn l) (viewPanels (c .now))) where
+    module _ (f : Carried) (e : f ≡ carriedOr37 (operationsIn l) (viewPanels (c .now))) where
       abbrev shown : List ℕ
       shown = carriedOut (operationsIn l) (viewPanels (c .now))
 
@@ -58,7 +62,7 @@ module _ (r : ℕ) (l : List ℕ) (c : Container) where
       step-37 h = go (makesNine (operationsIn l) (viewPanels (c .now))) refl
         where
           go : (b : Bool) → makesNine (operationsIn l) (viewPanels (c .now)) ≡ b → reply c 37 ≡ called (stepOf r l) c
-          go true m = refused (stepOf r l) c 36 (rw (o, g, m))
+          go true m = refused (stepOf r l) c 36 (rw (p, m))
           go false m = absurd (h (ap (λ (x : Carried). x .refusal) (gave false m)))
 
       module _ (z : f .refusal ≡ 0) where
@@ -79,13 +83,13 @@ module _ (r : ℕ) (l : List ℕ) (c : Container) where
 
         pub step-38 : noPlace r (c .steps) ≡ true → reply c 38 ≡ called (stepOf r l) c
         unfolding refusal checksOf
-        step-38 t = refused (stepOf r l) c 37 (rw (o, g, fine, place-test r (c .steps) true t))
+        step-38 t = refused (stepOf r l) c 37 (rw (p, fine, place-test r (c .steps) true t))
 
         module _ (t : noPlace r (c .steps) ≡ false) (out : Container)
             (h : out ≡ hold (state (viewPanels (f .panels)) (map viewPanels (take (c .steps) (c .kept))))) where
           passes : refusalAt (stepOf r l) c ≡ 0
           unfolding refusal checksOf
-          passes = rw (o, g, fine, place-test r (c .steps) false t)
+          passes = rw (p, fine, place-test r (c .steps) false t)
 
           made : out ≡ hold (state shown (map viewPanels (take (c .steps) (c .kept))))
           made = h ∙ rw (gives, view-held shown)

@@ -158,7 +158,7 @@ pub passed : (p : Step) (c : Container) → refusalAt (step p) c ≡ 0
     → (makesNine (operationsIn (p .operations)) (view c .now) ≡ false) × (hasNoPlace (p .recorded) (c .steps) ≡ false)
 unfolding checksOf view
 passed p c e =
-    let h = refusal-skip 36 _ _ (refusal-skip 35 _ _ (refusal-skip 35 _ _ e .1) .1) in
+    let h = refusal-skip 36 _ _ (refusal-skip 35 _ _ e .1) in
     (h .0, refusal-skip 37 _ _ (h .1) .0)
 
 pub accepted-tells : (a : Call) (c : Container) (live : List Step) → c .steps ≡ length (view c .kept) → Tells (view c) live → refusalAt a c ≡ 0

@@ -1,6 +1,6 @@
 -- Containers as they are stored: 8 kept panels, oldest first, 0 beyond. The checks and the calls on them.
 use Prim.Native.Nat.{ℕ, _+_}
-use mathlib.Core.Bool.{Bool, true, false, not, _&&_}
+use mathlib.Core.Bool.{Bool, true, false, not, _&&_, _||_}
 use mathlib.Core.List.{List, [], _∷_, map}
 use lib.Dec.{eqb, leb}
 use lib.ListN.{length, take, set, replicate}
@@ -49,8 +49,7 @@ hasNoPlace false n = not (eqb n 0)
 -- "Checks, in this sequence"
 unfoldable pub checksOf : Call → Container → List Check
 checksOf (step p) c =
-    check 36 (not (goodOperations (p .operations)))
-    ∷ check 36 (not (goodContainer c))
+    check 36 (not (goodOperations (p .operations)) || not (goodContainer c))
     ∷ check 37 (makesNine (operationsIn (p .operations)) (viewPanels (c .now)))
     ∷ check 38 (hasNoPlace (p .recorded) (c .steps))
     ∷ []

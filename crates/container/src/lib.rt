@@ -30,6 +30,7 @@ pub struct Reply {
 impl Container {
     // The most steps that are recorded.
     pub const STEPS: usize = 8;
+
     pub const MOST: u8 = Container::STEPS as u8;
 
     // A container without panels and without steps.
@@ -131,13 +132,7 @@ impl Container {
         ensures gives { λ r. ⌜ r ≡ called (stepOf recorded (now (operations .entry))) self ⌝ }
         ensures promise { λ _. ⌜ KeepsPromise ⌝ }
     {
-        if !panels::good_operations(operations) {
-            return Reply {
-                container: self,
-                refusal: 36,
-            };
-        }
-        if !self.good() {
+        if !panels::good_operations(operations) | !self.good() {
             return Reply {
                 container: self,
                 refusal: 36,

@@ -21,6 +21,7 @@ pub struct Carried {
 impl Panels {
     // The most panels that stand.
     pub const PANELS: usize = 8;
+
     pub const MOST: u8 = Panels::PANELS as u8;
 
     pub fn none() -> Panels
