@@ -24,7 +24,7 @@ name='README is short' status=0
 [ "$(wc -c <README.md)" -le 10240 ] || wrong "it has $(wc -c <README.md) bytes"
 printf 'ok: %s\n' "$name"
 name='every command is in the help' status=0
-for asked in show at picture play explain same diff depth load text bytes install; do
+for asked in show at picture play explain same diff depth load text bytes panels install; do
     grep -q "^       ./milch $asked " "$texts/whole.txt" || wrong "$asked is not"
 done
 printf 'ok: %s\n' "$name"
@@ -51,7 +51,7 @@ examples() { # DOCUMENT
 examples README.md
 examples docs/COMMANDS.md
 name='every command has an example that is run' status=0
-for asked in show at picture play explain same diff depth load text bytes install; do
+for asked in show at picture play explain same diff depth load text bytes panels install; do
     grep -q "^./milch $asked " "$work/examples.run" || wrong "$asked has none"
 done
 printf 'ok: %s\n' "$name"
@@ -62,7 +62,7 @@ check 'milch text and bytes' 0 "$sample" '' bash -c "./milch text '$sample' | ./
 check 'milch diff of one with itself' 0 $'no record differs, of 8\nthe endings are alike' '' ./milch diff "$sample" "$sample"
 check 'milch picture' 0 '' '' ./milch picture "$sample" --out "$work/sample.html"
 [ -s "$work/sample.html" ] || { name='milch picture' status=0; wrong 'it writes a page'; }
-for asked in show at text bytes diff picture; do
+for asked in show at text bytes diff picture panels; do
     check "milch $asked --help" 0 "$texts/$asked.txt" '' ./milch $asked --help
     check "milch $asked -h" 0 "$texts/$asked.txt" '' ./milch $asked -h
 done
@@ -82,4 +82,9 @@ check 'milch show into a closed pipe' 0 '' '' \
 check 'milch picture to standard output' 2 '' "$(refused picture '--out - is no file to be written')" ./milch picture "$sample" --out -
 check 'milch at without a number' 2 '' "$(refused at 'K is missing')" ./milch at "$sample"
 check 'milch at a record beyond the last' 2 '' "milch: $sample has no record 9: the last is 8" ./milch at "$sample" 9
+check 'milch panels of no text' 2 '' "milch: -:1:1: expected step, record or back at the start of a line, not 'add'" \
+    bash -c 'echo add 3 | ./milch panels -'
+check 'milch panels of two files' 2 '' "$(refused panels "'second' is one argument too many")" ./milch panels first second
+check 'milch panels of a missing file' 2 '' 'milch: nothing-here: no such file' ./milch panels nothing-here
+check 'milch panels onto a full disk' 2 '' 'milch: standard output*' bash -c 'echo back | ./milch panels - >/dev/full'
 check 'milch bytes of no text' 2 '' 'milch: -:1:1: expected *' bash -c 'echo start 0 | ./milch bytes -'

@@ -8,7 +8,7 @@
  * For all arguments: an accepted call answers 0 and what is then in front; a refused call answers the number of the
  * first check that fails and zeros, and session and buffers keep every byte. The checks go in the order 1, 2, 20, then
  * those named for the call. A session that is sound under the table stays so. The tally's two calls have a check of
- * their own, 31, and a load, which has no session, has 1, 2 and 32.
+ * their own, 31, a load, which has no session, has 1, 2 and 32, and a container's calls have 36, 37 and 38.
  *
  * A pointer with a length is to that many bytes, and no pointer is null, even with length 0. What a call may write, a
  * session or a buffer, shares no byte with its other arguments. The library keeps no pointer, allocates nothing and has
@@ -17,7 +17,7 @@
  * Threads may make calls at the same time, and may share a table and an image, which are only read. A session that is
  * lent by pointer is written in every call, in look too: look stores the session that it read, so its pointer is not
  * const. During the call no other thread reads or writes that session. Save and why take a copy. So it is with a tally:
- * add writes it, and report takes a copy. */
+ * add writes it, and report takes a copy; and with a container, which step and Back write. */
 #ifndef MILCHKOMPASS_H
 #define MILCHKOMPASS_H
 
@@ -92,8 +92,8 @@ static inline const char *milchkompass_flag_name(uint32_t flag) {
     }
 }
 
-/* The refusals; milchkompass_refusal_text says what each means. 9 is the player's alone, 31 a tally's, and
- * 32 a load's. */
+/* The refusals; milchkompass_refusal_text says what each means. 9 is the player's alone, 31 a tally's, 32 a load's, and
+ * 36 to 38 are a container's. */
 enum milchkompass_refusal {
     MILCHKOMPASS_ACCEPTED = 0,
     MILCHKOMPASS_TABLE_LENGTH = 1,
@@ -112,7 +112,10 @@ enum milchkompass_refusal {
     MILCHKOMPASS_TASK_FULL = 24,
     MILCHKOMPASS_NO_SUCH_EDITION = 30,
     MILCHKOMPASS_NOT_TALLIED = 31,
-    MILCHKOMPASS_SEED_ZERO = 32
+    MILCHKOMPASS_SEED_ZERO = 32,
+    MILCHKOMPASS_BAD_STEP_OR_CONTAINER = 36,
+    MILCHKOMPASS_PANELS_FULL = 37,
+    MILCHKOMPASS_STEP_OUT_OF_PLACE = 38
 };
 
 /* What a refusal means, in one plain sentence. */
@@ -136,6 +139,9 @@ static inline const char *milchkompass_refusal_text(uint8_t refusal) {
     case MILCHKOMPASS_NO_SUCH_EDITION: return "a launch names an edition that is none of 0, 6, 7 and 8";
     case MILCHKOMPASS_NOT_TALLIED: return "library only, from a tally: it has 65,535 calls already, an accepted height is above 32, or no list of answers gives its numbers";
     case MILCHKOMPASS_SEED_ZERO: return "the seed of a load is 0";
+    case MILCHKOMPASS_BAD_STEP_OR_CONTAINER: return "a step has not 1 to 4 operations, or one of another kind than 1 to 3; or the container has more than 8 steps, or more than 8 panels now or kept";
+    case MILCHKOMPASS_PANELS_FULL: return "an operation would make nine panels";
+    case MILCHKOMPASS_STEP_OUT_OF_PLACE: return "a ninth recorded step, an unrecorded step over recorded ones, or Back with none recorded";
     default: return "no refusal of a call";
     }
 }
@@ -270,6 +276,36 @@ typedef struct milchkompass_report {
     uint8_t greatest;
 } milchkompass_report;
 
+/* The limits of a container: its panels, and its recorded steps. */
+#define MILCHKOMPASS_PANELS 8
+#define MILCHKOMPASS_STEPS 8
+
+/* Panels, numbers 0 to 255, bottom first: so many of the array. */
+typedef struct milchkompass_panels {
+    uint8_t count;
+    uint8_t panels[MILCHKOMPASS_PANELS];
+} milchkompass_panels;
+
+/* A container of panels inside a screen: the panels now, how many steps are recorded, and the panels that each of them
+ * found, oldest first. It belongs to its caller. After an accepted call 0 stands beyond each count and beyond the
+ * steps; what stands there before a call is not looked at. */
+typedef struct milchkompass_container {
+    milchkompass_panels now;
+    uint8_t steps;
+    milchkompass_panels kept[MILCHKOMPASS_STEPS];
+} milchkompass_container;
+
+/* A container without panels and without steps: every byte is 0. */
+#define MILCHKOMPASS_CONTAINER_EMPTY {{0, {0}}, 0, {{0, {0}}}}
+
+/* The kinds of a step's operations: add a panel on top, remove the topmost copy of one (nothing happens where there is
+ * none), and replace, which removes all and adds one. */
+enum milchkompass_operation {
+    MILCHKOMPASS_ADD = 1,
+    MILCHKOMPASS_REMOVE = 2,
+    MILCHKOMPASS_REPLACE = 3
+};
+
 /* Launch. After it the session is one task whose root and only screen is the main screen; it is the main task. Its
  * edition is the one named, 8 where that is 0, until it is empty or an image is restored. Its own checks: 22, 30. */
 milchkompass_answer milchkompass_launch(const uint8_t *table, size_t table_length, milchkompass_session *s,
@@ -344,6 +380,21 @@ uint8_t milchkompass_tally_add(milchkompass_tally *t, uint8_t refusal, uint8_t h
 
 /* The report of a tally. Its check is 31, for a tally that no list of answers gives. */
 milchkompass_report milchkompass_tally_report(milchkompass_tally t);
+
+/* A step in a container. Its operations, 1 to 4, are kind and panel in turn, so 2 to 8 bytes, and are carried out one
+ * after the other. With recorded other than 0 the step is recorded, and keeps the panels that it found. Gives the
+ * refusal, 0 if none. Its checks: 36, 37, 38; the container is kept. */
+uint8_t milchkompass_container_step(milchkompass_container *c, uint8_t recorded, const uint8_t *operations,
+                                    size_t operations_length);
+
+/* Back in a container: the last recorded step is undone, and dropped. Gives the refusal, 0 if none. Its checks: 36, 38;
+ * the container is kept. */
+uint8_t milchkompass_container_back(milchkompass_container *c);
+
+/* The container after a list of calls, made one after the other from an empty one; a refused call changes nothing. A
+ * call is a kind (1 a step, 2 a recorded step, 3 Back), a count n and 2n bytes, which are the operations of a step, and
+ * which Back passes over. An unknown kind is no call, and a call that is cut ends the list. */
+milchkompass_container milchkompass_container_play(const uint8_t *calls, size_t calls_length);
 
 #ifdef __cplusplus
 }

@@ -42,6 +42,7 @@
 #![warn(missing_docs)]
 
 mod answer;
+mod container;
 mod edition;
 mod flags;
 mod launch_mode;
@@ -57,6 +58,7 @@ mod tally;
 mod unknown;
 
 pub use answer::Answer;
+pub use container::{Container, Operation};
 pub use edition::Edition;
 pub use flags::Flags;
 pub use launch_mode::LaunchMode;

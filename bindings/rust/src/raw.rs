@@ -8,6 +8,10 @@ const ABI: u32 = 5;
 const TASKS: usize = 16;
 const SCREENS: usize = 32;
 
+/// The limits of a container: its panels, and its recorded steps.
+const PANELS: usize = 8;
+const STEPS: usize = 8;
+
 /// The length of the longest image of a session, in bytes: a buffer of so many
 /// is never too short for a save.
 pub const IMAGE_MAX: usize = TASKS * (2 + SCREENS) + 6;
@@ -99,6 +103,23 @@ pub struct Ending {
     pub alike: bool,
 }
 
+/// Panels, bottom first.
+#[repr(C)]
+#[derive(Clone, Copy, PartialEq, Eq, Hash)]
+pub struct Panels {
+    pub count: u8,
+    pub panels: [u8; PANELS],
+}
+
+/// A container: the panels now, the recorded steps, and what each found.
+#[repr(C)]
+#[derive(Clone, Copy, PartialEq, Eq, Hash)]
+pub struct Container {
+    pub now: Panels,
+    pub steps: u8,
+    pub kept: [Panels; STEPS],
+}
+
 extern "C" {
     fn milchkompass_abi() -> u32;
     fn milchkompass_fresh() -> Session;
@@ -178,6 +199,14 @@ extern "C" {
     ) -> LoadReply;
     fn milchkompass_tally_add(t: *mut Tally, refusal: u8, height: u8) -> u8;
     fn milchkompass_tally_report(t: Tally) -> Report;
+    fn milchkompass_container_step(
+        c: *mut Container,
+        recorded: u8,
+        operations: *const u8,
+        operations_length: usize,
+    ) -> u8;
+    fn milchkompass_container_back(c: *mut Container) -> u8;
+    fn milchkompass_container_play(calls: *const u8, calls_length: usize) -> Container;
 }
 
 // SAFETY of each call below: pointers and lengths are those of whole slices,
@@ -296,4 +325,23 @@ pub fn tally_add(t: &mut Tally, refusal: u8, height: u8) -> u8 {
 pub fn tally_report(t: Tally) -> Report {
     check_abi();
     unsafe { milchkompass_tally_report(t) }
+}
+
+/// No table is made for a container, so the interface is compared here.
+pub fn container_step(c: &mut Container, recorded: bool, operations: &[u8]) -> u8 {
+    check_abi();
+    let (bytes, length) = (operations.as_ptr(), operations.len());
+    unsafe { milchkompass_container_step(c, recorded.into(), bytes, length) }
+}
+
+/// As `container_step`.
+pub fn container_back(c: &mut Container) -> u8 {
+    check_abi();
+    unsafe { milchkompass_container_back(c) }
+}
+
+/// As `container_step`.
+pub fn container_play(calls: &[u8]) -> Container {
+    check_abi();
+    unsafe { milchkompass_container_play(calls.as_ptr(), calls.len()) }
 }

@@ -1,6 +1,6 @@
 //! Every refusal that a caller can provoke, and that it changes nothing. 20
-//! cannot be: a session's storage is its own. 9 stands with the replay, 31
-//! with the tally, and 32 with the load.
+//! cannot be: a session's storage is its own. 9 stands with the replay, 31 with
+//! the tally, 32 with the load, and 36 to 38 with the container.
 
 mod common;
 
@@ -116,7 +116,9 @@ fn errors() {
         "refusal 22: a launch, and a task is there"
     );
     let numbers: Vec<u8> = Refusal::ALL.iter().map(|r| r.number()).collect();
-    let known = [1, 2, 3, 4, 5, 6, 7, 8, 9, 20, 21, 22, 23, 24, 30, 31, 32];
+    let known = [
+        1, 2, 3, 4, 5, 6, 7, 8, 9, 20, 21, 22, 23, 24, 30, 31, 32, 36, 37, 38,
+    ];
     assert_eq!(numbers, known);
     for number in 0..=255 {
         match Refusal::try_from(number) {

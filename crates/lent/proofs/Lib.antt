@@ -8,3 +8,4 @@ pub mod LendingLocals
 pub mod LendingForm
 pub mod LendingWalk
 pub mod LendingStructs
+pub mod LendingContainers

@@ -25,7 +25,12 @@ ghost use Rattle.tally.specs.Tallies.{added, reported, KnowsTallies, TalliesJoi
 ghost use Rattle.tally.specs.Tallied.{RoundsHalfToEven};
 ghost use Rattle.loads.specs.Loads.{loaded, loadOf};
 ghost use Rattle.loads.specs.Promises.{GoesOn, NoneDraws};
+ghost use Rattle.container.specs.Calls.{Call as PanelCall};
+ghost use Rattle.container.specs.Stored.{called, stepOf};
+ghost use Rattle.container.specs.Promised.{Promised, KeepsPromise, BackRestores};
+ghost use Rattle.container_lists.specs.CallBytes.{callsIn, EveryList};
 ghost use Rattle.lent.specs.Abi.{abiNumber};
+use container::Container;
 use image_calls::SaveReply;
 use loads::LoadReply;
 use model::Answer;
@@ -254,4 +259,46 @@ pub extern "C" fn milchkompass_tally_report(t: Tally) -> Report
     ensures nearest { λ _. ⌜ RoundsHalfToEven ⌝ }
 {
     t.report()
+}
+
+// ---- panels
+
+// Carries out a step, recorded or (0) not, on the container that is lent: 0, or the refusal, which leaves it. The operations are
+// kind and panel in turn.
+#[no_mangle]
+pub extern "C" fn milchkompass_container_step(
+    c: &mut Container,
+    recorded: u8,
+    operations: &[u8],
+) -> u8
+    ensures gives { λ r. ⌜ r ≡ called (stepOf recorded (now (operations .entry))) (now (c .entry)) .refusal ⌝ }
+    ensures stores { λ _. ⌜ now (c .exit) ≡ called (stepOf recorded (now (operations .entry))) (now (c .entry)) .container ⌝ }
+    ensures promise { λ _. ⌜ KeepsPromise ⌝ }
+{
+    let reply = Container::step(*c, recorded, operations);
+    *c = reply.container;
+    reply.refusal
+}
+
+// Back in that container: undoes the last recorded step.
+#[no_mangle]
+pub extern "C" fn milchkompass_container_back(c: &mut Container) -> u8
+    ensures gives { λ r. ⌜ r ≡ called PanelCall.back (now (c .entry)) .refusal ⌝ }
+    ensures stores { λ _. ⌜ now (c .exit) ≡ called PanelCall.back (now (c .entry)) .container ⌝ }
+    ensures undoes { λ _. ⌜ BackRestores ⌝ }
+    ensures promise { λ _. ⌜ KeepsPromise ⌝ }
+{
+    let reply = Container::back(*c);
+    *c = reply.container;
+    reply.refusal
+}
+
+// The container after a list of steps and Backs, from an empty one.
+#[no_mangle]
+pub extern "C" fn milchkompass_container_play(calls: &[u8]) -> Container
+    ensures promised { λ r. ⌜ Promised (callsIn (now (calls .entry))) r ⌝ }
+    ensures every { λ _. ⌜ EveryList ⌝ }
+    ensures promise { λ _. ⌜ KeepsPromise ⌝ }
+{
+    container_lists::play(calls)
 }

@@ -59,8 +59,13 @@ pub fn bytes_of(text: &str, names: &Names) -> Result<Vec<u8>, Wrong> {
 
 /// The bytes of a text that is given as bytes.
 pub fn bytes_of_file(text: &[u8], names: &Names) -> Result<Vec<u8>, Wrong> {
+    bytes_of(in_utf8(text)?, names)
+}
+
+/// A text that is given as bytes.
+pub fn in_utf8(text: &[u8]) -> Result<&str, Wrong> {
     let text = match std::str::from_utf8(text) {
-        Ok(text) => return bytes_of(text, names),
+        Ok(text) => return Ok(text),
         Err(error) => String::from_utf8_lossy(&text[..error.valid_up_to()]).into_owned(),
     };
     let last = text.rsplit('\n').next().unwrap_or_default();

@@ -16,6 +16,7 @@
 //! - `batches`: records that are played in one thread and shown in another
 //! - `moments`: what `at` and `picture` are told of a record
 //! - `text`: a recording as text; `grammar`, `cursor`: and back
+//! - `panels`: a text of steps and Backs, played on a container
 //! - `picture`: the page; `whole_file`: where it is written
 //! - `closed`: which screens a record closed
 
@@ -34,6 +35,7 @@ pub mod moments;
 pub mod names;
 pub mod opening;
 pub mod output;
+pub mod panels;
 pub mod pen;
 pub mod picture;
 pub mod progress;

@@ -13,7 +13,7 @@ use milch::names::Names;
 use milch::opening::{self, Opening};
 use milch::output::Output;
 use milch::show::{self, Wanted};
-use milch::{at, diff, grammar, moments, picture, text, usage, whole_file};
+use milch::{at, diff, grammar, moments, panels, picture, text, usage, whole_file};
 
 #[global_allocator]
 static MEMORY: Memory = Memory;
@@ -67,6 +67,7 @@ fn run(command: &OsStr, given: &[OsString]) -> Outcome<u8> {
         "text" => write_text(&arguments),
         "bytes" => write_bytes(&arguments),
         "diff" => compare(&arguments),
+        "panels" => play_panels(&arguments),
         _ => draw(&arguments),
     }
 }
@@ -165,6 +166,15 @@ fn compare(arguments: &Arguments) -> Outcome<u8> {
     compared.warnings.iter().for_each(|warning| warn(warning));
     print_whole(compared.text.as_bytes())?;
     Ok(if compared.alike { 0 } else { DIFFERS })
+}
+
+fn play_panels(arguments: &Arguments) -> Outcome<u8> {
+    let file = &arguments.plain[0];
+    let text = read_whole(file)?;
+    match grammar::in_utf8(&text).and_then(panels::calls_of) {
+        Ok(calls) => print(panels::played(&calls).as_bytes()).map(|()| 0),
+        Err(wrong) => said(format!("{}:{wrong}", file.to_string_lossy())),
+    }
 }
 
 fn draw(arguments: &Arguments) -> Outcome<u8> {

@@ -9,7 +9,7 @@ use std::process::Command;
 use common::{failed, file, in_repository, recording, run, wrote, TWO};
 use milch::usage;
 
-const COMMANDS: [&str; 6] = ["show", "at", "text", "bytes", "diff", "picture"];
+const COMMANDS: [&str; 7] = ["show", "at", "text", "bytes", "diff", "panels", "picture"];
 
 /// These arguments are refused with this message.
 fn wrong(given: &[&str], said: &str) {
@@ -49,6 +49,11 @@ fn arguments_of_each_command() {
         wrong(&much, "'c' is one argument too many");
         let fast = [&given[..], &["--fast"]].concat();
         wrong(&fast, "no option --fast is known");
+        if command == "panels" {
+            let names = [&given[..], &["--names", "a"]].concat();
+            wrong(&names, "no option --names is known");
+            continue;
+        }
         let names = [&given[..], &["--names"]].concat();
         wrong(&names, "behind --names NAMES is missing");
         let names = [&given[..], &["--names", "a", "--names", "b"]].concat();

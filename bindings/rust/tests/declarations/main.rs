@@ -116,9 +116,15 @@ fn structs() {
 
 #[test]
 fn limits() {
-    let (session, header) = (read("crates/session/src/lib.rt"), header());
-    for (name, limit) in [("TASKS", 16), ("SCREENS", 32)] {
-        has_line(&session, &format!("pub const {name}: usize = {limit};"));
+    let header = header();
+    for (of, name, limit) in [
+        ("session", "TASKS", 16),
+        ("session", "SCREENS", 32),
+        ("panels", "PANELS", 8),
+        ("container", "STEPS", 8),
+    ] {
+        let source = read(&format!("crates/{of}/src/lib.rt"));
+        has_line(&source, &format!("pub const {name}: usize = {limit};"));
         has_line(&header, &format!("#define MILCHKOMPASS_{name} {limit}"));
         has(
             &declared_in_rust(),

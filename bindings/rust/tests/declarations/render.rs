@@ -33,7 +33,7 @@ pub fn struct_in_c(declared: &Struct) -> String {
     let name = type_in_c(&declared.name);
     let fields = join(&declared.fields, " ", |(name, kind)| {
         let of = type_in_c(inner(kind));
-        match kind.split_once("; Session::") {
+        match kind.split_once("::") {
             Some((_, limit)) => format!("{of} {name}[MILCHKOMPASS_{limit};"),
             None => format!("{of} {name};"),
         }
@@ -43,7 +43,11 @@ pub fn struct_in_c(declared: &Struct) -> String {
 
 pub fn struct_in_rust(declared: &Struct) -> String {
     let fields = join(&declared.fields, ", ", |(name, kind)| {
-        format!("pub {name}: {}", kind.replace("Session::", ""))
+        let kind = match kind.split_once("::") {
+            Some((of, limit)) => format!("{}; {limit}", of.split(';').next().unwrap_or(of)),
+            None => kind.clone(),
+        };
+        format!("pub {name}: {kind}")
     });
     format!("pub struct {} {{ {fields} }}", declared.name)
 }
@@ -61,9 +65,10 @@ fn layout(structs: &[Struct], kind: &str) -> (usize, usize) {
             (size, alignment)
         }
     };
-    let times = match kind.split_once("; Session::") {
+    let times = match kind.split_once("::") {
         Some((_, "TASKS]")) => 16,
         Some((_, "SCREENS]")) => 32,
+        Some((_, "PANELS]" | "STEPS]")) => 8,
         Some((_, limit)) => panic!("{limit}"),
         None => 1,
     };

@@ -1,0 +1,7 @@
+pub mod Sizes
+pub mod Storing
+pub mod KeptLaws
+pub mod CallLaws
+pub mod StepLaws
+pub mod Telling
+pub mod Promise

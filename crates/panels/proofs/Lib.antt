@@ -1,0 +1,4 @@
+pub mod PanelLaws
+pub mod OperationLaws
+pub mod CarryLaws
+pub mod CheckLaws
