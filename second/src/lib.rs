@@ -19,6 +19,7 @@
 //! - `load`: records made from a seed, which everybody can make again
 //! - `tally`: what is kept of a list of answers, and the report of it
 //! - `depth`: the depth report of a recording in the player's format
+//! - `panels`: containers of panels, in no session
 //! - `random`, `hex`, `closings`: random numbers and tables, bytes as text, counts
 //!   of what was closed, for comparisons
 //! - `no_affinity`, `by_edition`, `no_history`: how often screens of affinity 0 were
@@ -41,6 +42,7 @@ pub mod lists;
 pub mod load;
 pub mod no_affinity;
 pub mod no_history;
+pub mod panels;
 pub mod play;
 pub mod random;
 pub mod reason;
@@ -92,4 +94,12 @@ pub enum Refusal {
     NotTallied = 31,
     /// Load: the seed is 0.
     SeedZero = 32,
+    /// Panels: a bad count or kind of operations, or a container with too many steps or
+    /// panels.
+    NotPanels = 36,
+    /// Panels: an operation would make nine.
+    PanelsFull = 37,
+    /// Panels: a ninth recorded step, an unrecorded one over recorded ones, or Back with
+    /// none.
+    NoStep = 38,
 }
