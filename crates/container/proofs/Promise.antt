@@ -1,6 +1,6 @@
 -- The promise over lists of calls, and that a recorded step and a Back leave a container as it was.
-use Prim.Native.Nat.{ℕ, suc, _-_}
-use mathlib.Core.Path.{_≡_, refl, sym, ap, _∙_, subst}
+use Prim.Native.Nat.{suc, _-_}
+use mathlib.Core.Path.{_≡_, refl, sym, ap, _∙_}
 use mathlib.Core.Bool.{Bool, true, false, not}
 use mathlib.Core.List.{List, [], _∷_, _++_, map}
 use native.Mathlib.Omega.{arith}
@@ -19,7 +19,7 @@ use Rattle.panels.proofs.PanelLaws.{view-low}
 use Rattle.panels.proofs.OperationLaws.{carried-low}
 use Rattle.container.specs.Calls.{mostSteps, State, state, Step, Call, step, back, lastOf, withoutLast, carried, stepped, backed, countedIn}
 use Rattle.container.specs.Stored.{emptyContainer, view, hold, goodContainer, checksOf, refusalAt, called, stepOf, byContainer}
-use Rattle.container.specs.Promised.{liveFrom, Tells, Promised, KeepsPromise, BackRestores}
+use Rattle.container.specs.Promised.{liveFrom, Tells, KeepsPromise, BackRestores}
 use Rattle.container.specs.declared.Container.{Container}
 use Rattle.container.specs.declared.Reply.{Reply}
 use Rattle.container.proofs.Storing.{Low, Fits, view-hold, empty-held, held-steps, held-good}

@@ -1,11 +1,10 @@
 -- What is stored comes back, 36 is not drawn for it, and one step more is kept.
-use Prim.Native.Nat.{ℕ, suc, _+_, _≤_, _<_}
+use Prim.Native.Nat.{ℕ, _+_, _≤_, _<_}
 use mathlib.Core.Path.{_≡_, refl, sym, ap, _∙_}
 use mathlib.Core.Bool.{true}
 use mathlib.Core.List.{List, [], _∷_, _++_, map}
 use native.Mathlib.Numerals.{add-one}
 use native.Mathlib.Omega.{arith}
-use lib.Dec.{leb}
 use lib.ListN.{length, getD, set, take, length-map, length-append}
 use lib.Seq.{take-suc, length-take-le}
 use borrow.Author.Tests.{le-leb}

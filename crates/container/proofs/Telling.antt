@@ -1,15 +1,14 @@
 -- What a container tells of its live steps, call by call.
-use Prim.Native.Nat.{ℕ, _+_, _-_, _≤_, _<_}
+use Prim.Native.Nat.{ℕ, _+_, _-_, _<_}
 use mathlib.Core.Path.{_≡_, refl, sym, ap, _∙_}
-use mathlib.Core.Bool.{Bool, true, false, not}
+use mathlib.Core.Bool.{Bool, true, false}
 use mathlib.Core.List.{List, [], _∷_, _++_, append-nil, append-assoc}
 use native.Mathlib.Omega.{arith}
 use lib.Dec.{eqb, ltb}
 use lib.ListN.{length, getD, take, length-append, List·getD-append}
 use lib.Seq.{take-append-add, take-append-le, take-take, length-take-le, getD-take, getD-at, take-at}
 use borrow.Author.Tests.{ltb-true, ltb-false, eqb-true, eqb-false, not-false}
-use Rattle.model.specs.Lists.{if_then_else_, All}
-use Rattle.model.specs.Refusals.{refusal}
+use Rattle.model.specs.Lists.{if_then_else_}
 use Rattle.model.proofs.Logic.{All-at}
 use Rattle.model.proofs.ListLaws.{All-append}
 use Rattle.model.proofs.RefusalLaws.{refusal-skip}

@@ -11,7 +11,7 @@ use Rattle.session.specs.Stored.{pad}
 use Rattle.panels.specs.Operations.{mostPanels, operationsIn, makesNine, goodOperations}
 use Rattle.panels.specs.Stored.{noPanels, viewPanels, holdPanels}
 use Rattle.panels.specs.declared.Panels.{Panels}
-use Rattle.container.specs.Calls.{mostSteps, State, state, Step, Call, step, back, carried}
+use Rattle.container.specs.Calls.{mostSteps, State, state, Call, step, back, carried}
 use Rattle.container.specs.declared.Container.{Container}
 use Rattle.container.specs.declared.Reply.{Reply}
 

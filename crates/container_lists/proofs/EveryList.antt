@@ -1,8 +1,8 @@
 -- For every list of calls there are bytes that leave the same container, with the same refusals along them. A step with a bad
 -- count is refused as one without operations is, and is written so.
-use Prim.Native.Nat.{ℕ, _+_, _*_, _/_, _≤_, _<_}
+use Prim.Native.Nat.{ℕ, _+_, _*_, _/_, _≤_}
 use mathlib.Core.Path.{_≡_, refl, sym, _∙_, ap}
-use mathlib.Core.Bool.{Bool, true, false, not, _&&_, _||_, false≢true}
+use mathlib.Core.Bool.{Bool, true, false, _||_}
 use mathlib.Core.List.{List, [], _∷_, _++_, map}
 use native.Mathlib.Omega.{arith}
 use lib.Dec.{eqb}
@@ -11,7 +11,7 @@ use lib.Seq.{take-at, drop-at, drop-drop}
 use borrow.Author.Tests.{eqb-true}
 use Rattle.model.specs.Lists.{if_then_else_, All}
 use Rattle.model.specs.Refusals.{refusal}
-use Rattle.model.specs.Histories.{IsByte, after, answers}
+use Rattle.model.specs.Histories.{IsByte}
 use Rattle.model.proofs.Logic.{if-elim, All-map}
 use Rattle.model.proofs.ListLaws.{All-append, All-to-map}
 use Rattle.model.proofs.MachineLaws.{run-each}

@@ -1,3 +1,4 @@
 pub mod Reading
 pub mod EveryList
 pub mod Playing
+pub mod Cases

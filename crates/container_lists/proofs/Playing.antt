@@ -1,12 +1,12 @@
 -- The container after the first records of a list, and after one more.
 use Prim.Native.Nat.{ℕ, _+_, _≤_, _<_}
-use mathlib.Core.Path.{_≡_, refl, sym, _∙_, ap}
-use mathlib.Core.List.{List, [], _++_}
-use lib.ListN.{length, getD, take, drop}
+use mathlib.Core.Path.{_≡_, sym, _∙_, ap}
+use mathlib.Core.List.{List}
+use lib.ListN.{length, drop}
 use borrow.Author.Tests.{eq-eqb, ne-eqb}
 use Rattle.model.specs.Histories.{after}
 use Rattle.model.proofs.HistoryLaws.{after-append}
-use Rattle.container.specs.Calls.{Call, back}
+use Rattle.container.specs.Calls.{back}
 use Rattle.container.specs.Stored.{emptyContainer, called, stepOf, byContainer}
 use Rattle.container.specs.Promised.{Promised}
 use Rattle.container.specs.declared.Container.{Container}

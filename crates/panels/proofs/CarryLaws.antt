@@ -1,13 +1,12 @@
 -- The operations of a step carried out one by one: what is left of them, on the panels so far, makes what all of them make.
 use Prim.Native.Nat.{ℕ, _+_, _*_, _≤_, _<_}
 use mathlib.Core.Path.{_≡_, refl, sym, ap, _∙_}
-use mathlib.Core.Bool.{Bool, true, false, _&&_}
+use mathlib.Core.Bool.{true, false, _&&_}
 use mathlib.Core.List.{List, [], _∷_}
 use native.Mathlib.Omega.{arith}
-use lib.Dec.{eqb, ltb}
+use lib.Dec.{eqb}
 use lib.ListN.{length, getD, drop, length-append}
 use borrow.Author.Tests.{le-ltb, lt-ltb, eq-eqb, eqb-true, eqb-false}
-use Rattle.model.specs.Lists.{if_then_else_}
 use Rattle.model.proofs.Logic.{and-left, and-right, and-false-right}
 use Rattle.panels.specs.Operations.{mostPanels, Operation, operation, operated, operationsIn}
 use Rattle.panels.specs.Stored.{noPanels, viewPanels, holdPanels, IsClean, carriedOr37}

@@ -1,9 +1,9 @@
 -- The loop's invariant: what is left of the operations, on the panels so far, makes what all of them make.
-use Prim.Native.Nat.{_+_, _*_, _-_, _≤_, _<_}
+use Prim.Native.Nat.{_*_, _-_, _≤_, _<_}
 use mathlib.Core.Path.{_≡_, refl, ap, _∙_}
 use native.Mathlib.Omega.{arith}
 use borrow.Author.Needs.{needs}
-use lib.ListN.{length, getD, drop}
+use lib.ListN.{getD, drop}
 use Rattle.panels.specs.Operations.{operationsIn}
 use Rattle.panels.specs.Stored.{viewPanels, IsClean, carriedOr37}
 use Rattle.panels.proofs.PanelLaws.{view-held, view-low, held-clean}
