@@ -44,6 +44,8 @@ check 'installed: text' 0 "$(./milch text "$sample")" '' "${there[@]}" text "$sa
 check 'installed: bytes' 0 "$sample" '' "${there[@]}" bytes "$work/sample.txt"
 check 'installed: picture' 0 '' '' "${there[@]}" picture "$sample" --out "$work/there.html"
 check 'installed: the same page' 0 '' '' cmp "$work/there.html" "$work/sample.html"
+printf 'record add 3\nback\n' >"$work/panels.txt"
+check 'installed: panels' 0 "$(./milch panels "$work/panels.txt")" '' "${there[@]}" panels "$work/panels.txt"
 check 'installed: --version' 0 "$work/version" '' "${there[@]}" --version
 check 'installed: --help' 0 "$(sed "s|\./milch|milch|; s|\(A sample: .* \)|\1$moved/share/milchkompass/|" "$texts/whole.txt")" '' "${there[@]}" --help
 check 'installed: its own sample' 0 "$played" '' "${there[@]}" play "$moved/share/milchkompass/sample.recording"
