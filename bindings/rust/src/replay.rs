@@ -4,9 +4,7 @@ use std::fmt;
 
 use crate::raw;
 use crate::session::tasks_of;
-use crate::{
-    Answer, Edition, Flags, FrontSet, LaunchMode, Reason, Refusal, Task, UnknownNumber,
-};
+use crate::{Answer, Edition, Flags, FrontSet, LaunchMode, Reason, Refusal, Task, UnknownNumber};
 
 /// A session that plays the records of a recording, one after the other, as the
 /// player does. It takes any bytes for its table: under one that is refused,

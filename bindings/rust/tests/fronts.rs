@@ -47,7 +47,11 @@ fn refusals() {
 #[test]
 fn of_a_replay() {
     let mut replay = Replay::new(table_t().bytes());
-    for record in [[1, 0, 0, 0, 0, 0], [2, 5, 0x10, 0, 0, 0], [2, 1, 0, 0, 0, 0]] {
+    for record in [
+        [1, 0, 0, 0, 0, 0],
+        [2, 5, 0x10, 0, 0, 0],
+        [2, 1, 0, 0, 0, 0],
+    ] {
         replay.next(&record);
     }
     let told = replay.fronts(5, !Flags::NEW_TASK, Flags::NONE);
@@ -63,7 +67,8 @@ fn knowing_more() {
     for edition in Edition::ALL {
         while s.back().is_ok() {}
         s.launch(*edition).expect("it is empty");
-        s.start(5, Flags::NEW_TASK | Flags::NO_HISTORY).expect("room");
+        s.start(5, Flags::NEW_TASK | Flags::NO_HISTORY)
+            .expect("room");
         s.start(1, Flags::NONE).expect("room");
         let nothing = s.fronts(5, Flags::NONE, Flags::NONE).expect("known");
         for (_, flag) in Flags::all().iter_names() {

@@ -30,7 +30,11 @@ fn new_task_unknown() {
         another session than the one that this rests on\n";
     warned(fronts(&covered(0), "4", ALL_BUT_NEW_TASK), text, rests);
     // The bits that are not known are not looked at.
-    warned(fronts(&covered(NEW_TASK), "4", ALL_BUT_NEW_TASK), text, rests);
+    warned(
+        fronts(&covered(NEW_TASK), "4", ALL_BUT_NEW_TASK),
+        text,
+        rests,
+    );
     let six = "SINGLE_TOP|MULTIPLE_TASK,CLEAR_TOP | REORDER_TO_FRONT,CLEAR_TASK,NO_HISTORY";
     warned(fronts(&covered(0), "4", six), text, rests);
 }
@@ -50,7 +54,11 @@ fn what_it_rests_on() {
     let begin = [(1, 0, 0), (5, 0, 0), (3, 1, 0), (2, 0, 0)];
     let ran = fronts(&recording(TWO, &begin), "4", "none");
     assert_eq!(ran.status, 0);
-    assert!(ran.said.starts_with("milch: warning: -: record 3, "), "{}", ran.said);
+    assert!(
+        ran.said.starts_with("milch: warning: -: record 3, "),
+        "{}",
+        ran.said
+    );
     let begin = [(1, 0, 0), (2, 1, 0), (2, 0, 0)];
     let known = "NEW_TASK,SINGLE_TOP,MULTIPLE_TASK,CLEAR_TOP,REORDER_TO_FRONT,NO_HISTORY";
     let ran = fronts(&recording(TWO, &begin), "3", known);
@@ -71,8 +79,12 @@ fn none_could() {
     wrote(fronts(&recording(TWO, &tall), "33", "0x7c028000"), text);
     // R13 finds the caller, which leaves no history and stands alone.
     let marked = [(1, 0, 0), (3, 0, NO_HISTORY), (2, 0, 0x1400_0000)];
-    let text = "no screen could be in front: every filling that is accepted closes the last screen\n";
-    wrote(fronts(&recording(&[1, 0, 0, 1], &marked), "3", "0x7c028000"), text);
+    let text =
+        "no screen could be in front: every filling that is accepted closes the last screen\n";
+    wrote(
+        fronts(&recording(&[1, 0, 0, 1], &marked), "3", "0x7c028000"),
+        text,
+    );
 }
 
 /// Every filling of a single-instance screen that starts itself is done by R1.
@@ -87,8 +99,22 @@ fn whatever_is_missing() {
 fn names_of_screens() {
     let names = file("fronts_names", b"1 notice\n5 seats\n");
     let bytes = covered(0);
-    let ran = run_on(&["fronts", "-", "4", "--known", "0x7c028000", "--names", &names], &bytes);
-    wrote(ran, "seats by start seats: R10\n1 screen could be in front\n");
+    let ran = run_on(
+        &[
+            "fronts",
+            "-",
+            "4",
+            "--known",
+            "0x7c028000",
+            "--names",
+            &names,
+        ],
+        &bytes,
+    );
+    wrote(
+        ran,
+        "seats by start seats: R10\n1 screen could be in front\n",
+    );
 }
 
 #[test]
@@ -108,14 +134,23 @@ fn what_is_wrong() {
         failed(fronts(&bytes, asked, "none"), &missing);
     }
     let unknown = recording(TWO, &[(1, 0, 0), (2, 2, 0)]);
-    let refused = "milch: -: record 2: refusal 3: a start names a screen that the table does not have\n";
+    let refused =
+        "milch: -: record 2: refusal 3: a start names a screen that the table does not have\n";
     failed(fronts(&unknown, "2", "none"), refused);
     let refused = "milch: -: record 4: refusal 35: a known flag is none of the seven, or a flag \
         that is not known has a value\n";
     failed(fronts(&bytes, "4", "0x1"), refused);
     let no_table = fronts(&[0], "1", "none");
     assert_eq!(no_table.status, 2);
-    for known in ["", "NEWTASK", "NEW_TASK,", "none,NEW_TASK", "0x", "0x100000000", "1"] {
+    for known in [
+        "",
+        "NEWTASK",
+        "NEW_TASK,",
+        "none,NEW_TASK",
+        "0x",
+        "0x100000000",
+        "1",
+    ] {
         let forms = "names joined by | or commas, hex behind 0x, or none";
         let wrong = format!(
             "milch: fronts: --known '{known}' is no list of flags: {forms}; \
@@ -124,6 +159,7 @@ fn what_is_wrong() {
         failed(fronts(&bytes, "4", known), &wrong);
     }
     let sample = in_repository("sample.recording");
-    let missing = "milch: fronts: --known FLAGS is missing; './milch fronts --help' says what it takes\n";
+    let missing =
+        "milch: fronts: --known FLAGS is missing; './milch fronts --help' says what it takes\n";
     failed(run(&["fronts", &sample, "2"]), missing);
 }
