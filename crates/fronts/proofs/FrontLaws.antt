@@ -2,7 +2,7 @@
 -- No-History bit changes nothing. All that the contract says, by the refusal.
 use Prim.Native.Nat.{ℕ, zero, suc, _≤_, _<_, _^_}
 use mathlib.Core.Path.{_≡_, refl, sym, _∙_, ap}
-use mathlib.Core.Logic.{_↔_, _⊎_, inl, inr}
+use mathlib.Core.Logic.{_⊎_, inl, inr}
 use mathlib.Core.Bool.{Bool, true, false, not, _&&_}
 use mathlib.Core.List.{List, [], _∷_}
 use native.Mathlib.Omega.{arith}
@@ -10,22 +10,21 @@ use lib.Dec.{eqb, ltb}
 use lib.Bits.{bitAnd}
 use lib.Pow.{pow-pos}
 use borrow.Author.Tests.{eqb-true, eqb-false, eq-eqb, ne-eqb, lt-ltb, le-ltb, not-false}
-use Rattle.model.specs.Lists.{if_then_else_}
-use Rattle.model.specs.Refusals.{Check, check, refusal}
-use Rattle.model.specs.Table.{sizeOf as screensOf, tableRefusal}
+use Rattle.model.specs.Refusals.{check, refusal}
+use Rattle.model.specs.Table.{sizeOf as screensOf}
 use Rattle.model.specs.Session.{count}
 use Rattle.model.specs.Flags.{hasOtherBit}
 use Rattle.model.specs.Calls.{checksIn}
 use Rattle.model.specs.NoHistory.{withoutNoHistory}
-use Rattle.model.proofs.Logic.{if-elim, and-left, and-right}
+use Rattle.model.proofs.Logic.{if-elim}
 use Rattle.model.proofs.RefusalLaws.{refusal-skip, refusal-applies, refusal-passes, refusal-append-refused, checks-own}
 use Rattle.session.specs.declared.Session.{Session}
 use Rattle.session.specs.Stored.{view, soundStored, Ready}
 use Rattle.calls.specs.StoredCalls.{sharedRefusal}
-use Rattle.calls.proofs.Settling.{checks-ready, shared-ready, empty-view}
+use Rattle.calls.proofs.Settling.{checks-ready}
 use Rattle.fronts.specs.declared.FrontSet.{FrontSet}
-use Rattle.fronts.specs.Sets.{digit, IsIn, Within, onesAmong, sizeOf}
-use Rattle.fronts.specs.Fronts.{isKnown, Filling, sevenWords, wordAt, startOf, Brings, CouldBe, SetExactly, withFront, frontsAmong, frontSet, knownChecks, frontsRefusal, refusedSet, settleSet, frontsStored, KnowingMore, AnyNoHistory}
+use Rattle.fronts.specs.Sets.{IsIn, Within}
+use Rattle.fronts.specs.Fronts.{isKnown, sevenWords, wordAt, startOf, Brings, CouldBe, SetExactly, withFront, frontsAmong, frontSet, knownChecks, frontsRefusal, refusedSet, settleSet, frontsStored, KnowingMore, AnyNoHistory}
 use Rattle.fronts.proofs.SetLaws.{Shows, digit-zero, with-shown, with-grows, with-only, with-none, with-fits, size-within, sets-same}
 use Rattle.fronts.proofs.Words.{word-seven, seven-index, fills-less, withBit, six-known, six-filling, bit-filling, bit-same}
 use Rattle.fronts.proofs.Starting.{shows-brings, brings-shows, shows-known, empty-refused, brings-six}

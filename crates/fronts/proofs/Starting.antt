@@ -5,22 +5,20 @@ use mathlib.Core.Path.{_≡_, refl, sym, _∙_, ap}
 use mathlib.Core.Logic.{_↔_}
 use mathlib.Core.List.{List}
 use native.Mathlib.Omega.{arith}
-use lib.Bits.{bitOr}
 use Rattle.model.specs.declared.Answer.{Answer}
-use Rattle.model.specs.Lists.{All}
 use Rattle.model.specs.Refusals.{refusal}
-use Rattle.model.specs.Session.{State, Stack, noStack, front, frontScreen, count}
+use Rattle.model.specs.Session.{State, noStack, front, frontScreen, count}
 use Rattle.model.specs.Answers.{lookAt}
-use Rattle.model.specs.Calls.{start, started, startChecks, ownChecks, done}
+use Rattle.model.specs.Calls.{start, started, ownChecks, done}
 use Rattle.model.specs.NoHistory.{withoutNoHistory}
 use Rattle.model.proofs.Logic.{All-at}
 use Rattle.model.proofs.Tables.{good-shaped}
-use Rattle.model.proofs.Sound.{TaskSound, Sound}
+use Rattle.model.proofs.Sound.{TaskSound}
 use Rattle.model.proofs.Start.{start-accepted}
 use Rattle.model.proofs.Keeps.{done-sound}
 use Rattle.model.proofs.NoHistoryLaws.{chosen-six, checks-six}
 use Rattle.session.specs.declared.Session.{Session}
-use Rattle.session.specs.Stored.{view, hold, Ready}
+use Rattle.session.specs.Stored.{view, Ready}
 use Rattle.session.proofs.StoredLaws.{view-hold, sound-view}
 use Rattle.calls.specs.StoredCalls.{givenBy, refusalStored, callStored}
 use Rattle.calls.proofs.Settling.{number-own}

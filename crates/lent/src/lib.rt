@@ -1,6 +1,6 @@
 // The calls for programs in C and Rust. A slice is a pointer and a length there; a session or a tally that a call may change
-// is lent, and the call writes the new one there. Nothing is decided here: each call is the one of `navigator`, of `recording`, of
-// `loads` or of `tally`, by value, and its session or its tally is stored.
+// is lent, and the call writes the new one there. Nothing is decided here: each call is the one of `navigator`, of `fronts`, of
+// `recording`, of `loads` or of `tally`, by value, and its session or its tally is stored.
 
 ghost use mathlib.Core.Path.{_≡_};
 ghost use mathlib.Core.Logic.{_↔_};
