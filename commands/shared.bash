@@ -117,14 +117,20 @@ numeral() { # KIND TEXT
         refuse "$1 $2 is above ${most[$1]}"
 }
 
-# Fails where a value is not of its kind: K is the number of a record, SEED and RECORDS are those of a load, anything else is the
-# name of a file.
+# A flag by its name, or bits in hex; and a list of them.
+flag=' *(NEW_TASK|SINGLE_TOP|MULTIPLE_TASK|CLEAR_TOP|REORDER_TO_FRONT|CLEAR_TASK|NO_HISTORY|0x0*[0-9a-fA-F]{1,8}) *'
+flags="^$flag([|,]$flag)*\$"
+
+# Fails where a value is not of its kind: K is the number of a record, SEED and RECORDS are those of a load, FLAGS a list of
+# flags, anything else is the name of a file.
 fits() { # WHAT KIND VALUE
     local value
     case $2 in
         SEED) numeral SEED "$3" && [ "$value" -ne 0 ] || refuse 'SEED is 0 (refusal 32)' ;;
         RECORDS) numeral RECORDS "$3" ;;
         K) [[ $3 =~ ^0*[1-9][0-9]*$ ]] || refuse "$1 '$3' is no record's number, of which the first is 1" ;;
+        FLAGS) [[ $3 = none || $3 =~ $flags ]] ||
+            refuse "$1 '$3' is no list of flags: names joined by | or commas, hex behind 0x, or none" ;;
         *) [ -n "$3" ] || refuse "$1 is an empty name" ;;
     esac
 }

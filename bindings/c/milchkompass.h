@@ -16,7 +16,7 @@
  *
  * Threads may make calls at the same time, and may share a table and an image, which are only read. A session that is
  * lent by pointer is written in every call, in look too: look stores the session that it read, so its pointer is not
- * const. During the call no other thread reads or writes that session. Save and why take a copy. So it is with a tally:
+ * const. During the call no other thread reads or writes that session. Save, why and fronts take a copy. So it is with a tally:
  * add writes it, and report takes a copy; and with a container, which step and Back write. */
 #ifndef MILCHKOMPASS_H
 #define MILCHKOMPASS_H
@@ -92,8 +92,8 @@ static inline const char *milchkompass_flag_name(uint32_t flag) {
     }
 }
 
-/* The refusals; milchkompass_refusal_text says what each means. 9 is the player's alone, 31 a tally's, 32 a load's, and
- * 36 to 38 are a container's. */
+/* The refusals; milchkompass_refusal_text says what each means. 9 is the player's alone, 31 a tally's, 32 a load's, 35
+ * that of fronts, and 36 to 38 are a container's. */
 enum milchkompass_refusal {
     MILCHKOMPASS_ACCEPTED = 0,
     MILCHKOMPASS_TABLE_LENGTH = 1,
@@ -113,6 +113,7 @@ enum milchkompass_refusal {
     MILCHKOMPASS_NO_SUCH_EDITION = 30,
     MILCHKOMPASS_NOT_TALLIED = 31,
     MILCHKOMPASS_SEED_ZERO = 32,
+    MILCHKOMPASS_BAD_KNOWN_FLAGS = 35,
     MILCHKOMPASS_BAD_STEP_OR_CONTAINER = 36,
     MILCHKOMPASS_PANELS_FULL = 37,
     MILCHKOMPASS_STEP_OUT_OF_PLACE = 38
@@ -139,6 +140,7 @@ static inline const char *milchkompass_refusal_text(uint8_t refusal) {
     case MILCHKOMPASS_NO_SUCH_EDITION: return "a launch names an edition that is none of 0, 6, 7 and 8";
     case MILCHKOMPASS_NOT_TALLIED: return "library only, from a tally: it has 65,535 calls already, an accepted height is above 32, or no list of answers gives its numbers";
     case MILCHKOMPASS_SEED_ZERO: return "the seed of a load is 0";
+    case MILCHKOMPASS_BAD_KNOWN_FLAGS: return "a known flag is none of the seven, or a flag that is not known has a value";
     case MILCHKOMPASS_BAD_STEP_OR_CONTAINER: return "a step has not 1 to 4 operations, or one of another kind than 1 to 3; or the container has more than 8 steps, or more than 8 panels now or kept";
     case MILCHKOMPASS_PANELS_FULL: return "an operation would make nine panels";
     case MILCHKOMPASS_STEP_OUT_OF_PLACE: return "a ninth recorded step, an unrecorded step over recorded ones, or Back with none recorded";
@@ -210,6 +212,14 @@ typedef struct milchkompass_reason {
     uint8_t place;
     uint8_t found;
 } milchkompass_reason;
+
+/* Which screens could be in front: bit k of the set for screen k, the refusal (0 if none), and how many there are. A
+ * refused one has two zeros beside its refusal. */
+typedef struct milchkompass_front_set {
+    uint64_t set;
+    uint8_t refusal;
+    uint8_t count;
+} milchkompass_front_set;
 
 /* What a rule does, in one plain sentence. */
 static inline const char *milchkompass_rule_text(uint8_t rule) {
@@ -326,6 +336,13 @@ milchkompass_answer milchkompass_finish_start(const uint8_t *table, size_t table
  * and stays. Its checks are those of a start. */
 milchkompass_reason milchkompass_why(const uint8_t *table, size_t table_length, milchkompass_session s, uint8_t b,
                                      uint32_t word);
+
+/* Fronts. Which screens could be in front after a start of screen b in this session, which is not lent and stays, where
+ * only some bits of the flag word are known: those of the mask, with these values. A screen is in the set exactly where
+ * some word of the seven flags with the known values is accepted and brings it to the front. None is in it where the
+ * session is empty, and a start that empties it brings none. Its own checks: 3, 35. */
+milchkompass_front_set milchkompass_fronts(const uint8_t *table, size_t table_length, milchkompass_session s, uint8_t b,
+                                           uint32_t mask, uint32_t value);
 
 /* Back. After it the front screen is gone, and its task too if that was its last; the No-History mark is 0. A session
  * left empty has edition 8. Its own check: 21. */

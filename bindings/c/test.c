@@ -45,7 +45,7 @@ static void texts(void) {
     expect(says(milchkompass_mode_name(LAUNCH_SINGLE_TASK), "single-task"), "the name of a launch mode");
     for (int i = 0; i < 256; i++) {
         uint8_t number = (uint8_t)i;
-        bool refusal = i <= 9 || (20 <= i && i <= 24) || (30 <= i && i <= 32) || (36 <= i && i <= 38);
+        bool refusal = i <= 9 || (20 <= i && i <= 24) || (30 <= i && i <= 32) || (35 <= i && i <= 38);
         bool rule = 1 <= i && i <= 18, mode = i <= 3;
         expect(says(milchkompass_refusal_text(number), "no refusal of a call") != refusal, "a text for each refusal");
         expect(says(milchkompass_rule_text(number), "no rule") != rule, "a text for each rule");

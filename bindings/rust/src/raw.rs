@@ -76,6 +76,14 @@ pub struct Reason {
     pub found: u8,
 }
 
+/// Which screens could be in front.
+#[repr(C)]
+pub struct FrontSet {
+    pub set: u64,
+    pub refusal: u8,
+    pub count: u8,
+}
+
 /// A tally of answers.
 #[repr(C)]
 #[derive(Clone, Copy)]
@@ -150,6 +158,14 @@ extern "C" {
         b: u8,
         word: u32,
     ) -> Reason;
+    fn milchkompass_fronts(
+        table: *const u8,
+        table_length: usize,
+        s: Session,
+        b: u8,
+        mask: u32,
+        value: u32,
+    ) -> FrontSet;
     fn milchkompass_back(table: *const u8, table_length: usize, s: *mut Session) -> Answer;
     fn milchkompass_look(table: *const u8, table_length: usize, s: *mut Session) -> Answer;
     fn milchkompass_save(
@@ -245,6 +261,10 @@ pub fn finish_start(table: &[u8], s: &mut Session, b: u8, word: u32) -> Answer {
 #[inline]
 pub fn why(table: &[u8], s: &Session, b: u8, word: u32) -> Reason {
     unsafe { milchkompass_why(table.as_ptr(), table.len(), *s, b, word) }
+}
+
+pub fn fronts(table: &[u8], s: &Session, b: u8, mask: u32, value: u32) -> FrontSet {
+    unsafe { milchkompass_fronts(table.as_ptr(), table.len(), *s, b, mask, value) }
 }
 
 pub fn back(table: &[u8], s: &mut Session) -> Answer {

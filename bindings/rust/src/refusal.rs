@@ -49,6 +49,7 @@ refusals! {
     30 NoSuchEdition "a launch names an edition that is none of 0, 6, 7 and 8"
     31 NotTallied "library only, from a tally: it has 65,535 calls already, an accepted height is above 32, or no list of answers gives its numbers"
     32 SeedZero "the seed of a load is 0"
+    35 BadKnownFlags "a known flag is none of the seven, or a flag that is not known has a value"
     36 BadStepOrContainer "a step has not 1 to 4 operations, or one of another kind than 1 to 3; or the container has more than 8 steps, or more than 8 panels now or kept"
     37 PanelsFull "an operation would make nine panels"
     38 StepOutOfPlace "a ninth recorded step, an unrecorded step over recorded ones, or Back with none recorded"
@@ -73,7 +74,7 @@ impl Refusal {
 
 /// The refusal of this number, as the player prints it. 0 is none: the call is
 /// accepted. 9 is that of a record, played or in a replay, 31 a tally's, 32 a
-/// load's, and 36 to 38 are a container's.
+/// load's, 35 that of fronts, and 36 to 38 are a container's.
 impl TryFrom<u8> for Refusal {
     type Error = UnknownNumber;
 

@@ -4,7 +4,7 @@ use std::fmt;
 
 use crate::raw;
 use crate::session::tasks_of;
-use crate::{Answer, Edition, Flags, LaunchMode, Reason, Refusal, Task, UnknownNumber};
+use crate::{Answer, Edition, Flags, FrontSet, LaunchMode, Reason, Refusal, Task, UnknownNumber};
 
 /// A session that plays the records of a recording, one after the other, as the
 /// player does. It takes any bytes for its table: under one that is refused,
@@ -133,6 +133,19 @@ impl Replay {
     pub fn why(&self, screen: u8, flags: Flags) -> Result<Reason, Refusal> {
         let (table, word) = (&self.table, flags.bits());
         Reason::told(raw::why(table, &self.stored, screen, word))
+    }
+
+    /// Which screens could be in front now after a start of this screen of which
+    /// only these flags are known, with these values.
+    ///
+    /// # Errors
+    ///
+    /// The first that applies: the table's,
+    /// [`NoSuchScreen`](Refusal::NoSuchScreen),
+    /// [`BadKnownFlags`](Refusal::BadKnownFlags).
+    pub fn fronts(&self, screen: u8, known: Flags, values: Flags) -> Result<FrontSet, Refusal> {
+        let (mask, value) = (known.bits(), values.bits());
+        FrontSet::told(raw::fronts(&self.table, &self.stored, screen, mask, value))
     }
 
     /// The table's bytes.

@@ -3,7 +3,7 @@
 use std::fmt;
 
 use crate::raw;
-use crate::{Answer, Edition, Flags, Reason, Refusal, Table};
+use crate::{Answer, Edition, Flags, FrontSet, Reason, Refusal, Table};
 
 /// A task of a session.
 #[derive(Clone, Copy, Debug, PartialEq, Eq, Hash)]
@@ -16,7 +16,7 @@ pub struct Task<'a> {
 
 /// A session under its table. Two are equal where table and session are; no
 /// list of calls tells equal ones apart. Threads may share a `&Session`: look,
-/// save and why lend the library a copy.
+/// save, why and fronts lend the library a copy.
 ///
 /// It shows its tasks, front first, as `root:[top,..,bottom]`, the main place,
 /// its edition where that is not 8, and its No-History mark where it has one:
@@ -128,6 +128,22 @@ impl Session {
     pub fn why(&self, screen: u8, flags: Flags) -> Result<Reason, Refusal> {
         let (table, word) = (self.table.bytes(), flags.bits());
         Reason::told(raw::why(table, &self.stored, screen, word))
+    }
+
+    /// Which screens could be in front after a [`start`](Session::start) of this
+    /// screen of which only these flags are known, with these values. A screen
+    /// is among them exactly where some filling of the other flags is accepted
+    /// and brings it to the front; none is where the session is empty. The
+    /// session stays.
+    ///
+    /// # Errors
+    ///
+    /// The first that applies: [`NoSuchScreen`](Refusal::NoSuchScreen),
+    /// [`BadKnownFlags`](Refusal::BadKnownFlags).
+    pub fn fronts(&self, screen: u8, known: Flags, values: Flags) -> Result<FrontSet, Refusal> {
+        let (mask, value) = (known.bits(), values.bits());
+        let table = self.table.bytes();
+        FrontSet::told(raw::fronts(table, &self.stored, screen, mask, value))
     }
 
     /// Back: the front screen goes, and its task too if that was its last. The

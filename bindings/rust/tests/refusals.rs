@@ -1,6 +1,7 @@
 //! Every refusal that a caller can provoke, and that it changes nothing. 20
 //! cannot be: a session's storage is its own. 9 stands with the replay, 31 with
-//! the tally, 32 with the load, and 36 to 38 with the container.
+//! the tally, 32 with the load, 35 with the fronts, and 36 to 38 with the
+//! container.
 
 mod common;
 
@@ -117,7 +118,7 @@ fn errors() {
     );
     let numbers: Vec<u8> = Refusal::ALL.iter().map(|r| r.number()).collect();
     let known = [
-        1, 2, 3, 4, 5, 6, 7, 8, 9, 20, 21, 22, 23, 24, 30, 31, 32, 36, 37, 38,
+        1, 2, 3, 4, 5, 6, 7, 8, 9, 20, 21, 22, 23, 24, 30, 31, 32, 35, 36, 37, 38,
     ];
     assert_eq!(numbers, known);
     for number in 0..=255 {

@@ -1,6 +1,6 @@
 // The calls for programs in C and Rust. A slice is a pointer and a length there; a session or a tally that a call may change
-// is lent, and the call writes the new one there. Nothing is decided here: each call is the one of `navigator`, of `recording`, of
-// `loads` or of `tally`, by value, and its session or its tally is stored.
+// is lent, and the call writes the new one there. Nothing is decided here: each call is the one of `navigator`, of `fronts`, of
+// `recording`, of `loads` or of `tally`, by value, and its session or its tally is stored.
 
 ghost use mathlib.Core.Path.{_≡_};
 ghost use mathlib.Core.Logic.{_↔_};
@@ -19,6 +19,7 @@ ghost use Rattle.session.specs.Stored.{view, freshSession};
 ghost use Rattle.reasons.specs.StoredReasons.{whyStored, CarriesOut};
 ghost use Rattle.navigator.specs.Promise3.{KeepsPromise3};
 ghost use Rattle.navigator.specs.Records.{playedStored};
+ghost use Rattle.fronts.specs.Fronts.{frontsStored, SetExactly, KnowingMore, AnyNoHistory};
 ghost use Rattle.recording.specs.OneCall.{recordLength, callLength, calledStored};
 ghost use Rattle.recording.specs.Replay.{EndAlike, TellsImages};
 ghost use Rattle.tally.specs.Tallies.{added, reported, KnowsTallies, TalliesJoin, ReportsLists};
@@ -31,6 +32,7 @@ ghost use Rattle.container.specs.Promised.{Promised, KeepsPromise, BackRestores
 ghost use Rattle.container_lists.specs.CallBytes.{callsIn, EveryList};
 ghost use Rattle.lent.specs.Abi.{abiNumber};
 use container::Container;
+use fronts::FrontSet;
 use image_calls::SaveReply;
 use loads::LoadReply;
 use model::Answer;
@@ -140,6 +142,24 @@ pub extern "C" fn milchkompass_why(table: &[u8], s: Session, b: u8, word: u32) -
     ensures bit { λ r. ⌜ r ≡ whyStored (now (table .entry)) s b (withoutNoHistory word) ⌝ }
 {
     navigator::why(table, s, b, word)
+}
+
+// Which screens could be in front after a start of b of which the bits of the mask are known, with these values.
+#[no_mangle]
+pub extern "C" fn milchkompass_fronts(
+    table: &[u8],
+    s: Session,
+    b: u8,
+    mask: u32,
+    value: u32,
+) -> FrontSet
+    ensures gives { λ r. ⌜ r ≡ frontsStored (now (table .entry)) s b mask value ⌝ }
+    ensures exactly { λ r. ⌜ (r .refusal ≡ 0 → SetExactly (now (table .entry)) s b mask value (r .set)) ⌝ }
+    ensures empty { λ r. ⌜ (s .n ≡ 0 → r .set ≡ 0) ⌝ }
+    ensures more { λ r. ⌜ (r .refusal ≡ 0 → KnowingMore (now (table .entry)) s b mask value r) ⌝ }
+    ensures bit { λ r. ⌜ (r .refusal ≡ 0 → AnyNoHistory (now (table .entry)) s b mask value r) ⌝ }
+{
+    fronts::fronts(table, s, b, mask, value)
 }
 
 // Restore: the session of a whole image, over the one that is lent. A refused restore leaves it.

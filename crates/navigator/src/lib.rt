@@ -22,7 +22,7 @@ use model::Reason;
 use session::Session;
 
 // The checks that every call begins with: 1, 2, 20, or 0 where none applies.
-fn shared_refusal(table: &[u8], s: Session) -> u8
+pub fn shared_refusal(table: &[u8], s: Session) -> u8
     ensures { λ r. ⌜ r ≡ sharedRefusal (now (table .entry)) s ⌝ }
 {
     let refusal = table::refusal(table);

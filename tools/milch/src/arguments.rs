@@ -2,6 +2,8 @@
 
 use std::ffi::{OsStr, OsString};
 
+use milchkompass::Flags;
+
 use crate::synopsis::{self, Opt, Synopsis};
 
 /// A command's arguments, told apart. Names of files need not be text.
@@ -11,6 +13,7 @@ pub struct Arguments {
     pub out: Option<OsString>,
     pub from: Option<u64>,
     pub to: Option<u64>,
+    pub known: Option<Flags>,
     pub refused: bool,
     pub force: bool,
     /// The others, in their order.
@@ -79,6 +82,7 @@ impl Arguments {
         match option {
             "--from" => self.from = Some(record_number(option, value)?),
             "--to" => self.to = Some(record_number(option, value)?),
+            "--known" => self.known = Some(known_flags(option, value)?),
             "--names" => self.names = Some(file_name(option, value)?),
             _ if value == "-" => return Err(format!("{option} - is no file to be written")),
             _ => self.out = Some(file_name(option, value)?),
@@ -103,6 +107,20 @@ fn record_number(what: &str, given: &OsStr) -> Result<u64, String> {
     }
     let too_large = |_| format!("{what} '{text}' is beyond the last record of any recording");
     text.parse().map_err(too_large)
+}
+
+/// Flags by their names, joined by `|` or commas, hex behind `0x`, or `none`.
+fn known_flags(what: &str, given: &OsStr) -> Result<Flags, String> {
+    let text = given.to_string_lossy();
+    if text == "none" {
+        return Ok(Flags::NONE);
+    }
+    let parts = text.split(['|', ',']).map(str::trim);
+    let flags = parts.map(|part| part.parse().ok().filter(|_| !part.is_empty()));
+    let joined = flags.reduce(|all, flag: Option<Flags>| Some(all? | flag?));
+    let forms = "names joined by | or commas, hex behind 0x, or none";
+    let wrong = || format!("{what} '{text}' is no list of flags: {forms}");
+    joined.flatten().ok_or_else(wrong)
 }
 
 fn file_name(what: &str, given: &OsStr) -> Result<OsString, String> {

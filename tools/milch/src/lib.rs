@@ -16,6 +16,7 @@
 //! - `batches`: records that are played in one thread and shown in another
 //! - `moments`: what `at` and `picture` are told of a record
 //! - `text`: a recording as text; `grammar`, `cursor`: and back
+//! - `fronts`: which screens could be in front where flags are missing
 //! - `panels`: a text of steps and Backs, played on a container
 //! - `picture`: the page; `whole_file`: where it is written
 //! - `closed`: which screens a record closed
@@ -27,6 +28,7 @@ mod closed;
 pub mod cursor;
 pub mod diff;
 pub mod failure;
+pub mod fronts;
 pub mod grammar;
 pub mod input;
 pub mod line;

@@ -13,7 +13,7 @@ use milch::names::Names;
 use milch::opening::{self, Opening};
 use milch::output::Output;
 use milch::show::{self, Wanted};
-use milch::{at, diff, grammar, moments, panels, picture, text, usage, whole_file};
+use milch::{at, diff, fronts, grammar, moments, panels, picture, text, usage, whole_file};
 
 #[global_allocator]
 static MEMORY: Memory = Memory;
@@ -67,6 +67,7 @@ fn run(command: &OsStr, given: &[OsString]) -> Outcome<u8> {
         "text" => write_text(&arguments),
         "bytes" => write_bytes(&arguments),
         "diff" => compare(&arguments),
+        "fronts" => tell_fronts(&arguments),
         "panels" => play_panels(&arguments),
         _ => draw(&arguments),
     }
@@ -166,6 +167,15 @@ fn compare(arguments: &Arguments) -> Outcome<u8> {
     compared.warnings.iter().for_each(|warning| warn(warning));
     print_whole(compared.text.as_bytes())?;
     Ok(if compared.alike { 0 } else { DIFFERS })
+}
+
+fn tell_fronts(arguments: &Arguments) -> Outcome<u8> {
+    let names = Names::open(arguments.names.as_deref())?;
+    let mut input = Input::open(&arguments.plain[0])?;
+    let (asked, known) = (arguments.number(1).unwrap_or(1), arguments.known);
+    let told = fronts::fronts(&mut input, asked, known.unwrap_or_default(), &names)?;
+    told.warning.iter().for_each(|warning| warn(warning));
+    print(told.text.as_bytes()).map(|()| 0)
 }
 
 fn play_panels(arguments: &Arguments) -> Outcome<u8> {

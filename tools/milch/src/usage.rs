@@ -12,6 +12,7 @@ pub fn of(command: &str) -> Option<&'static str> {
         "text" => include_str!("usage/text.txt"),
         "bytes" => include_str!("usage/bytes.txt"),
         "diff" => include_str!("usage/diff.txt"),
+        "fronts" => include_str!("usage/fronts.txt"),
         "panels" => include_str!("usage/panels.txt"),
         "picture" => include_str!("usage/picture.txt"),
         _ => return None,

@@ -9,7 +9,9 @@ use std::process::Command;
 use common::{failed, file, in_repository, recording, run, wrote, TWO};
 use milch::usage;
 
-const COMMANDS: [&str; 7] = ["show", "at", "text", "bytes", "diff", "panels", "picture"];
+const COMMANDS: [&str; 8] = [
+    "show", "at", "text", "bytes", "diff", "fronts", "panels", "picture",
+];
 
 /// These arguments are refused with this message.
 fn wrong(given: &[&str], said: &str) {
@@ -40,6 +42,7 @@ fn arguments_of_each_command() {
         let (first, given) = match command {
             "diff" => ("FIRST", vec!["diff", "a", "b"]),
             "at" => ("FILE", vec!["at", "a", "1"]),
+            "fronts" => ("FILE", vec!["fronts", "a", "1", "--known", "none"]),
             "picture" => ("FILE", vec!["picture", "a", "--out", "b"]),
             _ => ("FILE", vec![command, "a"]),
         };

@@ -19,6 +19,7 @@ fn type_in_c(kind: &str) -> String {
         "u8" => "uint8_t".to_string(),
         "u16" => "uint16_t".to_string(),
         "u32" => "uint32_t".to_string(),
+        "u64" => "uint64_t".to_string(),
         "usize" => "size_t".to_string(),
         "bool" => "bool".to_string(),
         name => format!("milchkompass_{}", snake(name)),
@@ -58,7 +59,7 @@ fn layout(structs: &[Struct], kind: &str) -> (usize, usize) {
         "u8" | "bool" => (1, 1),
         "u16" => (2, 2),
         "u32" => (4, 4),
-        "usize" => (8, 8),
+        "u64" | "usize" => (8, 8),
         name => {
             let declared = structs.iter().find(|s| s.name == name).expect(name);
             let (size, alignment, _) = placed(structs, declared);

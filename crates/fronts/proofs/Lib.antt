@@ -1,0 +1,4 @@
+pub mod SetLaws
+pub mod Words
+pub mod Starting
+pub mod FrontLaws
