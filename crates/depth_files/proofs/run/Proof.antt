@@ -24,6 +24,12 @@ loop-holds c = (
   (omega arith, length-replicate {A = ℕ} (6 * mostRecords) 0),
 )
 
+slice-aggregate-turn : tie.Need-slice-aggregate-turn Inv-loop μ-loop
+slice-aggregate-turn c = sym (c .before .before .loop .inv .1 .1)
+
+turn-requires : tie.Need-turn-requires Inv-loop μ-loop
+turn-requires c κs = let inv = c .before .before .loop .inv in (inv .0, inv .1 .1)
+
 -- the calls so far
 fits : (c : tie.After-turn Inv-loop μ-loop)
     → let l = c .before .before .before .loop in (l .calls + c .turn .result .records + 10000 * l .left ≤ 10000000000000000000 + 10000)
@@ -44,7 +50,6 @@ pub run-spec : {M : Type 1} → statement M
 run-spec =
     tie.close
     (tie.spec
-    Inv-loop μ-loop (λ c κs. search needs) (λ c κs. search needs) loop-holds
-    (λ c. sym (c .before .before .loop .inv .1 .1))
-    (λ c κs. let inv = c .before .before .loop .inv in (inv .0, inv .1 .1)) (λ c. search needs) add-calls
-    (λ c κs. search needs) (λ c. search needs) (λ c. search needs) (λ c. search needs) loop-again (λ c. search needs))
+    Inv-loop μ-loop (λ c κs. search needs) (λ c κs. search needs) loop-holds slice-aggregate-turn turn-requires
+    (λ c. search needs) add-calls (λ c κs. search needs) (λ c. search needs) (λ c. search needs) (λ c. search needs)
+    loop-again (λ c. search needs))

@@ -13,18 +13,31 @@ Inv-loop block met₀ i₀ p₀ met i p = Met block met i p
 abbrev μ-loop : tie.MeasureT-loop
 μ-loop block met₀ i₀ p₀ met i p = length block - p
 
+loop-holds : tie.Need-loop-holds Inv-loop μ-loop
+loop-holds c = met-start (c .before .before .args .block .now) (c .none .result) (c .none .ensures)
+
+noted-requires : tie.Need-noted-requires Inv-loop μ-loop
+noted-requires c κs =
+    let l = c .before .before .loop .inv in
+    let few = l .few in
+    let number = l .number in
+    omega arith
+
 returns : tie.Need-returns Inv-loop μ-loop
 returns c = met-last (c .before .before .before .before .loop .inv) (omega arith) (c .before .noted .ensures) (omega arith)
 
+add-i : tie.Need-add-i Inv-loop μ-loop
+add-i c = let number = c .before .before .before .before .loop .inv .number in omega arith
+
 loop-again : tie.Need-loop-again Inv-loop μ-loop
 loop-again c = met-more (c .before .before .before .before .loop .inv) (omega arith) (c .before .noted .ensures) (omega arith)
+
+returns-2 : tie.Need-returns-2 Inv-loop μ-loop
+returns-2 c = met-end (c .before .loop .inv) (omega arith)
 
 pub restores-spec : {M : Type 1} → statement M
 restores-spec =
     tie.close
     (tie.spec
-    Inv-loop μ-loop (λ c κs. search needs)
-    (λ c. met-start (c .before .before .args .block .now) (c .none .result) (c .none .ensures)) (λ c. search needs)
-    (λ c κs. let l = c .before .before .loop .inv in let few = l .few in let number = l .number in omega arith)
-    (λ c. search needs) returns (λ c. let number = c .before .before .before .before .loop .inv .number in omega arith)
-    (λ c. search needs) (λ c. search needs) loop-again (λ c. met-end (c .before .loop .inv) (omega arith)))
+    Inv-loop μ-loop (λ c κs. search needs) loop-holds (λ c. search needs) noted-requires (λ c. search needs) returns
+    add-i (λ c. search needs) (λ c. search needs) loop-again returns-2)

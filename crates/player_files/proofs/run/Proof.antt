@@ -26,6 +26,12 @@ loop-holds c =
       (omega arith, (omega arith, length-replicate {A = ℕ} (6 * mostRecords) 0)),
     )
 
+slice-aggregate-turn : tie.Need-slice-aggregate-turn Inv-loop μ-loop
+slice-aggregate-turn c = sym (c .before .before .loop .inv .1 .1 .1)
+
+turn-requires : tie.Need-turn-requires Inv-loop μ-loop
+turn-requires c κs = let inv = c .before .before .loop .inv in (inv .0, inv .1 .1 .1)
+
 joined-requires : tie.Need-joined-requires Inv-loop μ-loop
 joined-requires c κs =
     let turn = c .before .before .before in
@@ -52,7 +58,6 @@ pub run-spec : {M : Type 1} → statement M
 run-spec =
     tie.close
     (tie.spec
-    Inv-loop μ-loop (λ c κs. search needs) (λ c κs. search needs) loop-holds
-    (λ c. sym (c .before .before .loop .inv .1 .1 .1))
-    (λ c κs. let inv = c .before .before .loop .inv in (inv .0, inv .1 .1 .1)) joined-requires (λ c κs. search needs)
-    (λ c. search needs) add-others (λ c. search needs) (λ c. search needs) loop-again (λ c. search needs))
+    Inv-loop μ-loop (λ c κs. search needs) (λ c κs. search needs) loop-holds slice-aggregate-turn turn-requires
+    joined-requires (λ c κs. search needs) (λ c. search needs) add-others (λ c. search needs) (λ c. search needs)
+    loop-again (λ c. search needs))

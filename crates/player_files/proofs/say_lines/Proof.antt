@@ -19,6 +19,9 @@ slice-aggregate-play c = search needs
 array-share-prefix-output : tie.Need-array-share-prefix-output
 array-share-prefix-output c = rw (c .before .play .kept .1 .1 .1 .0) (c .before .play .ensures .1 .1 .1 .1 .1)
 
+slice-aggregate-print : tie.Need-slice-aggregate-print
+slice-aggregate-print c = sym (length-take-le _ _ (array-share-prefix-output (c .before)))
+
 returns : tie.Need-returns
 returns c =
     let play = c .before .before .before .before in
@@ -34,5 +37,5 @@ pub say-lines-spec : {M : Type 1} → statement M
 say-lines-spec =
     tie.close
     (tie.spec
-    slice-aggregate-play (λ c κs. search needs) array-share-prefix-output
-    (λ c. sym (length-take-le _ _ (array-share-prefix-output (c .before)))) (λ c κs. search needs) returns)
+    slice-aggregate-play (λ c κs. search needs) array-share-prefix-output slice-aggregate-print (λ c κs. search needs)
+    returns)

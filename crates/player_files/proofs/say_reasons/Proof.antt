@@ -19,6 +19,9 @@ explain-requires c κs =
 array-share-prefix-output : tie.Need-array-share-prefix-output
 array-share-prefix-output c = rw (c .before .explain .kept .1 .1 .1 .1 .0) (c .before .explain .ensures .1 .1 .1 .1 .1)
 
+slice-aggregate-print : tie.Need-slice-aggregate-print
+slice-aggregate-print c = sym (length-take-le _ _ (array-share-prefix-output (c .before)))
+
 returns : tie.Need-returns
 returns c =
     let explain = c .before .before .before .before in
@@ -28,5 +31,5 @@ pub say-reasons-spec : {M : Type 1} → statement M
 say-reasons-spec =
     tie.close
     (tie.spec
-    slice-aggregate-explain explain-requires array-share-prefix-output
-    (λ c. sym (length-take-le _ _ (array-share-prefix-output (c .before)))) (λ c κs. search needs) returns)
+    slice-aggregate-explain explain-requires array-share-prefix-output slice-aggregate-print (λ c κs. search needs)
+    returns)
