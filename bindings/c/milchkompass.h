@@ -249,8 +249,8 @@ typedef struct milchkompass_tally {
 #define MILCHKOMPASS_TALLY_MAX 65535
 
 /* The report of a tally: how many answers were accepted and how many refused, the mean of the accepted ones' front
- * heights in tenths, rounded to the nearest with the half upward, the refusal (0 if none), and the greatest of those
- * heights. Mean and greatest are 0 where none was accepted. A refused report has four zeros beside its refusal. */
+ * heights in tenths, rounded to the nearest and a half to the even neighbour, the refusal (0 if none), and the greatest
+ * of those heights. Mean and greatest are 0 where none was accepted. A refused report has four zeros beside its refusal. */
 typedef struct milchkompass_report {
     uint16_t accepted;
     uint16_t refused;

@@ -55,14 +55,17 @@ static void sample(void) {
     reports(t, 7, 1, 3, 14, "the report of the sample");
 }
 
-/* Means of two heights, rounded to the nearest tenth with the half upward. */
+/* Means of two heights, rounded to the nearest tenth, and halves to the even neighbour. */
 static void rounding(void) {
     const tally fresh = MILCHKOMPASS_TALLY_FRESH;
-    reports(with(with(fresh, 19, 0, 1), 1, 0, 2), 20, 0, 2, 11, "10.5 tenths");
-    reports(with(with(fresh, 15, 0, 1), 5, 0, 2), 20, 0, 2, 13, "12.5 tenths");
+    reports(with(with(fresh, 19, 0, 1), 1, 0, 2), 20, 0, 2, 10, "10.5 tenths");
+    reports(with(with(fresh, 15, 0, 1), 5, 0, 2), 20, 0, 2, 12, "12.5 tenths");
+    reports(with(with(fresh, 17, 0, 1), 3, 0, 2), 20, 0, 2, 12, "11.5 tenths");
+    reports(with(with(fresh, 2, 0, 1), 3, 0, 2), 5, 0, 2, 16, "16 tenths");
+    reports(with(with(fresh, 9, 0, 0), 10, 0, 1), 19, 0, 1, 5, "5.26 tenths");
     reports(with(with(fresh, 1, 0, 1), 2, 0, 2), 3, 0, 2, 17, "16.67 tenths");
     reports(with(with(fresh, 2, 0, 1), 1, 0, 2), 3, 0, 2, 13, "13.33 tenths");
-    reports(with(with(fresh, 19, 0, 0), 1, 0, 1), 20, 0, 1, 1, "0.5 tenths");
+    reports(with(with(fresh, 19, 0, 0), 1, 0, 1), 20, 0, 1, 0, "0.5 tenths");
     reports(with(with(fresh, 20, 0, 0), 1, 0, 1), 21, 0, 1, 0, "0.48 tenths");
     reports(with(fresh, 3, 0, 0), 3, 0, 0, 0, "heights of 0");
 }

@@ -45,8 +45,8 @@ pub struct Report {
     pub refused: u16,
     /// The greatest front height of the accepted ones, 0 if there is none.
     pub greatest: u8,
-    /// The mean of those heights in tenths, rounded to the nearest with the half
-    /// upward, 0 if there is none.
+    /// The mean of those heights in tenths, rounded to the nearest and a half to
+    /// the even neighbour, 0 if there is none.
     pub tenths: u16,
 }
 

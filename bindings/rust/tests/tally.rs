@@ -72,12 +72,14 @@ fn nothing_accepted() {
     assert_eq!(printed(&tally), "2 0 0 0");
 }
 
-/// To the nearest tenth, with the half upward.
+/// To the nearest tenth, and halves to the even neighbour.
 #[test]
 fn rounding() {
     for (answers, wanted) in [
-        ([(19, 0, 1), (1, 0, 2)], "20 0 2 11"),
-        ([(15, 0, 1), (5, 0, 2)], "20 0 2 13"),
+        ([(19, 0, 1), (1, 0, 2)], "20 0 2 10"),
+        ([(15, 0, 1), (5, 0, 2)], "20 0 2 12"),
+        ([(17, 0, 1), (3, 0, 2)], "20 0 2 12"),
+        ([(19, 0, 0), (1, 0, 1)], "20 0 1 0"),
         ([(1, 0, 1), (2, 0, 2)], "3 0 2 17"),
         ([(2, 0, 1), (1, 0, 2)], "3 0 2 13"),
         ([(20, 0, 0), (1, 0, 1)], "21 0 1 0"),

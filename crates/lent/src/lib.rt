@@ -22,7 +22,7 @@ ghost use Rattle.navigator.specs.Records.{playedStored};
 ghost use Rattle.recording.specs.OneCall.{recordLength, callLength, calledStored};
 ghost use Rattle.recording.specs.Replay.{EndAlike, TellsImages};
 ghost use Rattle.tally.specs.Tallies.{added, reported, KnowsTallies, TalliesJoin, ReportsLists};
-ghost use Rattle.tally.specs.Tallied.{RoundsToNearest};
+ghost use Rattle.tally.specs.Tallied.{RoundsHalfToEven};
 ghost use Rattle.lent.specs.Abi.{abiNumber};
 use image_calls::SaveReply;
 use model::Answer;
@@ -235,7 +235,7 @@ pub extern "C" fn milchkompass_tally_report(t: Tally) -> Report
     ensures numbers { λ r. ⌜ r ≡ reported t ⌝ }
     ensures known { λ _. ⌜ KnowsTallies ⌝ }
     ensures listed { λ _. ⌜ ReportsLists ⌝ }
-    ensures nearest { λ _. ⌜ RoundsToNearest ⌝ }
+    ensures nearest { λ _. ⌜ RoundsHalfToEven ⌝ }
 {
     t.report()
 }

@@ -1,8 +1,9 @@
--- Document 02, request 6: the numbers of the depth report, over a list of answers.
-use Prim.Native.Nat.{ℕ, zero, suc, _+_, _*_, _/_, _≤_, _<_, max}
+-- Document 02, requests 6 and 11: the numbers of the depth report, over a list of answers.
+use Prim.Native.Nat.{ℕ, zero, suc, _+_, _-_, _*_, _/_, _%_, _≤_, max}
+use mathlib.Core.Path.{_≡_}
 use mathlib.Core.Bool.{Bool, not, _||_}
 use mathlib.Core.List.{List, [], _∷_}
-use lib.Dec.{eqb, leb}
+use lib.Dec.{eqb, leb, ltb}
 use lib.ListN.{length, take}
 use Rattle.model.specs.declared.Answer.{Answer}
 use Rattle.model.specs.Lists.{if_then_else_, sumOf}
@@ -64,17 +65,34 @@ greatestIn answers = greatestOf frontHeight (those isAccepted answers)
 abbrev pub sumIn : List Answer → ℕ
 sumIn answers = sumOf frontHeight (those isAccepted answers)
 
--- the mean of n heights with this sum "in tenths, rounded to the nearest with the half upward": 10 * sum / n + 1 / 2, rounded
--- down. "Mean and greatest are 0 if nothing was accepted."
+-- x / n "rounded to the nearest", and "halves to the even neighbour" (02, request 11): what is left behind the whole quotient is
+-- less than half of n, more than it, or just that
+abbrev pub halfToEven : ℕ → ℕ → ℕ
+halfToEven x n =
+    if ltb (2 * (x % n)) n then x / n
+    else if ltb n (2 * (x % n)) then x / n + 1
+    else if eqb (x / n % 2) 0 then x / n
+    else x / n + 1
+
+-- the mean of n heights with this sum, "in tenths". "Mean and greatest are 0 if nothing was accepted."
 unfoldable pub meanTenths : ℕ → ℕ → ℕ
 meanTenths sum zero = 0
-meanTenths sum (suc n) = (20 * sum + suc n) / (2 * suc n)
+meanTenths sum (suc n) = halfToEven (10 * sum) (suc n)
 
--- The exact mean in tenths, 10 * sum / n, is less than half a tenth above what is reported, and at most half a tenth below. Both
--- sides are taken 2 * n times.
-abbrev pub RoundsToNearest : Type 0
-RoundsToNearest =
-    (sum n : ℕ) → 1 ≤ n → (2 * n * meanTenths sum n ≤ 20 * sum + n) × (20 * sum < 2 * n * meanTenths sum n + n)
+-- how far two numbers are from each other
+abbrev pub distance : ℕ → ℕ → ℕ
+distance x y = (x - y) + (y - x)
+
+-- p tenths for the exact mean 10 * sum / n, which "lies within half a tenth of what is printed", and where it is half a tenth away p
+-- is even. Both are taken 2 * n times.
+pub record IsRounded (sum n p : ℕ) : Type 0 where
+  pub near : distance (20 * sum) (2 * (p * n)) ≤ n
+  pub even : distance (20 * sum) (2 * (p * n)) ≡ n → p % 2 ≡ 0
+
+-- "If any tallied call was accepted": the mean is so rounded, and there is only one number that is
+pub record RoundsHalfToEven : Type 0 where
+  pub rounded : (sum n : ℕ) → 1 ≤ n → IsRounded sum n (meanTenths sum n)
+  pub only : (sum n p : ℕ) → 1 ≤ n → IsRounded sum n p → p ≡ meanTenths sum n
 
 -- "Each number equals a definition over the list of answers tallied."
 unfoldable pub reportOf : List Answer → Report

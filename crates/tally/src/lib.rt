@@ -1,11 +1,11 @@
 // The depth report: a tally of answers, one answer more, and the report of a tally.
 
-ghost use Prim.Native.Nat.{_+_, _*_, _≤_, max};
+ghost use Prim.Native.Nat.{_+_, _*_, _≤_, _<_, max};
 ghost use mathlib.Core.Path.{_≡_};
 ghost use mathlib.Core.Bool.{true};
 ghost use mathlib.Core.List.{[]};
 ghost use Rattle.model.specs.Session.{mostHeight};
-ghost use Rattle.tally.specs.Tallied.{meanTenths, RoundsToNearest};
+ghost use Rattle.tally.specs.Tallied.{halfToEven, meanTenths, RoundsHalfToEven};
 ghost use Rattle.tally.specs.Tallies.{tallyOf, isTally, acceptedBy, withAnswer, takes, added, reported};
 ghost use Rattle.tally.specs.Tallies.{KnowsTallies, TalliesJoin, ReportsLists};
 use session::Session;
@@ -60,7 +60,26 @@ fn larger(x: u8, y: u8) -> u8
     x
 }
 
-// The mean of the heights of so many accepted calls in tenths, rounded; 0 where there are none.
+// x / n, rounded to the nearest, and a half to the even neighbour.
+fn half_to_even(x: u32, n: u32) -> u32
+    requires { ⌜ (x < 0x80000000) × (1 ≤ n) ⌝ }
+    ensures { λ r. ⌜ r ≡ halfToEven x n ⌝ }
+{
+    let low = x / n;
+    let twice = 2 * (x % n);
+    if twice < n {
+        return low;
+    }
+    if n < twice {
+        return low + 1;
+    }
+    if low % 2 == 0 {
+        return low;
+    }
+    low + 1
+}
+
+// The mean of the heights of so many accepted calls in tenths, so rounded; 0 where there are none.
 fn tenths(sum: u32, accepted: u16) -> u16
     requires { ⌜ sum ≤ accepted * mostHeight ⌝ }
     ensures { λ r. ⌜ r ≡ meanTenths sum accepted ⌝ }
@@ -68,8 +87,7 @@ fn tenths(sum: u32, accepted: u16) -> u16
     if accepted == 0 {
         return 0;
     }
-    let n = wider(accepted);
-    ((20 * sum + n) / (2 * n)) as u16
+    half_to_even(10 * sum, wider(accepted)) as u16
 }
 
 // How many accepted calls an answer with this refusal is.
@@ -170,7 +188,7 @@ impl Tally {
         ensures numbers { λ r. ⌜ r ≡ reported self ⌝ }
         ensures known { λ _. ⌜ KnowsTallies ⌝ }
         ensures listed { λ _. ⌜ ReportsLists ⌝ }
-        ensures nearest { λ _. ⌜ RoundsToNearest ⌝ }
+        ensures nearest { λ _. ⌜ RoundsHalfToEven ⌝ }
     {
         if !self.is_tally() {
             return Report {

@@ -8,14 +8,14 @@ use Rattle.tally.proofs.Checks.{tally-decides, tally-sum}
 use Rattle.tally.proofs.Steps.{reported-tally, reported-not}
 use Rattle.tally.proofs.TallyLaws.{reports-lists}
 use Rattle.tally.proofs.GivenLaws.{knows-tallies}
-use Rattle.tally.proofs.MeanLaws.{rounds-to-nearest}
+use Rattle.tally.proofs.MeanLaws.{rounds-half-to-even}
 use Rattle.tally.proofs.Tally.report.Statement.{statement}
 use Rattle.tally.proofs.Tally.report.Tie as tie
 
 returns : tie.Need-returns
 returns c = (
   reported-not (c .before .before .args .self) (sym (c .before .is-tally .ensures) ∙ not-true _ (c .if1 .taken)),
-  (knows-tallies, (reports-lists, rounds-to-nearest)),
+  (knows-tallies, (reports-lists, rounds-half-to-even)),
 )
 
 passed : (c : tie.Else1) → isTally (c .before .before .args .self) ≡ true
@@ -29,7 +29,7 @@ tenths-requires c κs =
 returns-2 : tie.Need-returns-2
 returns-2 c = (
   rw (c .tenths .ensures) (reported-tally (c .before .before .before .args .self) (passed (c .before))),
-  (knows-tallies, (reports-lists, rounds-to-nearest)),
+  (knows-tallies, (reports-lists, rounds-half-to-even)),
 )
 
 pub report-spec : {M : Type 1} → statement M
