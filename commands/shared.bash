@@ -106,10 +106,16 @@ synopsis() {
     done
 }
 
-# Fails where a value is not of its kind: K is the number of a record, anything else the name of a file.
+# Fails where a value is not of its kind: K is the number of a record, MODE a launch mode, anything else the name of a file.
 fits() { # WHAT KIND VALUE
     case $2 in
         K) [[ $3 =~ ^0*[1-9][0-9]*$ ]] || refuse "$1 '$3' is no record's number, of which the first is 1" ;;
+        MODE)
+            case $3 in
+                standard | single-top | single-task | single-instance) ;;
+                *) refuse "$1 '$3' is none of standard, single-top, single-task and single-instance" ;;
+            esac
+            ;;
         *) [ -n "$3" ] || refuse "$1 is an empty name" ;;
     esac
 }

@@ -42,6 +42,7 @@
 #![warn(missing_docs)]
 
 mod answer;
+mod chart;
 mod edition;
 mod flags;
 mod launch_mode;
@@ -56,6 +57,7 @@ mod tally;
 mod unknown;
 
 pub use answer::Answer;
+pub use chart::chart;
 pub use edition::Edition;
 pub use flags::Flags;
 pub use launch_mode::LaunchMode;

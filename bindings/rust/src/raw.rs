@@ -163,6 +163,7 @@ extern "C" {
     ) -> Ending;
     fn milchkompass_tally_add(t: *mut Tally, refusal: u8, height: u8) -> u8;
     fn milchkompass_tally_report(t: Tally) -> Report;
+    fn milchkompass_chart(index: u16) -> u8;
 }
 
 // SAFETY of each call below: pointers and lengths are those of whole slices,
@@ -276,4 +277,9 @@ pub fn tally_add(t: &mut Tally, refusal: u8, height: u8) -> u8 {
 pub fn tally_report(t: Tally) -> Report {
     check_abi();
     unsafe { milchkompass_tally_report(t) }
+}
+
+pub fn chart(index: u16) -> u8 {
+    check_abi();
+    unsafe { milchkompass_chart(index) }
 }

@@ -1,6 +1,6 @@
 // The calls for programs in C and Rust. A slice is a pointer and a length there; a session or a tally that a call may change
-// is lent, and the call writes the new one there. Nothing is decided here: each call is the one of `navigator`, of `recording` or
-// of `tally`, by value, and its session or its tally is stored.
+// is lent, and the call writes the new one there. Nothing is decided here: each call is the one of `navigator`, of `recording`,
+// of `tally` or of `flag_chart`, by value, and its session or its tally is stored.
 
 ghost use mathlib.Core.Path.{_≡_};
 ghost use mathlib.Core.Logic.{_↔_};
@@ -23,6 +23,7 @@ ghost use Rattle.recording.specs.OneCall.{recordLength, callLength, calledStore
 ghost use Rattle.recording.specs.Replay.{EndAlike, TellsImages};
 ghost use Rattle.tally.specs.Tallies.{added, reported, KnowsTallies, TalliesJoin, ReportsLists};
 ghost use Rattle.tally.specs.Tallied.{RoundsHalfToEven};
+ghost use Rattle.flag_chart.specs.Chart.{entryAt, IndexesChart};
 ghost use Rattle.lent.specs.Abi.{abiNumber};
 use image_calls::SaveReply;
 use model::Answer;
@@ -238,4 +239,15 @@ pub extern "C" fn milchkompass_tally_report(t: Tally) -> Report
     ensures nearest { λ _. ⌜ RoundsHalfToEven ⌝ }
 {
     t.report()
+}
+
+// ---- the flag chart
+
+// The entry at an index; 0, which is no entry, above 511.
+#[no_mangle]
+pub extern "C" fn milchkompass_chart(index: u16) -> u8
+    ensures entry { λ r. ⌜ r ≡ entryAt index ⌝ }
+    ensures indexed { λ _. ⌜ IndexesChart ⌝ }
+{
+    flag_chart::entry(index as usize)
 }

@@ -2,6 +2,8 @@
 
 use std::ffi::{OsStr, OsString};
 
+use milchkompass::LaunchMode;
+
 use crate::synopsis::{self, Opt, Synopsis};
 
 /// A command's arguments, told apart. Names of files need not be text.
@@ -13,6 +15,8 @@ pub struct Arguments {
     pub to: Option<u64>,
     pub refused: bool,
     pub force: bool,
+    pub words: bool,
+    pub mode: Option<LaunchMode>,
     /// The others, in their order.
     pub plain: Vec<OsString>,
 }
@@ -70,6 +74,7 @@ impl Arguments {
     fn set_bare(&mut self, option: &str) {
         match option {
             "--refused" => self.refused = true,
+            "--words" => self.words = true,
             _ => self.force = true,
         }
     }
@@ -79,6 +84,7 @@ impl Arguments {
         match option {
             "--from" => self.from = Some(record_number(option, value)?),
             "--to" => self.to = Some(record_number(option, value)?),
+            "--mode" => self.mode = Some(launch_mode(option, value)?),
             "--names" => self.names = Some(file_name(option, value)?),
             _ if value == "-" => return Err(format!("{option} - is no file to be written")),
             _ => self.out = Some(file_name(option, value)?),
@@ -103,6 +109,13 @@ fn record_number(what: &str, given: &OsStr) -> Result<u64, String> {
     }
     let too_large = |_| format!("{what} '{text}' is beyond the last record of any recording");
     text.parse().map_err(too_large)
+}
+
+fn launch_mode(what: &str, given: &OsStr) -> Result<LaunchMode, String> {
+    let text = given.to_string_lossy();
+    let modes = "standard, single-top, single-task and single-instance";
+    text.parse()
+        .map_err(|_| format!("{what} '{text}' is none of {modes}"))
 }
 
 fn file_name(what: &str, given: &OsStr) -> Result<OsString, String> {
@@ -130,6 +143,9 @@ fn check_all(synopsis: &Synopsis, given: &Arguments, set: &[&str]) -> Result<(),
     }
     if given.force && given.out.is_none() {
         return Err("--force is there for --out, which is missing".to_string());
+    }
+    if given.mode.is_some() && !given.words {
+        return Err("--mode is there for --words, which is missing".to_string());
     }
     let read = given.plain.iter().chain(&given.names);
     if read.filter(|name| *name == "-").count() > 1 {

@@ -18,10 +18,12 @@
 //! - `text`: a recording as text; `grammar`, `cursor`: and back
 //! - `picture`: the page; `whole_file`: where it is written
 //! - `closed`: which screens a record closed
+//! - `chart`: the flag chart
 
 pub mod arguments;
 pub mod at;
 mod batches;
+pub mod chart;
 mod closed;
 pub mod cursor;
 pub mod diff;

@@ -13,7 +13,7 @@ use milch::names::Names;
 use milch::opening::{self, Opening};
 use milch::output::Output;
 use milch::show::{self, Wanted};
-use milch::{at, diff, grammar, moments, picture, text, usage, whole_file};
+use milch::{at, chart, diff, grammar, moments, picture, text, usage, whole_file};
 
 #[global_allocator]
 static MEMORY: Memory = Memory;
@@ -67,6 +67,7 @@ fn run(command: &OsStr, given: &[OsString]) -> Outcome<u8> {
         "text" => write_text(&arguments),
         "bytes" => write_bytes(&arguments),
         "diff" => compare(&arguments),
+        "chart" => write_chart(&arguments),
         _ => draw(&arguments),
     }
 }
@@ -165,6 +166,14 @@ fn compare(arguments: &Arguments) -> Outcome<u8> {
     compared.warnings.iter().for_each(|warning| warn(warning));
     print_whole(compared.text.as_bytes())?;
     Ok(if compared.alike { 0 } else { DIFFERS })
+}
+
+fn write_chart(arguments: &Arguments) -> Outcome<u8> {
+    let text = match arguments.words {
+        true => chart::in_words(arguments.mode),
+        false => chart::numbers(),
+    };
+    print(text.as_bytes()).map(|()| 0)
 }
 
 fn draw(arguments: &Arguments) -> Outcome<u8> {

@@ -13,6 +13,7 @@ pub fn of(command: &str) -> Option<&'static str> {
         "bytes" => include_str!("usage/bytes.txt"),
         "diff" => include_str!("usage/diff.txt"),
         "picture" => include_str!("usage/picture.txt"),
+        "chart" => include_str!("usage/chart.txt"),
         _ => return None,
     })
 }
