@@ -167,9 +167,10 @@ take_option() { # OPTION [VALUE..]
 }
 
 take_plain() { # ARGUMENT
-    local at=${#plain[@]}
+    local at=${#plain[@]} last=''
+    [ "${#wanted[@]}" -eq 0 ] || last=${wanted[-1]}
+    [ "$at" -lt "${#wanted[@]}" ] || [ "$last" = ... ] || refuse "'$1' is one argument too many"
     [ "${wanted[at]-...}" != ... ] || at=$((${#wanted[@]} - 2))
-    [ "${#plain[@]}" -lt "${#wanted[@]}" ] || [ "${wanted[-1]}" = ... ] || refuse "'$1' is one argument too many"
     fits "${wanted[at]}" "${wanted[at]}" "$1"
     plain+=("$1")
     [ "${wanted[at]}" = K ] || files+=("$1")
