@@ -7,7 +7,7 @@ parts_of() { # PROGRAM|everything
     local tool='lent -- bindings/c/milchkompass.h bindings/rust tools/milch commands/library.bash'
     case $1 in
         milch) echo "$tool" ;;
-        everything) echo "player explain depth load same $tool" ;;
+        everything) echo "player explain depth load same chart $tool" ;;
         *) echo "$1 --" ;;
     esac
 }

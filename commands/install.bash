@@ -25,7 +25,7 @@ link_programs() { # FOLDER
     local program kit_code
     kit_code=$(dirname "$(readlink -f "$(command -v rt)")")/../lib/libos_c.a
     [ -r "$kit_code" ] || fail "the kit has no $kit_code"
-    for program in player explain depth load same; do
+    for program in player explain depth load same chart; do
         cc -static -o "$1/$program" "${made[$program]}.o" "$kit_code" >&2 || fail "'$program' cannot be linked"
     done
 }
@@ -48,7 +48,7 @@ free_for "$folder"
 type cc >/dev/null 2>&1 || fail "the C compiler 'cc' cannot be run, which links the programs for other machines"
 static_c || fail "'cc' has no libc.a, which the programs are linked with for other machines (Debian: libc6-dev)"
 declare -A made=()
-for program in player explain depth load same milch; do
+for program in player explain depth load same chart milch; do
     build "$program"
     made[$program]=$built
 done

@@ -122,7 +122,7 @@ flag=' *(NEW_TASK|SINGLE_TOP|MULTIPLE_TASK|CLEAR_TOP|REORDER_TO_FRONT|CLEAR_TASK
 flags="^$flag([|,]$flag)*\$"
 
 # Fails where a value is not of its kind: K is the number of a record, SEED and RECORDS are those of a load, FLAGS a list of
-# flags, anything else is the name of a file.
+# flags, MODE a launch mode, anything else is the name of a file.
 fits() { # WHAT KIND VALUE
     local value
     case $2 in
@@ -131,6 +131,12 @@ fits() { # WHAT KIND VALUE
         K) [[ $3 =~ ^0*[1-9][0-9]*$ ]] || refuse "$1 '$3' is no record's number, of which the first is 1" ;;
         FLAGS) [[ $3 = none || $3 =~ $flags ]] ||
             refuse "$1 '$3' is no list of flags: names joined by | or commas, hex behind 0x, or none" ;;
+        MODE)
+            case $3 in
+                standard | single-top | single-task | single-instance) ;;
+                *) refuse "$1 '$3' is none of standard, single-top, single-task and single-instance" ;;
+            esac
+            ;;
         *) [ -n "$3" ] || refuse "$1 is an empty name" ;;
     esac
 }
@@ -182,9 +188,10 @@ take_option() { # OPTION [VALUE..]
 }
 
 take_plain() { # ARGUMENT
-    local at=${#plain[@]}
+    local at=${#plain[@]} last=''
+    [ "${#wanted[@]}" -eq 0 ] || last=${wanted[-1]}
+    [ "$at" -lt "${#wanted[@]}" ] || [ "$last" = ... ] || refuse "'$1' is one argument too many"
     [ "${wanted[at]-...}" != ... ] || at=$((${#wanted[@]} - 2))
-    [ "${#plain[@]}" -lt "${#wanted[@]}" ] || [ "${wanted[-1]}" = ... ] || refuse "'$1' is one argument too many"
     fits "${wanted[at]}" "${wanted[at]}" "$1"
     plain+=("$1")
     case ${wanted[at]} in K | SEED | RECORDS) ;; *) files+=("$1") ;; esac

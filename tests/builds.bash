@@ -4,8 +4,8 @@
 mkdir "$work/copy" "$work/kit" "$work/programs" "$work/copy/tools"
 cp -R milch commands crates crates.txt sample.recording bindings "$work/copy"
 cp -R tools/milch "$work/copy/tools"
-for program in player same explain depth load milch; do cp "$(kept "$program")" "$work/programs/$program"; done
-for program in player same explain depth load; do cp .built/"$program"-*.o "$work/programs/$program.o"; done
+for program in player same explain depth load chart milch; do cp "$(kept "$program")" "$work/programs/$program"; done
+for program in player same explain depth load chart; do cp .built/"$program"-*.o "$work/programs/$program.o"; done
 # It notes each build, reads its standard input, takes a second, and fails beside another one. Two files make it fail, and
 # make it change a source.
 cat >"$work/kit/rt" <<STAND_IN

@@ -15,7 +15,7 @@ kept() { # PROGRAM
 }
 
 name='install: nothing is needed of a C library' status=0
-for program in player explain depth load same milch; do
+for program in player explain depth load same chart milch; do
     readelf -lW "$moved/lib/milchkompass/programs/$program" >"$work/out" || wrong "$program is no program"
     ! grep -q INTERP "$work/out" || wrong "$program is linked dynamically"
 done
@@ -34,6 +34,7 @@ check 'installed: play -' 0 "$played" '' bash -c "env -i PATH='$work/tools' '$mo
 check 'installed: explain' 0 "$in_words" '' "${there[@]}" explain --words "$sample"
 check 'installed: depth' 0 "7 1 3 14 $sample" '' "${there[@]}" depth --files "$sample"
 check 'installed: load' 0 0x6c1b0001 '' "${there[@]}" load "$sample" 1 2 --state
+check 'installed: chart' 0 "$PWD/crates/chart/stdout" '' "${there[@]}" chart
 check 'installed: same, alike' 0 alike '' "${there[@]}" same "$sample" "$sample"
 check 'installed: same, apart' 1 "$apart" '' "${there[@]}" same "$first" "$second"
 check 'installed: show' 0 "$(./milch show prices.recording --names prices.names)" '' "${there[@]}" show prices.recording --names prices.names

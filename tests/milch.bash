@@ -24,7 +24,7 @@ name='README is short' status=0
 [ "$(wc -c <README.md)" -le 10240 ] || wrong "it has $(wc -c <README.md) bytes"
 printf 'ok: %s\n' "$name"
 name='every command is in the help' status=0
-for asked in show at picture play explain same diff depth load text bytes fronts panels install; do
+for asked in show at picture play explain same diff depth load chart text bytes fronts panels install; do
     grep -q "^       ./milch $asked " "$texts/whole.txt" || wrong "$asked is not"
 done
 printf 'ok: %s\n' "$name"
@@ -51,7 +51,7 @@ examples() { # DOCUMENT
 examples README.md
 examples docs/COMMANDS.md
 name='every command has an example that is run' status=0
-for asked in show at picture play explain same diff depth load text bytes fronts panels install; do
+for asked in show at picture play explain same diff depth load chart text bytes fronts panels install; do
     grep -q "^./milch $asked " "$work/examples.run" || wrong "$asked has none"
 done
 printf 'ok: %s\n' "$name"

@@ -413,6 +413,16 @@ uint8_t milchkompass_container_back(milchkompass_container *c);
  * which Back passes over. An unknown kind is no call, and a call that is cut ends the list. */
 milchkompass_container milchkompass_container_play(const uint8_t *calls, size_t calls_length);
 
+/* The flag chart has so many entries, each a byte that is not 0. */
+#define MILCHKOMPASS_CHART_ENTRIES 512
+
+/* The flag chart: the entry at an index, or 0 where there is none. The index is 128 times the screen's launch mode, 64
+ * where the front screen is single-instance, and what the flags are worth: new task 32, single top 16, multiple task 8,
+ * clear top 4, reorder to front 2, clear task 1. The low three bits of an entry are the class of its rules: 1 for R1 and
+ * R2, 2 for R3 to R6, 3 for R7 to R10, 4 for R11, 5 for R12 to R18. Added to it are 8 for single, 16 for clear top, 32
+ * for clear task and 64 for reorder to front, where the rules of the class ask for these. */
+uint8_t milchkompass_chart(uint16_t index);
+
 #ifdef __cplusplus
 }
 #endif

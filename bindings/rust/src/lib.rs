@@ -43,6 +43,7 @@
 
 mod answer;
 mod container;
+mod chart;
 mod edition;
 mod flags;
 mod fronts;
@@ -60,6 +61,7 @@ mod unknown;
 
 pub use answer::Answer;
 pub use container::{Container, Operation};
+pub use chart::chart;
 pub use edition::Edition;
 pub use flags::Flags;
 pub use fronts::FrontSet;

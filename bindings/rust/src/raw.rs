@@ -223,6 +223,7 @@ extern "C" {
     ) -> u8;
     fn milchkompass_container_back(c: *mut Container) -> u8;
     fn milchkompass_container_play(calls: *const u8, calls_length: usize) -> Container;
+    fn milchkompass_chart(index: u16) -> u8;
 }
 
 // SAFETY of each call below: pointers and lengths are those of whole slices,
@@ -364,4 +365,9 @@ pub fn container_back(c: &mut Container) -> u8 {
 pub fn container_play(calls: &[u8]) -> Container {
     check_abi();
     unsafe { milchkompass_container_play(calls.as_ptr(), calls.len()) }
+}
+
+pub fn chart(index: u16) -> u8 {
+    check_abi();
+    unsafe { milchkompass_chart(index) }
 }

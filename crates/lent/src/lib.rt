@@ -1,6 +1,6 @@
 // The calls for programs in C and Rust. A slice is a pointer and a length there; a session or a tally that a call may change
-// is lent, and the call writes the new one there. Nothing is decided here: each call is the one of `navigator`, of `fronts`, of
-// `recording`, of `loads` or of `tally`, by value, and its session or its tally is stored.
+// is lent, and the call writes the new one there. Nothing is decided here: each call is the one of `navigator`, `fronts`,
+// `recording`, `loads`, `tally`, `container` or `flag_chart`, by value, and its session, tally or container is stored.
 
 ghost use mathlib.Core.Path.{_≡_};
 ghost use mathlib.Core.Logic.{_↔_};
@@ -30,6 +30,7 @@ ghost use Rattle.container.specs.Calls.{Call as PanelCall};
 ghost use Rattle.container.specs.Stored.{called, stepOf};
 ghost use Rattle.container.specs.Promised.{Promised, KeepsPromise, BackRestores};
 ghost use Rattle.container_lists.specs.CallBytes.{callsIn, EveryList};
+ghost use Rattle.flag_chart.specs.Chart.{entryAt, IndexesChart};
 ghost use Rattle.lent.specs.Abi.{abiNumber};
 use container::Container;
 use fronts::FrontSet;
@@ -321,4 +322,15 @@ pub extern "C" fn milchkompass_container_play(calls: &[u8]) -> Container
     ensures promise { λ _. ⌜ KeepsPromise ⌝ }
 {
     container_lists::play(calls)
+}
+
+// ---- the flag chart
+
+// The entry at an index; 0, which is no entry, above 511.
+#[no_mangle]
+pub extern "C" fn milchkompass_chart(index: u16) -> u8
+    ensures entry { λ r. ⌜ r ≡ entryAt index ⌝ }
+    ensures indexed { λ _. ⌜ IndexesChart ⌝ }
+{
+    flag_chart::entry(index as usize)
 }

@@ -4,17 +4,17 @@
 // Where the expected lines come from:
 //   trace_launch_modes      the traces of four launch modes printed in documents 003 and 004
 //   trace_single_instance   the traces of a single-instance main screen printed in documents 001, 003 and 004
-//   trace_single_task       the trace of a single-task main screen printed in document 001
+//   trace_single_program       the trace of a single-program main screen printed in document 001
 //   trace_flags             the trace of intent flags printed in document 001, without its two steps that document 01 leaves out
 //   trace_versions_7, _8    the example of Android's versions printed in document 001, in editions 7 and 8
 // The lines of their starts follow the stacks printed there. The first four are in edition 8, and again in 6 and in 7 under names
-// that end so. The printed stacks hold there too, but for the last start of trace_single_instance_6 and of trace_single_task_6: by
-// 001's section on Android 6.0 it pushes, where the others bring a task to the front as it is. The example of versions cannot be
+// that end so. The printed stacks hold there too, but for the last start of trace_single_instance_6 and of trace_single_program_6: by
+// 001's section on Android 6.0 it pushes, where the others bring a program to the front as it is. The example of versions cannot be
 // prepared in edition 6; bindings/rust/tests/traces.rs plays it there from a restored session.
 // By hand from the rules of documents 01 and 02, lines and reasons:
 //   affinity_0              each launch mode with affinity 0, beside screens of affinity 1
 //   editions                launches in each edition and in none; edition 7's R9; edition 6's searches; the edition when empty
-//   full_main_7             edition 7's R9 in a main task of 32 screens
+//   full_main_7             edition 7's R9 in a main program of 32 screens
 //   no_history              the No-History mark: set, kept and cleared, and starts from a marked front, in each edition
 // By hand from request 11 of document 02, the lines of `depth`:
 //   half_10_5, half_12_5    nineteen heights of 1 and one of 2; fifteen of 1 and five of 2: 10.5 and 12.5 tenths
@@ -27,7 +27,7 @@
 //   unknown_kinds           records of unknown kinds between known ones
 //   bad_arguments           screens not below N and flag bits outside the seven; two lines, of a start with No-History and of the
 //                           next start, by hand
-//   limits                  both limits reached, passed and left: 32 screens in a task, 16 tasks
+//   limits                  both limits reached, passed and left: 32 screens in a program, 16 programs
 //   cut_after_1 to _5       a last record that is cut after so many bytes
 //   every_rule              each of R1 to R18, and each refusal of a start under a good table
 // The reasons in every_rule and in the traces that end in an edition's number, too, were written by hand from the rules, step by

@@ -2,7 +2,7 @@
 
 use std::ffi::{OsStr, OsString};
 
-use milchkompass::Flags;
+use milchkompass::{Flags, LaunchMode};
 
 use crate::synopsis::{self, Opt, Synopsis};
 
@@ -16,6 +16,8 @@ pub struct Arguments {
     pub known: Option<Flags>,
     pub refused: bool,
     pub force: bool,
+    pub words: bool,
+    pub mode: Option<LaunchMode>,
     /// The others, in their order.
     pub plain: Vec<OsString>,
 }
@@ -73,6 +75,7 @@ impl Arguments {
     fn set_bare(&mut self, option: &str) {
         match option {
             "--refused" => self.refused = true,
+            "--words" => self.words = true,
             _ => self.force = true,
         }
     }
@@ -83,6 +86,7 @@ impl Arguments {
             "--from" => self.from = Some(record_number(option, value)?),
             "--to" => self.to = Some(record_number(option, value)?),
             "--known" => self.known = Some(known_flags(option, value)?),
+            "--mode" => self.mode = Some(launch_mode(option, value)?),
             "--names" => self.names = Some(file_name(option, value)?),
             _ if value == "-" => return Err(format!("{option} - is no file to be written")),
             _ => self.out = Some(file_name(option, value)?),
@@ -123,6 +127,13 @@ fn known_flags(what: &str, given: &OsStr) -> Result<Flags, String> {
     joined.flatten().ok_or_else(wrong)
 }
 
+fn launch_mode(what: &str, given: &OsStr) -> Result<LaunchMode, String> {
+    let text = given.to_string_lossy();
+    let modes = "standard, single-top, single-task and single-instance";
+    text.parse()
+        .map_err(|_| format!("{what} '{text}' is none of {modes}"))
+}
+
 fn file_name(what: &str, given: &OsStr) -> Result<OsString, String> {
     match given.is_empty() {
         true => Err(format!("{what} is an empty name")),
@@ -148,6 +159,9 @@ fn check_all(synopsis: &Synopsis, given: &Arguments, set: &[&str]) -> Result<(),
     }
     if given.force && given.out.is_none() {
         return Err("--force is there for --out, which is missing".to_string());
+    }
+    if given.mode.is_some() && !given.words {
+        return Err("--mode is there for --words, which is missing".to_string());
     }
     let read = given.plain.iter().chain(&given.names);
     if read.filter(|name| *name == "-").count() > 1 {

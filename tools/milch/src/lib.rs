@@ -20,10 +20,12 @@
 //! - `panels`: a text of steps and Backs, played on a container
 //! - `picture`: the page; `whole_file`: where it is written
 //! - `closed`: which screens a record closed
+//! - `chart`: the flag chart
 
 pub mod arguments;
 pub mod at;
 mod batches;
+pub mod chart;
 mod closed;
 pub mod cursor;
 pub mod diff;

@@ -13,7 +13,7 @@ use milch::names::Names;
 use milch::opening::{self, Opening};
 use milch::output::Output;
 use milch::show::{self, Wanted};
-use milch::{at, diff, fronts, grammar, moments, panels, picture, text, usage, whole_file};
+use milch::{at, chart, diff, fronts, grammar, moments, panels, picture, text, usage, whole_file};
 
 #[global_allocator]
 static MEMORY: Memory = Memory;
@@ -69,6 +69,7 @@ fn run(command: &OsStr, given: &[OsString]) -> Outcome<u8> {
         "diff" => compare(&arguments),
         "fronts" => tell_fronts(&arguments),
         "panels" => play_panels(&arguments),
+        "chart" => write_chart(&arguments),
         _ => draw(&arguments),
     }
 }
@@ -185,6 +186,14 @@ fn play_panels(arguments: &Arguments) -> Outcome<u8> {
         Ok(calls) => print(panels::played(&calls).as_bytes()).map(|()| 0),
         Err(wrong) => said(format!("{}:{wrong}", file.to_string_lossy())),
     }
+}
+
+fn write_chart(arguments: &Arguments) -> Outcome<u8> {
+    let text = match arguments.words {
+        true => chart::in_words(arguments.mode),
+        false => chart::numbers(),
+    };
+    print(text.as_bytes()).map(|()| 0)
 }
 
 fn draw(arguments: &Arguments) -> Outcome<u8> {

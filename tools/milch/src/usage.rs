@@ -15,6 +15,7 @@ pub fn of(command: &str) -> Option<&'static str> {
         "fronts" => include_str!("usage/fronts.txt"),
         "panels" => include_str!("usage/panels.txt"),
         "picture" => include_str!("usage/picture.txt"),
+        "chart" => include_str!("usage/chart.txt"),
         _ => return None,
     })
 }
