@@ -11,6 +11,7 @@
 //! - `memory`, `pages`, `fault`: bytes that are lent at the edges of memory, the pages
 //!   there, and which call a fault came in
 //! - `smaller`: smaller examples of a difference
+//! - `sizes`, `times`: sessions that are measured, and the times of turns
 //! - `run`: options and endings of the comparing programs
 //!
 //! Each program says at its head what it compares: `calls` all calls of one session,
@@ -28,6 +29,8 @@ pub mod no_history;
 pub mod pages;
 pub mod run;
 pub mod sessions;
+pub mod sizes;
 pub mod smaller;
 pub mod starts;
 pub mod stored;
+pub mod times;

@@ -8,10 +8,10 @@ use second::{calls, Session};
 
 use lent_calls::call::{by_library, on_session, Call, Kind, Reply};
 use lent_calls::sessions::{held, T};
+use lent_calls::sizes::Size;
 use lent_calls::stored::Stored;
 
 use crate::by_value;
-use crate::sizes::Size;
 
 /// The calls that are measured. Launch is left out: it has but one session. Why
 /// is left out: it is a start's choice.

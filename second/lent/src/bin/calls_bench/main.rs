@@ -14,15 +14,14 @@
 
 mod by_value;
 mod lot;
-mod sizes;
 mod turns;
 
 use std::process::ExitCode;
 
 use lent_calls::library;
+use lent_calls::sizes::Size;
 
 use lot::Lot;
-use sizes::Size;
 
 fn main() -> ExitCode {
     library::expect_abi();

@@ -1,39 +1,15 @@
 //! Turns of both, and the table of their times.
 
-use std::time::Instant;
-
+use lent_calls::sizes::Size;
 use lent_calls::stored::SESSION;
+use lent_calls::times::Times;
 
 use crate::lot::{
     self, measured_by_value, measured_copy, measured_lent, measured_second, Lot, CALLS,
 };
-use crate::sizes::Size;
 
 /// How many turns each of the two takes.
 const TURNS: usize = 500;
-
-/// Nanoseconds a call of each turn.
-#[derive(Default)]
-struct Times(Vec<f64>);
-
-impl Times {
-    fn measure(&mut self, lot: impl FnOnce()) {
-        let begun = Instant::now();
-        lot();
-        let nanoseconds = begun.elapsed().as_nanos() as f64;
-        self.0.push(nanoseconds / CALLS as f64);
-    }
-
-    fn best(&self) -> f64 {
-        self.0.iter().copied().fold(f64::INFINITY, f64::min)
-    }
-
-    fn middle(&self) -> f64 {
-        let mut sorted = self.0.clone();
-        sorted.sort_by(f64::total_cmp);
-        sorted[sorted.len() / 2]
-    }
-}
 
 pub fn print_table() {
     println!("nanoseconds a call, best (middle) of {TURNS} turns of {CALLS} calls");
@@ -51,7 +27,7 @@ pub fn print_table() {
                 format!("({:.0})", second.middle()),
                 lent.best() / second.best()
             );
-            if by_value.0.is_empty() {
+            if by_value.is_empty() {
                 println!();
             } else {
                 println!(
@@ -77,12 +53,12 @@ fn alternate(lot: &Lot) -> [Times; 3] {
     }
     for _ in 0..TURNS {
         let mut sessions = lot.for_library();
-        lent.measure(|| measured_lent(lot, &mut sessions));
+        lent.measure(CALLS, || measured_lent(lot, &mut sessions));
         let mut sessions = lot.for_second();
-        second.measure(|| measured_second(lot, &mut sessions));
+        second.measure(CALLS, || measured_second(lot, &mut sessions));
         if lot.is_by_value() {
             let mut sessions = lot.for_library();
-            by_value.measure(|| measured_by_value(lot, &mut sessions));
+            by_value.measure(CALLS, || measured_by_value(lot, &mut sessions));
         }
     }
     [lent, second, by_value]
@@ -94,7 +70,7 @@ fn copies() -> Times {
     let mut times = Times::default();
     for _ in 0..TURNS {
         let mut to = lot.for_library();
-        times.measure(|| measured_copy(&from, &mut to));
+        times.measure(CALLS, || measured_copy(&from, &mut to));
     }
     times
 }
