@@ -11,6 +11,7 @@
 //! - `edition`: the editions 6, 7 and 8
 //! - `rules`: launch, Back, start by R1 to R18, finishing start
 //! - `reason`: the rule that a start uses and the task found, in four numbers
+//! - `chart`: what the flags do, in a table of 512 entries
 //! - `image`: the image of a session and how it is read back
 //! - `calls`: every call with all its checks, from bytes to an answer
 //! - `play`: the player, from standard input's format to lines, with or without
@@ -33,6 +34,7 @@
 pub mod by_edition;
 pub mod calls;
 pub mod cases;
+pub mod chart;
 pub mod closings;
 pub mod depth;
 pub mod edition;
