@@ -2,6 +2,7 @@
 //! the second navigator's chart and its start.
 //!
 //!     charts [--seed N] [--starts N]
+//!     charts --turns N
 //!
 //! First the entry at every index of 16 bits; then starts, plain and finishing, on
 //! sessions that are made from the seed, with all 128 sets of flags from each of them,
@@ -13,10 +14,14 @@
 //! how often entries were reached, and exits with 1 if one of the 512 was not by an
 //! accepted start of either kind, in an edition, from either front, or if a refusal never
 //! came up.
+//!
+//! With `--turns` the library's starts by the rules and by the chart are measured instead,
+//! in so many turns.
 
 mod cases;
 mod check;
 mod library;
+mod measured;
 #[cfg(test)]
 mod tests;
 
@@ -42,12 +47,17 @@ use library::{Library, Linked};
 const OTHERS: u64 = 40;
 
 fn main() -> ExitCode {
-    let Some([seed, starts]) = run::options([("--seed", 1), ("--starts", 2_000_000)]) else {
-        eprintln!("usage: charts [--seed N] [--starts N]");
+    let known = [("--seed", 1), ("--starts", 2_000_000), ("--turns", 0)];
+    let Some([seed, starts, turns]) = run::options(known) else {
+        eprintln!("usage: charts [--seed N] [--starts N] [--turns N]");
         return ExitCode::from(2);
     };
     let begun = Instant::now();
     lent_calls::library::expect_abi();
+    if turns > 0 {
+        measured::print_table(turns);
+        return ExitCode::SUCCESS;
+    }
     fault::watch("charts");
     let mut checker = Checker::new(Linked);
     let found = compare(&mut checker, seed, starts);
