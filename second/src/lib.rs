@@ -13,6 +13,7 @@
 //! - `reason`: the rule that a start uses and the task found, in four numbers
 //! - `chart`: what the flags do, in a table of 512 entries
 //! - `image`: the image of a session and how it is read back
+//! - `fronts`: which screens a start could bring to the front, where flags are missing
 //! - `calls`: every call with all its checks, from bytes to an answer
 //! - `play`: the player, from standard input's format to lines, with or without
 //!   the reasons under starts
@@ -38,6 +39,7 @@ pub mod chart;
 pub mod closings;
 pub mod depth;
 pub mod edition;
+pub mod fronts;
 pub mod hex;
 pub mod image;
 pub mod lists;
@@ -104,4 +106,6 @@ pub enum Refusal {
     /// Panels: a ninth recorded step, an unrecorded one over recorded ones, or Back with
     /// none.
     NoStep = 38,
+    /// Fronts: a bit of the mask outside the seven, or a value bit outside the mask.
+    KnownBits = 35,
 }
