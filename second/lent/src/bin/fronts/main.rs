@@ -2,6 +2,7 @@
 //! start are missing, with the second navigator's start made for each filling.
 //!
 //!     fronts [--seed N] [--calls N]
+//!     fronts --turns N
 //!
 //! Small sessions made from the seed, in each edition and with a No-History front and
 //! another, with every mask and every value of the seven flags; then any sessions, full
@@ -10,10 +11,13 @@
 //! right behind one. At the first difference it is printed, as small as it can be made,
 //! and the exit code is 1, as after a fault. At the end the program prints how often each
 //! case came up, and exits with 1 if one never did.
+//!
+//! With `--turns` calls of both with nothing known are measured instead, in so many turns.
 
 mod cases;
 mod check;
 mod library;
+mod measured;
 #[cfg(test)]
 mod tests;
 
@@ -42,12 +46,17 @@ const SMALL: u64 = 70;
 const OTHERS: u64 = 30;
 
 fn main() -> ExitCode {
-    let Some([seed, calls]) = run::options([("--seed", 1), ("--calls", 500_000)]) else {
-        eprintln!("usage: fronts [--seed N] [--calls N]");
+    let known = [("--seed", 1), ("--calls", 500_000), ("--turns", 0)];
+    let Some([seed, calls, turns]) = run::options(known) else {
+        eprintln!("usage: fronts [--seed N] [--calls N] [--turns N]");
         return ExitCode::from(2);
     };
     let begun = Instant::now();
     lent_calls::library::expect_abi();
+    if turns > 0 {
+        measured::print_table(turns);
+        return ExitCode::SUCCESS;
+    }
     fault::watch("fronts");
     let mut checker = Checker::new(Linked);
     let found = compare(&mut checker, seed, calls);
