@@ -164,6 +164,20 @@ extern "C" {
     fn milchkompass_tally_add(t: *mut Tally, refusal: u8, height: u8) -> u8;
     fn milchkompass_tally_report(t: Tally) -> Report;
     fn milchkompass_chart(index: u16) -> u8;
+    fn milchkompass_start_by_chart(
+        table: *const u8,
+        table_length: usize,
+        s: *mut Session,
+        b: u8,
+        word: u32,
+    ) -> Answer;
+    fn milchkompass_finish_start_by_chart(
+        table: *const u8,
+        table_length: usize,
+        s: *mut Session,
+        b: u8,
+        word: u32,
+    ) -> Answer;
 }
 
 // SAFETY of each call below: pointers and lengths are those of whole slices,
@@ -277,6 +291,14 @@ pub fn tally_add(t: &mut Tally, refusal: u8, height: u8) -> u8 {
 pub fn tally_report(t: Tally) -> Report {
     check_abi();
     unsafe { milchkompass_tally_report(t) }
+}
+
+pub fn start_by_chart(table: &[u8], s: &mut Session, b: u8, word: u32) -> Answer {
+    unsafe { milchkompass_start_by_chart(table.as_ptr(), table.len(), s, b, word) }
+}
+
+pub fn finish_start_by_chart(table: &[u8], s: &mut Session, b: u8, word: u32) -> Answer {
+    unsafe { milchkompass_finish_start_by_chart(table.as_ptr(), table.len(), s, b, word) }
 }
 
 pub fn chart(index: u16) -> u8 {
