@@ -10,14 +10,15 @@ use Rattle.model.specs.Lists.{if_then_else_}
 use Rattle.model.specs.Refusals.{refusal}
 use Rattle.model.specs.Session.{mostTasks}
 use Rattle.model.specs.Flags.{flagsOf}
-use Rattle.model.specs.Answers.{refused}
+use Rattle.model.specs.Answers.{refused, answerBy, lookAt}
 use Rattle.model.specs.Calls.{Call, chosen, launch, start, finishingStart, back, look, editionNamed, launched, started, startChecks, roomChecks, ownChecks, closedOf, done}
 use Rattle.model.proofs.RefusalLaws.{refusal-append-refused, refusal-append-passed}
 use Rattle.session.specs.declared.Session.{Session}
+use Rattle.session.specs.declared.Task.{Task}
 use Rattle.session.specs.Stored.{view, hold, holdTask, pad, blankTask, Ready, taskBehind}
 use Rattle.session.proofs.Known.{Sized}
 use Rattle.session.proofs.StoredLaws.{held, sound-blank}
-use Rattle.answer.specs.Seen.{Seen}
+use Rattle.answer.specs.Seen.{Seen, answerOf}
 use Rattle.rules.specs.Startable.{Startable}
 use Rattle.starts.specs.Checks.{startEntry, roomRefusal}
 use Rattle.starts.proofs.Entries.{start-numbers, start-split}
@@ -25,14 +26,16 @@ use Rattle.plans.specs.declared.Plan.{Plan}
 use Rattle.plans.specs.Puts.{Puttable}
 use Rattle.plans.proofs.Puts.{putOf}
 use Rattle.plans.specs.Plans.{stillOf, keeps, closes, Opens}
-use Rattle.plans.specs.Shown.{answerFor, Showable}
+use Rattle.plans.specs.Shown.{shownBy, answerFor, Showable}
 use Rattle.plans.proofs.Closes.{closed-puttable, still-put, still-puttable, back-put, back-puttable, back-opens}
 use Rattle.plans.proofs.Answered.{Uncovers, showable, answers-look, refused-showable}
-use Rattle.starts.specs.Steps.{orElse, Plannable, chosenStored, roomyPlan, planUnless, planStored}
+use Rattle.starts.specs.declared.Sought.{Sought}
+use Rattle.starts.specs.declared.Decided.{Decided}
+use Rattle.starts.specs.Steps.{orElse, SoughtFrom, Plannable, taskFor, chosenStored, planUnless, decidedBy, decidedStored}
 use Rattle.starts.proofs.Planning.{made, madeClosed, start-put, start-puttable, start-uncovers, start-closes, start-accepts}
-use Rattle.starts.proofs.Seeking.{entered-startable}
+use Rattle.starts.proofs.Seeking.{entered-startable, roomyPlan, decided-plan, decided-stored}
 use Rattle.calls.specs.declared.Reply.{Reply}
-use Rattle.calls.specs.StoredCalls.{reply, refusalStored, sharedRefusal, callStored}
+use Rattle.calls.specs.StoredCalls.{reply, givenBy, refusalStored, sharedRefusal, callStored}
 use Rattle.calls.specs.CallPlans.{launchRefusal, mainTask, launchPlan, backRefusal, backMark, backPlan}
 use Rattle.calls.proofs.Settling.{shared-ready, number-shared, number-own, call-refused, own-refused, own-accepted, own-seen, own-sized, empty-view, filled-view, launch-own, launch-22, back-own, back-21}
 
@@ -55,6 +58,21 @@ still-gives c z n =
       showable = refused-showable (stillOf c (suc n)) (taskBehind c 1) (λ q. omega (arith, q));
       gives = ap (λ (d : Session). reply d (refused (suc n))) (still-put c z (suc n));
     }
+
+-- the refusal of a plan is that of the call which it gives
+pub gives-refusal : (tb : List ℕ) (c : Session) (k : Call) {p : Plan} → Gives c p (callStored tb c k) → p .refusal ≡ refusalStored tb c k
+unfolding callStored lookAt
+gives-refusal tb c k {p} g =
+    sym (answered (p .refusal) (p .n)) ∙ ap (λ (r : Reply). r .answer .refusal) (g .gives) ∙ settled (refusalStored tb c k)
+  where
+    answered : (n m : ℕ) → answerBy n (answerOf (shownBy (p .gone) (p .front) (taskBehind c 1)) m (p .main) (p .closed) (p .edition) (p .«no_history»)) .refusal ≡ n
+    answered zero zero = refl
+    answered zero (suc m) = refl
+    answered (suc n) m = refl
+
+    settled : (n : ℕ) → givenBy tb c k n .answer .refusal ≡ n
+    settled zero = refl
+    settled (suc n) = refl
 
 -- what a plan has to be for an accepted call
 pub record Makes-by (tb : List ℕ) (c : Session) (k : Call) (p : Plan) : Type 0 where
@@ -199,7 +217,7 @@ module _ (tb : List ℕ) (c : Session) (z : Sized c) where
 
 -- ---- starts
 
-or-or : (l m n : ℕ) → orElse (orElse l m) n ≡ orElse l (orElse m n)
+pub or-or : (l m n : ℕ) → orElse (orElse l m) n ≡ orElse l (orElse m n)
 or-or zero m n = refl
 or-or (suc l) m n = refl
 
@@ -259,7 +277,7 @@ module _ (tb : List ℕ) (c : Session) (z : Sized c) (b w : ℕ) (fin : Bool) wh
       go zero q room =
           let s : Startable tb c b = entered-startable tb c b w 0 h q in
           let ok : Plannable tb c b (flagsOf w) _ (chosenStored tb c b (flagsOf w)) =
-          record { chosen = record { refusal = refl; rule = refl; effect = refl; place = refl; index = refl }; task = refl; room = room } in
+          record { chosen = refl; task = refl; room = room } in
           record {
             accepted = start-accepts z s ok fin;
             puttable = start-puttable z s ok fin;
@@ -268,7 +286,12 @@ module _ (tb : List ℕ) (c : Session) (z : Sized c) (b w : ℕ) (fin : Bool) wh
             closes = start-closes z s ok fin ∙ made-closed fin;
           }
 
-  pub start-gives : (m : ℕ) → m ≡ sharedRefusal tb c → {n : ℕ} → n ≡ orElse m entry → Gives c (planStored n tb c b w fin) (callStored tb c does)
-  start-gives m shared {n} e =
-      rw (e, unless-unless (orElse m entry) roomOf c (roomyPlan tb c b (flagsOf w) fin), or-or m entry roomOf)
+  pub start-gives : (m : ℕ) → m ≡ sharedRefusal tb c → Gives c (decidedStored (orElse m entry) tb c b (flagsOf w) fin .plan) (callStored tb c does)
+  start-gives m shared =
+      rw (decided-plan tb c b (flagsOf w) fin (orElse m entry), unless-unless (orElse m entry) roomOf c (roomyPlan tb c b (flagsOf w) fin), or-or m entry roomOf)
       (gives-plan tb c z does m (orElse entry roomOf) shared start-number (roomyPlan tb c b (flagsOf w) fin) start-makes)
+
+  -- by what was sought
+  pub sought-gives : (m : ℕ) → m ≡ sharedRefusal tb c → {x : Sought} → SoughtFrom tb c b w m x → {t : Task} → t ≡ taskBehind c (x .index)
+      → {d : Decided} → d ≡ decidedBy fin b c t x → Gives c (d .plan) (callStored tb c does)
+  sought-gives m shared s task e = rw (e, decided-stored tb c b w m z s task fin) (start-gives m shared)

@@ -2,7 +2,7 @@
 use Prim.Native.Nat.{ℕ}
 use mathlib.Core.Bool.{not}
 use mathlib.Core.List.{List, [], _∷_}
-use lib.Dec.{eqb, leb}
+use lib.Dec.{eqb}
 use Rattle.model.specs.declared.Mark.{Mark}
 use Rattle.model.specs.Lists.{if_then_else_}
 use Rattle.model.specs.Table.{mainScreen}
@@ -41,4 +41,4 @@ backMark = Mark.Stands 0 0
 abbrev pub backPlan : ℕ → Session → Plan
 backPlan k c =
     planUnless (orElse k (backRefusal (c .n))) c
-    (closesWith backMark (leb (taskBehind c 0 .height) 1) (leb 0 1) (taskBehind c 0) 0 (c .n) (c .main) (c .edition) 0)
+    (closesWith backMark (taskBehind c 0) (record { second = 0; shift = 0; n = c .n; main = c .main; edition = c .edition; closed = 0 }))

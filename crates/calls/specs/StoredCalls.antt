@@ -7,7 +7,8 @@ use Rattle.model.specs.declared.Answer.{Answer}
 use Rattle.model.specs.Refusals.{refusal}
 use Rattle.model.specs.Table.{tableRefusal}
 use Rattle.model.specs.Answers.{refused, settle}
-use Rattle.model.specs.Calls.{Call, checksIn, ownChecks, done, answerTo}
+use Rattle.model.specs.Calls.{Call, checksIn, ownChecks, done, answerTo, createdOf}
+use Rattle.model.specs.Balance.{ifAccepted}
 use Rattle.model.specs.Player.{Request, unplayable, asks}
 use Rattle.model.specs.Histories.{Machine}
 use Rattle.session.specs.declared.Session.{Session}
@@ -36,6 +37,11 @@ callStored tb c k = givenBy tb c k (refusalStored tb c k)
 abbrev pub replyStored : List ℕ → Session → Request → Reply
 replyStored tb c unplayable = reply c (refused 9)
 replyStored tb c (asks k) = callStored tb c k
+
+-- the screens that it creates
+abbrev pub createdStored : List ℕ → Session → Request → ℕ
+createdStored tb c unplayable = 0
+createdStored tb c (asks k) = ifAccepted (refusalStored tb c k) (createdOf tb (view c) k)
 
 -- the program's calls under the table tb, one after the other (document 01, "Lists in demand 3")
 abbrev pub byProgram : List ℕ → Machine Session Call Answer

@@ -7,18 +7,17 @@ ghost use mathlib.Core.Path.{_≡_};
 ghost use Rattle.model.specs.Answers.{refused as refusedAnswer};
 ghost use Rattle.model.specs.Calls.{Call, editionNamed};
 ghost use Rattle.model.specs.Table.{tableRefusal};
-ghost use Rattle.model.specs.declared.Rule.{Rule};
 ghost use Rattle.session.specs.Stored.{taskBehind, Ready};
 ghost use Rattle.records.specs.Records.{isStarting, requestFor};
 ghost use Rattle.plans.specs.Plans.{Opens};
 ghost use Rattle.starts.specs.Steps.{orElse};
-ghost use Rattle.calls.specs.StoredCalls.{reply, sharedRefusal, callStored, replyStored};
+ghost use Rattle.calls.specs.StoredCalls.{reply, sharedRefusal, callStored, replyStored, createdStored};
 ghost use Rattle.calls.specs.CallPlans.{launchRefusal, launchPlan, backRefusal, backMark, backPlan};
-ghost use Rattle.calls.specs.RecordPlans.{SoughtFor, PlannedFor, planFor, ruleFor};
+ghost use Rattle.calls.specs.RecordPlans.{SoughtFor, PlannedFor, launched as launchedBy, decidedFor};
 use model::Answer;
 use model::Effect;
 use model::Mark;
-use model::Rule;
+use plans::Moved;
 use plans::Plan;
 use records::Asked;
 use records::Record;
@@ -115,7 +114,15 @@ pub fn launch_plan(table: &[u8], s: Session, edition: u8, shared: u8) -> Plan
     let b = table::main_screen(table);
     let blank = s.tasks[0];
     let front = effects::front_after(blank, b, Effect::New, 0);
-    plans::closing_plan(Mark::Gone, front, 0, 0, 1, 1, edition_named(edition), 0)
+    let moved = Moved {
+        second: 0,
+        shift: 0,
+        n: 1,
+        main: 1,
+        edition: edition_named(edition),
+        closed: 0,
+    };
+    plans::closing_plan(Mark::Gone, front, moved)
 }
 
 // The plan of a Back: the top screen of the front task closes, as a marked one does.
@@ -128,7 +135,15 @@ pub fn back_plan(s: Session, shared: u8) -> Plan
         return plans::still(s, refusal);
     }
     let front = s.tasks[0];
-    plans::closing_plan(Mark::Stands(0, 0), front, 0, 0, s.n, s.main, s.edition, 0)
+    let moved = Moved {
+        second: 0,
+        shift: 0,
+        n: s.n,
+        main: s.main,
+        edition: s.edition,
+        closed: 0,
+    };
+    plans::closing_plan(Mark::Stands(0, 0), front, moved)
 }
 
 // Launch, on an empty session, in an edition.
@@ -180,7 +195,8 @@ pub fn start(table: &[u8], s: Session, b: u8, word: u32, shared: u8) -> Reply
     let sought = starts::seek(table, s, b, word, shared);
     let i = sought.index;
     let t = out.tasks[i];
-    let plan = starts::plan(table, s, t, sought, b, word, false);
+    let decided = starts::decide(s, t, sought, b, false);
+    let plan = decided.plan;
     let second = out.tasks[1];
     let answer = plans::answer_of(plan, second);
     out.n = plan.n;
@@ -202,7 +218,8 @@ pub fn finish_start(table: &[u8], s: Session, b: u8, word: u32, shared: u8) -> R
     let sought = starts::seek(table, s, b, word, shared);
     let i = sought.index;
     let t = out.tasks[i];
-    let plan = starts::plan(table, s, t, sought, b, word, true);
+    let decided = starts::decide(s, t, sought, b, true);
+    let plan = decided.plan;
     let second = out.tasks[1];
     let answer = plans::answer_of(plan, second);
     out.n = plan.n;
@@ -213,6 +230,16 @@ pub fn finish_start(table: &[u8], s: Session, b: u8, word: u32, shared: u8) -> R
         session: plans::put(out, plan),
         answer: answer,
     }
+}
+
+// What a start of b with a flag word would answer; nothing is put.
+pub fn start_answer(table: &[u8], s: Session, b: u8, word: u32, shared: u8) -> Answer
+    requires { ⌜ shared ≡ sharedRefusal (now table) s ⌝ }
+    ensures { λ r. ⌜ r ≡ callStored (now (table .entry)) s (Call.start b word) .answer ⌝ }
+{
+    let decided = starts::decide_start(table, s, b, word, false, shared);
+    let second = s.tasks[1];
+    plans::answer_of(decided.plan, second)
 }
 
 // ---- records
@@ -229,40 +256,46 @@ pub fn seek_for(table: &[u8], s: Session, r: Record, refusal: u8) -> Sought
     }
 }
 
-// A plan that no rule made: R18 stands for none, as where a start is refused.
-fn without_rule(plan: Plan) -> Decided
-    ensures { λ d. ⌜ (d .plan ≡ plan) × (d .rule ≡ Rule.R18) ⌝ }
+// What is decided of a launch with this plan: a screen is created where it is not refused.
+fn launched(plan: Plan) -> Decided
+    ensures { λ d. ⌜ d ≡ launchedBy plan ⌝ }
 {
-    Decided {
-        plan: plan,
-        rule: Rule::R18,
+    if plan.refusal != 0 {
+        return starts::without_rule(plan, 0);
     }
+    starts::without_rule(plan, 1)
 }
 
 // What is decided of it; t is the task at the index that was sought.
 pub fn decide_for(table: &[u8], s: Session, t: Task, sought: Sought, r: Record) -> Decided
-    requires { ⌜ PlannedFor (isStarting (r .asked)) (now table) s (r .screen) (r .word) t sought ⌝ }
-    ensures plan { λ d. ⌜ d .plan ≡ planFor (sought .refusal) (now (table .entry)) s r ⌝ }
-    ensures rule { λ d. ⌜ d .rule ≡ ruleFor (isStarting (r .asked)) (sought .refusal) (now (table .entry)) s (r .screen) (r .word) ⌝ }
+    requires { ⌜ PlannedFor (isStarting (r .asked)) (now table) s (r .screen) t sought ⌝ }
+    ensures { λ d. ⌜ d ≡ decidedFor (r .asked) (now (table .entry)) s t sought (r .screen) ⌝ }
 {
     let asked = r.asked;
     match asked {
-        Asked::Launch => without_rule(launch_plan(table, s, r.screen, sought.refusal)),
+        Asked::Launch => launched(launch_plan(table, s, r.screen, sought.refusal)),
         Asked::Start | Asked::FinishingStart => {
             let finishing = records::is_finishing(asked);
-            starts::decide(table, s, t, sought, r.screen, r.word, finishing)
+            starts::decide(s, t, sought, r.screen, finishing)
         }
-        Asked::Back => without_rule(back_plan(s, sought.refusal)),
-        Asked::Look => without_rule(plans::still(s, sought.refusal)),
-        Asked::Nothing => without_rule(plans::still(s, 9)),
+        Asked::Back => starts::without_rule(back_plan(s, sought.refusal), 0),
+        Asked::Look => starts::without_rule(plans::still(s, sought.refusal), 0),
+        Asked::Nothing => starts::without_rule(plans::still(s, 9), 0),
     }
 }
 
-// What a record gives; shared is the refusal of the checks that all calls share. It has a body of its own, so that each call
-// above has one caller: a second one costs a copy of the session.
-pub fn reply_to(table: &[u8], s: Session, r: Record, shared: u8) -> Reply
+// What a record gives, and how many screens it creates.
+pub struct Made {
+    pub reply: Reply,
+    pub created: u8,
+}
+
+// Makes the call that a record asks for; shared is the refusal of the checks that all calls share. It has a body of its own, so that
+// each call above has one caller: a second one costs a copy of the session.
+pub fn make(table: &[u8], s: Session, r: Record, shared: u8) -> Made
     requires { ⌜ shared ≡ sharedRefusal (now table) s ⌝ }
-    ensures { λ x. ⌜ x ≡ replyStored (now (table .entry)) s (requestFor r) ⌝ }
+    ensures reply { λ x. ⌜ x .reply ≡ replyStored (now (table .entry)) s (requestFor r) ⌝ }
+    ensures created { λ x. ⌜ x .created ≡ createdStored (now (table .entry)) s (requestFor r) ⌝ }
 {
     let mut out = s;
     let sought = seek_for(table, s, r, shared);
@@ -276,8 +309,12 @@ pub fn reply_to(table: &[u8], s: Session, r: Record, shared: u8) -> Reply
     out.main = plan.main;
     out.edition = plan.edition;
     out.no_history = plan.no_history;
-    Reply {
+    let reply = Reply {
         session: plans::put(out, plan),
         answer: answer,
+    };
+    Made {
+        reply: reply,
+        created: decided.created,
     }
 }

@@ -164,5 +164,5 @@ pub fn play_record(table: &[u8], s: Session, calls: &[u8]) -> Reply
     }
     let r = records::read(calls, 0);
     let refusal = shared_refusal(table, s);
-    calls::reply_to(table, s, r, refusal)
+    calls::make(table, s, r, refusal).reply
 }

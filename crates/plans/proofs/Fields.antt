@@ -9,7 +9,7 @@ use Rattle.model.specs.Session.{editionKept}
 use Rattle.model.specs.Marks.{closedAt}
 use Rattle.session.specs.declared.Task.{Task}
 use Rattle.plans.specs.declared.Plan.{Plan}
-use Rattle.plans.specs.Plans.{closes, planWithClosed, closesWith, goneBy, frontBy, popsBy, countBy, mainBy}
+use Rattle.plans.specs.Plans.{closes, planWithClosed, goneBy, frontBy, popsBy, countBy, mainBy}
 
 abbrev fields : Mark → ℕ → Task → ℕ → ℕ → ℕ → ℕ → ℕ → Plan
 fields mark g t k n m e x =
@@ -40,7 +40,7 @@ pub plan-by : (mark : Mark) (one one′ : Bool) (t : Task) (k n m e x : ℕ) →
     → {u : Task} → u ≡ frontBy mark g t → {b : Bool} → b ≡ popsBy mark g → {n′ : ℕ} → n′ ≡ countBy g n → {m′ : ℕ} → m′ ≡ mainBy g m
     → {x′ : ℕ} → x′ ≡ x + closedAt mark → {e′ : ℕ} → e′ ≡ editionKept n′ e
     → record { front = u; main = m′; shift = k; n = n′; gone = g; pops = b; refusal = 0; closed = x′; edition = e′; «no_history» = 0 }
-    ≡ closesWith mark one one′ t k n m e x
+    ≡ planWithClosed (x + closedAt mark) (closes mark one one′ t k n m e)
 plan-by mark one one′ t k zero m e x l g u b n′ m′ x′ e′ = absurd (omega arith)
 plan-by mark one one′ t k (suc n) m e x l g u b n′ m′ x′ e′ =
     rw (e′, u, b, n′, m′, x′, g) (by-fields mark one one′ t k n m e (x + closedAt mark))

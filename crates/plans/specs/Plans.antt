@@ -2,7 +2,7 @@
 use Prim.Native.Nat.{ℕ, zero, suc, _+_, _-_, _<_}
 use mathlib.Core.Path.{_≡_}
 use mathlib.Core.Bool.{Bool, true, false, not, _&&_}
-use lib.Dec.{eqb, ltb}
+use lib.Dec.{eqb, ltb, leb}
 use Rattle.model.specs.declared.Mark.{Mark}
 use Rattle.model.specs.Lists.{if_then_else_, omit}
 use Rattle.model.specs.Session.{stack, mostTasks, editionKept}
@@ -11,6 +11,7 @@ use Rattle.model.specs.Marks.{closedAt}
 use Rattle.session.specs.declared.Task.{Task}
 use Rattle.session.specs.declared.Session.{Session}
 use Rattle.session.specs.Stored.{viewTask, holdTask, blankAbove, taskBehind}
+use Rattle.plans.specs.declared.Moved.{Moved}
 use Rattle.plans.specs.declared.Plan.{Plan}
 
 -- ---- a refused call: nothing changes
@@ -103,9 +104,11 @@ planWithNoHistory h p =
       «no_history» = h;
     }
 
--- the same, where x screens closed before the marked one does
-abbrev pub closesWith : Mark → Bool → Bool → Task → ℕ → ℕ → ℕ → ℕ → ℕ → Plan
-closesWith mark one one′ t k n m e x = planWithClosed (x + closedAt mark) (closes mark one one′ t k n m e)
+-- the task t came in front, the rest moved so, and then the marked screen closes
+abbrev pub closesWith : Mark → Task → Moved → Plan
+closesWith mark t v =
+    planWithClosed (v .closed + closedAt mark)
+    (closes mark (leb (t .height) 1) (leb (v .second) 1) t (v .shift) (v .n) (v .main) (v .edition))
 
 -- a plan field by field as code makes it; g is the field gone
 abbrev pub goneBy : Mark → Bool → Bool → ℕ

@@ -212,33 +212,35 @@ fn edition_by(n: u8, edition: u8) -> u8
     edition
 }
 
-// t comes in front and so many tasks go back, by which so many screens closed, and then the marked screen closes; second is the
-// height of the task behind t. The No-History mark is cleared.
-pub fn closing_plan(
-    mark: Mark,
-    t: Task,
-    second: u8,
-    shift: u8,
-    n: u8,
-    main: u8,
-    edition: u8,
-    closed: u8,
-) -> Plan
-    requires { ⌜ Opens mark t × (1 ≤ n) × (closed ≤ mostHeight) ⌝ }
-    ensures { λ r. ⌜ r ≡ closesWith mark (leb (t .height) 1) (leb second 1) t shift n main edition closed ⌝ }
+// What moves where a task comes in front, before the marked screen closes: the height of the task behind it, how many tasks go one
+// place back, the numbers, the edition, and how many screens closed. The task itself stands beside it: within it costs the player
+// half of its instructions more.
+pub struct Moved {
+    pub second: u8,
+    pub shift: u8,
+    pub n: u8,
+    pub main: u8,
+    pub edition: u8,
+    pub closed: u8,
+}
+
+// The plan of t in front and of that, and then the marked screen closes. The No-History mark is cleared.
+pub fn closing_plan(mark: Mark, t: Task, moved: Moved) -> Plan
+    requires { ⌜ Opens mark t × (1 ≤ moved .n) × (moved .closed ≤ mostHeight) ⌝ }
+    ensures { λ r. ⌜ r ≡ closesWith mark t moved ⌝ }
 {
-    let gone = gone_by(mark, t.height, second);
-    let left = count_by(gone, n);
+    let gone = gone_by(mark, t.height, moved.second);
+    let left = count_by(gone, moved.n);
     Plan {
         front: front_by(mark, gone, t),
-        main: main_by(gone, main),
-        shift: shift,
+        main: main_by(gone, moved.main),
+        shift: moved.shift,
         n: left,
         gone: gone,
         pops: pops_by(mark, gone),
         refusal: 0,
-        closed: closed_with(mark, closed),
-        edition: edition_by(left, edition),
+        closed: closed_with(mark, moved.closed),
+        edition: edition_by(left, moved.edition),
         no_history: 0,
     }
 }

@@ -16,7 +16,6 @@ use model::Answer;
 use session::Session;
 use session::Task;
 use starts::Decided;
-use starts::Sought;
 use tally::Tally;
 
 // What is said of each record: nothing, and its answer is tallied; the player's line; the reason too, under that of a start; or that
@@ -53,17 +52,16 @@ fn write_record(
     kind: u8,
     answer: Answer,
     decided: Decided,
-    sought: Sought,
     words: bool,
 ) -> usize
     requires { ⌜ at + longestExplained ≤ length (now out) ⌝ }
-    ensures place { λ p. ⌜ p ≡ at + length (recordSaid words kind answer (reasonMade decided sought)) ⌝ }
-    ensures text { λ p. ⌜ now (out .exit) ≡ writtenInto (now (out .entry)) at (recordSaid words kind answer (reasonMade decided sought)) ⌝ }
+    ensures place { λ p. ⌜ p ≡ at + length (recordSaid words kind answer (reasonMade decided)) ⌝ }
+    ensures text { λ p. ⌜ now (out .exit) ≡ writtenInto (now (out .entry)) at (recordSaid words kind answer (reasonMade decided)) ⌝ }
     ensures bound { λ p. ⌜ p ≤ at + longestExplained ⌝ }
 {
     let end = line::write_line(out, at, kind, answer);
     if (kind == 2) | (kind == 3) {
-        return under::write_reason(out, end, reasons::of(decided, sought), words);
+        return under::write_reason(out, end, reasons::of(decided), words);
     }
     end
 }
@@ -77,11 +75,10 @@ fn speak(
     kind: u8,
     answer: Answer,
     decided: Decided,
-    sought: Sought,
 ) -> Spoken
     requires { ⌜ at + longestSaid manner ≤ length (now out) ⌝ }
-    ensures place { λ r. ⌜ r .at ≡ at + length (said manner kind answer (reasonMade decided sought)) ⌝ }
-    ensures text { λ r. ⌜ now (out .exit) ≡ writtenInto (now (out .entry)) at (said manner kind answer (reasonMade decided sought)) ⌝ }
+    ensures place { λ r. ⌜ r .at ≡ at + length (said manner kind answer (reasonMade decided)) ⌝ }
+    ensures text { λ r. ⌜ now (out .exit) ≡ writtenInto (now (out .entry)) at (said manner kind answer (reasonMade decided)) ⌝ }
     ensures bound { λ r. ⌜ r .at ≤ at + longestSaid manner ⌝ }
     ensures tally { λ r. ⌜ r .tally ≡ talliedIn manner tally answer ⌝ }
 {
@@ -99,7 +96,7 @@ fn speak(
             }
         }
         Manner::Reasons | Manner::Sentences => {
-            let end = write_record(out, at, kind, answer, decided, sought, in_words(manner));
+            let end = write_record(out, at, kind, answer, decided, in_words(manner));
             Spoken {
                 at: end,
                 tally: tally,
@@ -174,7 +171,7 @@ pub fn run(
             };
             s.tasks[plans::LAST] = blank;
         }
-        let spoken = speak(out, at, told, manner, r.kind, answer, decided, sought);
+        let spoken = speak(out, at, told, manner, r.kind, answer, decided);
         at = spoken.at;
         told = spoken.tally;
     }

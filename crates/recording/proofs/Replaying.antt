@@ -27,7 +27,7 @@ use Rattle.calls.specs.StoredCalls.{byProgram}
 use Rattle.calls.proofs.HistoryLaws.{call-held, after-held}
 use Rattle.recording.specs.declared.Counted.{Counted}
 use Rattle.recording.specs.CallBytes.{imageLength, callAsked, callOf, callsIn}
-use Rattle.recording.specs.Counts.{replyTo, CreatesFor, closing, Counts}
+use Rattle.recording.specs.Counts.{replyTo, createdFor, closing, Counts}
 use Rattle.recording.proofs.Reading.{lengthAt, callAt, whole-at, cut-at, few-at}
 
 -- ---- one record
@@ -139,9 +139,10 @@ module _ {tb l : List ℕ} {c₀ c : Session} {p x y : ℕ} (h : Reached tb l c�
     pub reached-closed : y + r .answer .closed ≤ p + 6 + n
     reached-closed = omega (arith, h .low, taken .low, taken .closed)
 
-    module _ (z : ℕ) (creates : CreatesFor tb (view c) (getD l p 0) (getD l (p + 1) 0) w z) where
+    module _ (z : ℕ)
+        (creates : z ≡ createdFor tb (view c) (callOf (getD l p 0) (getD l (p + 1) 0) w (take (p + 6 + n - (p + 6)) (drop (p + 6) l)))) where
       e : z ≡ along (byRules tb) (created tb) (view c) ks
-      e = rw ew at (creates (take (lengthAt l p) (drop (p + 6) l)))
+      e = let i : p + 6 + n - (p + 6) ≡ lengthAt l p = omega (arith, m) in rw (i, ew) at creates
 
       pub reached-created : x + z ≤ p + 6 + n
       reached-created = omega (arith, h .few, e, taken .few)

@@ -11,7 +11,6 @@ use Rattle.session.specs.declared.Session.{Session}
 use Rattle.session.specs.Stored.{view}
 use Rattle.calls.specs.declared.Reply.{Reply}
 use Rattle.calls.specs.StoredCalls.{reply, callStored, byProgram}
-use Rattle.recording.specs.CallBytes.{callOf}
 use Rattle.recording.specs.declared.Counted.{Counted}
 use Rattle.recording.specs.declared.Screens.{Screens}
 
@@ -20,9 +19,9 @@ abbrev pub replyTo : List ℕ → Session → List Call → Reply
 replyTo tb c [] = reply c (refused 9)
 replyTo tb c (k ∷ ks) = callStored tb c k
 
--- the screens that the call of a record creates, whatever image follows it
-abbrev pub CreatesFor : List ℕ → State ℕ → ℕ → ℕ → ℕ → ℕ → Type 0
-CreatesFor tb s kind b w x = (bytes : List ℕ) → x ≡ along (byRules tb) (created tb) s (callOf kind b w bytes)
+-- the screens that the call of a record creates
+abbrev pub createdFor : List ℕ → State ℕ → List Call → ℕ
+createdFor tb s ks = along (byRules tb) (created tb) s ks
 
 -- the closed number of a call's answer
 abbrev pub closing : List ℕ → State ℕ → Call → ℕ

@@ -19,10 +19,11 @@ ghost use Rattle.calls.specs.StoredCalls.{KeepsSound};
 ghost use Rattle.navigator.specs.Promise3.{reached, KeepsPromise3};
 ghost use Rattle.notes.specs.Places.{Tells};
 ghost use Rattle.recording.specs.CallBytes.{imageLength, callOf, callsIn};
-ghost use Rattle.recording.specs.Counts.{replyTo, CreatesFor, Counts, CountsScreens};
+ghost use Rattle.recording.specs.Counts.{replyTo, createdFor, Counts, CountsScreens};
 ghost use Rattle.recording.specs.Ignored.{ignoredFrom};
 ghost use Rattle.recording.specs.OneCall.{recordLength, callLength, calledStored};
 ghost use Rattle.recording.specs.Replay.{replayed, EveryList, EndAlike, TellsImages};
+use calls::Made;
 use calls::Reply;
 use notes::Notes;
 use records::Record;
@@ -41,13 +42,19 @@ fn image_length(kind: u8, word: u32) -> usize
     0
 }
 
-// What the call of one whole record gives, with the image that follows it. An unknown kind is no call.
-fn reply_with_image(table: &[u8], s: Session, kind: u8, b: u8, word: u32, image: &[u8]) -> Reply
+// What the call of one whole record gives, with the image that follows it, and how many screens it creates. An unknown kind is no
+// call.
+fn make_with_image(table: &[u8], s: Session, kind: u8, b: u8, word: u32, image: &[u8]) -> Made
     requires { ⌜ Ready (now table) s ⌝ }
-    ensures { λ r. ⌜ r ≡ replyTo (now (table .entry)) s (callOf kind b word (now (image .entry))) ⌝ }
+    ensures reply { λ r. ⌜ r .reply ≡ replyTo (now (table .entry)) s (callOf kind b word (now (image .entry))) ⌝ }
+    ensures created { λ r. ⌜ r .created ≡ createdFor (now (table .entry)) (view s) (callOf kind b word (now (image .entry))) ⌝ }
 {
     if kind == 6 {
-        return image_calls::restore(table, s, image, 0);
+        let reply = image_calls::restore(table, s, image, 0);
+        return Made {
+            reply: reply,
+            created: 0,
+        };
     }
     let r = Record {
         kind: kind,
@@ -55,7 +62,7 @@ fn reply_with_image(table: &[u8], s: Session, kind: u8, b: u8, word: u32, image:
         screen: b,
         word: word,
     };
-    calls::reply_to(table, s, r, 0)
+    calls::make(table, s, r, 0)
 }
 
 // ---- one call
@@ -105,24 +112,6 @@ pub fn play_call(table: &[u8], s: Session, calls: &[u8]) -> Reply
     navigator::play_record(table, s, calls)
 }
 
-// How many screens the call of a record creates.
-fn created_for(table: &[u8], s: Session, kind: u8, b: u8, word: u32) -> u8
-    requires { ⌜ Ready (now table) s ⌝ }
-    ensures { λ r. ⌜ CreatesFor (now (table .entry)) (view s) kind b word r ⌝ }
-{
-    match kind {
-        1 => {
-            if calls::launch_refusal(s.n, b) == 0 {
-                return 1;
-            }
-            0
-        }
-        2 => starts::created(table, s, b, word),
-        3 => starts::created(table, s, b, word),
-        _ => 0,
-    }
-}
-
 fn wide(x: u8) -> u64
     ensures { λ r. ⌜ r ≡ x ⌝ }
 {
@@ -159,8 +148,9 @@ fn after_calls(table: &[u8], begun: Session, calls: &[u8]) -> Counted
             };
         }
         p = from + n;
-        created += wide(created_for(table, s, kind, b, word));
-        let reply = reply_with_image(table, s, kind, b, word, &calls[from..p]);
+        let made = make_with_image(table, s, kind, b, word, &calls[from..p]);
+        created += wide(made.created);
+        let reply = made.reply;
         let answer = reply.answer;
         closed += wide(answer.closed);
         s = reply.session;

@@ -11,7 +11,7 @@ use Rattle.model.specs.declared.Group.{Group}
 use Rattle.model.specs.Table.{sizeOf}
 use Rattle.model.specs.Session.{Stack, noStack, frontScreen, count, top, mostTasks}
 use Rattle.model.specs.Search.{seekRoot, seek}
-use Rattle.model.specs.Rules.{soughtBy}
+use Rattle.model.specs.Rules.{groupOf, soughtBy, chooseIn, choose}
 use Rattle.model.proofs.Logic.{All-at, if-elim}
 use Rattle.model.proofs.Sound.{TaskSound}
 use Rattle.model.proofs.SearchLaws.{HasRoot, HasAffinity, FirstTask, FindsByRoot, Finds, seekRoot-exact, seek-exact}
@@ -102,6 +102,10 @@ module _ (tb : List ℕ) (c : Session) (b : ℕ) (z : Sized c) (h : Startable tb
   sought-index f Group.NotApart = h .some
   sought-index f Group.Apart = if-elim (λ t. indexOf t < c .n) (f .mtk) Found.Nowhere (seek tb (view c .edition) b (view c .tasks)) (λ _. h .some) (λ _. rw (view-edition c) seek-index)
 
-  -- a task stands at the index of the task that a group seeks
+  -- a task stands at the index of the task that is chosen, or that a group seeks
   pub index-stands : (f : Flags) (g : Group) {t : Found} → t ≡ soughtBy tb (view c) b f g → {i : ℕ} → i ≡ indexOf t → i < c .n
   index-stands f g e k = rw (k, e) (sought-index f g)
+
+  pub choice-stands : (f : Flags) → indexOf (choose tb (view c) b f .found) < c .n
+  unfolding choose chooseIn
+  choice-stands f = sought-index f (groupOf tb (view c) b f)

@@ -3,7 +3,6 @@ use Prim.Native.Nat.{ℕ, pred, _≤_}
 use mathlib.Core.Path.{_≡_}
 use lib.ListN.{getD}
 use Rattle.model.specs.declared.Found.{Found}
-use Rattle.model.specs.declared.Group.{Group}
 use Rattle.model.specs.Session.{State, noStack, mostHeight}
 use Rattle.model.specs.Search.{placeOf}
 use Rattle.session.specs.declared.Task.{Task}
@@ -16,13 +15,6 @@ indexOf found = pred (placeOf found)
 -- the session v has the task t there: t is the task found, or the front task where none was found
 abbrev pub Shows : State ℕ → Found → Task → Type 0
 Shows v found t = getD (v .tasks) (indexOf found) noStack ≡ viewTask t
-
--- what the rules of a group read, where a task was found: that task, or the front task where they seek none, R7 to R10
-abbrev pub readBy : Group → Found → Found
-readBy Group.Instance found = found
-readBy Group.Task found = found
-readBy Group.NotApart found = Found.Nowhere
-readBy Group.Apart found = found
 
 -- a task of 1 to 32 screens, as a sound session stores it
 abbrev pub Filled : Task → Type 0

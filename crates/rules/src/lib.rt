@@ -1,13 +1,13 @@
-// Which rule a start uses, the task found for it, what the rule does, and whether there is room for it.
+// Which rule a start uses, the task found for it, what the rule does, and whether there is room for it. The search and the choice
+// take the group of rules and what they ask of the flags as values.
 
 ghost use Prim.Native.Nat.{ℕ, _+_, _*_, _≤_, _<_};
 ghost use mathlib.Core.Path.{_≡_};
 ghost use mathlib.Core.Bool.{_&&_, _||_};
-ghost use mathlib.Core.List.{List};
 ghost use lib.Dec.{eqb};
 ghost use lib.ListN.{length};
 ghost use Rattle.model.specs.Lists.{if_then_else_};
-ghost use Rattle.model.specs.Table.{isSingleTop, isSingleInstance};
+ghost use Rattle.model.specs.Table.{isSingleInstance};
 ghost use Rattle.model.specs.Session.{State, frontScreen, mostHeight};
 ghost use Rattle.model.specs.Search.{placeOf, isFound, isFoundByRoot, holds};
 ghost use Rattle.model.specs.Rules.{numberOf, isR7, groupOf, soughtBy};
@@ -17,9 +17,9 @@ ghost use Rattle.session.specs.Stored.{view, viewTask};
 ghost use Rattle.search.specs.Numbers.{foundOf};
 ghost use Rattle.rules.specs.Seeks.{isInstance, seeksIn};
 ghost use Rattle.rules.specs.Startable.{Startable};
-ghost use Rattle.rules.specs.Shows.{indexOf, Shows, readBy, Filled};
+ghost use Rattle.rules.specs.Shows.{indexOf, Filled};
 ghost use Rattle.rules.specs.Rooms.{roomBy};
-ghost use Rattle.rules.specs.Groups.{ruleOf};
+ghost use Rattle.rules.specs.Groups.{asksOf, instanceRule, taskRule, notApartRule, apartRule, ruleBy};
 use model::Change;
 use model::Effect;
 use model::Flags;
@@ -152,12 +152,28 @@ fn holds_where(wanted: bool, t: Task, b: u8) -> bool
     false
 }
 
-// The mode of b is single-top, or STP is set.
-fn is_single(table: &[u8], b: u8, f: Flags) -> bool
+// What the search and the rules of a group ask of a start: whether it is single, the mode of b being single-top or STP set, and
+// whether MTK (a new task), CTP, RTF and CTK are set.
+pub struct Asks {
+    pub single: bool,
+    pub new_task: bool,
+    pub ctp: bool,
+    pub rtf: bool,
+    pub ctk: bool,
+}
+
+pub fn asks_of(table: &[u8], b: u8, f: Flags) -> Asks
     requires { ⌜ 2 + 2 * b < length (now table) ⌝ }
-    ensures { λ r. ⌜ r ≡ (isSingleTop (now (table .entry)) b || f .stp) ⌝ }
+    ensures { λ r. ⌜ r ≡ asksOf (now (table .entry)) b f ⌝ }
 {
-    (table::mode(table, b) == 1) | f.stp
+    let mode = table::mode(table, b);
+    Asks {
+        single: (mode == 1) | f.stp,
+        new_task: f.mtk,
+        ctp: f.ctp,
+        rtf: f.rtf,
+        ctk: f.ctk,
+    }
 }
 
 // NTK is set, or the front screen a is single-instance.
@@ -199,14 +215,14 @@ fn is_instance(group: Group) -> bool
 }
 
 // The group seeks a task.
-fn seeks(group: Group, mtk: bool) -> bool
-    ensures { λ r. ⌜ r ≡ seeksIn group mtk ⌝ }
+fn seeks(group: Group, new_task: bool) -> bool
+    ensures { λ r. ⌜ r ≡ seeksIn group «new_task» ⌝ }
 {
     match group {
         Group::Instance => true,
         Group::Task => true,
         Group::NotApart => false,
-        Group::Apart => !mtk,
+        Group::Apart => !new_task,
     }
 }
 
@@ -223,12 +239,12 @@ fn found_of(number: u8) -> Found
     Found::ByAffinity(number - search::BY_AFFINITY)
 }
 
-// The task that a group of rules seeks: where the start is apart, none if MTK asks for a new one.
-pub fn sought_by(table: &[u8], s: Session, b: u8, f: Flags, group: Group) -> Found
+// The task that a group of rules seeks: where the start is apart, none if a new one is asked for.
+pub fn sought_by(table: &[u8], s: Session, b: u8, group: Group, new_task: bool) -> Found
     requires { ⌜ Startable (now table) s b ⌝ }
-    ensures { λ r. ⌜ r ≡ soughtBy (now (table .entry)) (view s) b f group ⌝ }
+    ensures { λ r. ⌜ ((f : Flags) → f .mtk ≡ «new_task» → r ≡ soughtBy (now (table .entry)) (view s) b f group) ⌝ }
 {
-    if !seeks(group, f.mtk) {
+    if !seeks(group, new_task) {
         return Found::Nowhere;
     }
     found_of(search::seek(table, s, b, is_instance(group)))
@@ -236,7 +252,7 @@ pub fn sought_by(table: &[u8], s: Session, b: u8, f: Flags, group: Group) -> Fou
 
 // R1 and R2: b is single-instance.
 fn instance_rule(found: Found) -> Rule
-    ensures { λ r. ⌜ ((tb : List ℕ) (v : State ℕ) (b : ℕ) (f : Flags) → r ≡ ruleOf Group.Instance tb v b f found) ⌝ }
+    ensures { λ r. ⌜ r ≡ instanceRule found ⌝ }
 {
     if is_found(found) {
         return Rule::R1;
@@ -245,14 +261,14 @@ fn instance_rule(found: Found) -> Rule
 }
 
 // R3 to R6: b is single-task.
-fn task_rule(t: Task, b: u8, f: Flags, found: Found) -> Rule
+fn task_rule(t: Task, b: u8, asks: Asks, found: Found) -> Rule
     requires { ⌜ Filled t ⌝ }
-    ensures { λ r. ⌜ ((tb : List ℕ) (v : State ℕ) → Shows v found t → r ≡ ruleOf Group.Task tb v b f found) ⌝ }
+    ensures { λ r. ⌜ r ≡ taskRule asks (viewTask t) b found ⌝ }
 {
     if !is_found(found) {
         return Rule::R6;
     }
-    if f.ctk {
+    if asks.ctk {
         return Rule::R3;
     }
     if holds_screen(t, b) {
@@ -262,47 +278,47 @@ fn task_rule(t: Task, b: u8, f: Flags, found: Found) -> Rule
 }
 
 // R7 to R10: not apart; t is the front task. b is looked for only where CTP or RTF is set.
-fn not_apart_rule(table: &[u8], t: Task, b: u8, f: Flags) -> Rule
-    requires { ⌜ Filled t × (2 + 2 * b < length (now table)) ⌝ }
-    ensures { λ r. ⌜ ((v : State ℕ) → Shows v Found.Nowhere t → r ≡ ruleOf Group.NotApart (now (table .entry)) v b f Found.Nowhere) ⌝ }
+fn not_apart_rule(t: Task, b: u8, asks: Asks) -> Rule
+    requires { ⌜ Filled t ⌝ }
+    ensures { λ r. ⌜ r ≡ notApartRule asks (viewTask t) b ⌝ }
 {
-    if (b == t.top()) & (is_single(table, b, f) | f.rtf | f.ctp) {
+    if (b == t.top()) & (asks.single | asks.rtf | asks.ctp) {
         return Rule::R7;
     }
-    let held = holds_where(f.ctp | f.rtf, t, b);
-    if f.ctp & held {
+    let held = holds_where(asks.ctp | asks.rtf, t, b);
+    if asks.ctp & held {
         return Rule::R8;
     }
-    if f.rtf & held {
+    if asks.rtf & held {
         return Rule::R9;
     }
     Rule::R10
 }
 
 // R11 to R18: apart. b is looked for only where CTP is set.
-fn apart_rule(table: &[u8], t: Task, main: u8, b: u8, f: Flags, found: Found) -> Rule
-    requires { ⌜ Filled t × (2 + 2 * b < length (now table)) ⌝ }
-    ensures { λ r. ⌜ ((v : State ℕ) → Shows v found t → v .main ≡ main → r ≡ ruleOf Group.Apart (now (table .entry)) v b f found) ⌝ }
+fn apart_rule(t: Task, main: u8, b: u8, asks: Asks, found: Found) -> Rule
+    requires { ⌜ Filled t ⌝ }
+    ensures { λ r. ⌜ r ≡ apartRule asks (viewTask t) main b found ⌝ }
 {
-    if f.mtk {
+    if asks.new_task {
         return Rule::R11;
     }
     if !is_found(found) {
         return Rule::R18;
     }
-    if f.ctk {
+    if asks.ctk {
         return Rule::R12;
     }
-    if holds_where(f.ctp, t, b) {
+    if holds_where(asks.ctp, t, b) {
         return Rule::R13;
     }
-    if f.ctp {
+    if asks.ctp {
         return Rule::R14;
     }
     if is_by_root(found) & (place_of(found) != main) {
         return Rule::R15;
     }
-    if is_single(table, b, f) & (t.top() == b) {
+    if asks.single & (t.top() == b) {
         return Rule::R16;
     }
     Rule::R17
@@ -310,15 +326,15 @@ fn apart_rule(table: &[u8], t: Task, main: u8, b: u8, f: Flags, found: Found) ->
 
 // The first rule of the group that fits; t is the task that the group's rules read: the task found, or the front task where none
 // was found or the group seeks none.
-pub fn rule_in(table: &[u8], group: Group, t: Task, main: u8, b: u8, f: Flags, found: Found) -> Rule
-    requires { ⌜ Filled t × (2 + 2 * b < length (now table)) ⌝ }
-    ensures { λ r. ⌜ ((v : State ℕ) → Shows v (readBy group found) t → v .main ≡ main → r ≡ ruleOf group (now (table .entry)) v b f found) ⌝ }
+pub fn rule_in(group: Group, t: Task, main: u8, b: u8, asks: Asks, found: Found) -> Rule
+    requires { ⌜ Filled t ⌝ }
+    ensures { λ r. ⌜ r ≡ ruleBy group asks (viewTask t) main b found ⌝ }
 {
     match group {
         Group::Instance => instance_rule(found),
-        Group::Task => task_rule(t, b, f, found),
-        Group::NotApart => not_apart_rule(table, t, b, f),
-        Group::Apart => apart_rule(table, t, main, b, f, found),
+        Group::Task => task_rule(t, b, asks, found),
+        Group::NotApart => not_apart_rule(t, b, asks),
+        Group::Apart => apart_rule(t, main, b, asks, found),
     }
 }
 

@@ -44,7 +44,7 @@ use Rattle.plans.specs.Plans.{closes, closesWith, Opens}
 use Rattle.plans.proofs.Answered.{Uncovers}
 use Rattle.plans.proofs.Closes.{NearFront, putIn, plan-closes, plan-puttable, closed-puttable, marked-puttable}
 use Rattle.starts.specs.declared.Chosen.{Chosen}
-use Rattle.starts.specs.Steps.{markIf, Plannable, planShift, planMark, planNext, planClosed, carryingPlan, startPlan}
+use Rattle.starts.specs.Steps.{markIf, Plannable, planShift, planMark, planNext, planClosed, planMoved, carryingPlan, startPlan}
 
 -- ---- what a start makes
 
@@ -127,32 +127,32 @@ accepted (Mark.Stands zero i) false one′ t k n m v = refl
 accepted (Mark.Stands (suc j) i) one true t k n m v = refl
 accepted (Mark.Stands (suc j) i) one false t k n m v = refl
 
-carrying-accepts : (caller : Bool) (b : ℕ) (c : Session) (t : Task) (x : Chosen) → carryingPlan caller b c t x .refusal ≡ 0
+carrying-accepts : (caller : Bool) (b : ℕ) (c : Session) (t : Task) (x : Chosen) → carryingPlan b c t x caller .refusal ≡ 0
 carrying-accepts caller b c t x =
-    accepted (planMark caller b c t x) (leb (planNext caller b c t x .height) 1) (leb (taskBehind c 0 .height) 1) (planNext caller b c t x)
-    (planShift caller b c t x) (countAfter (x .effect) (c .n)) (mainAfter (x .effect) (x .place) (c .main)) (c .edition)
+    accepted (planMark b c t x caller) (leb (planNext b c t x .height) 1) (leb (taskBehind c 0 .height) 1) (planNext b c t x)
+    (planShift b c t x) (countAfter (x .effect) (c .n)) (mainAfter (x .effect) (x .place) (c .main)) (c .edition)
 
 -- ---- a start for which there is room
 
 module _ {tb : List ℕ} {c : Session} {b : ℕ} {f : Flags} (z : Sized c) (h : Startable tb c b) {t : Task} {x : Chosen}
     (ok : Plannable tb c b f t x) (caller : Bool) where
   pub room : roomRefusal tb c b f ≡ 0
-  room = sym (ok .chosen .refusal) ∙ ok .room
+  room = sym (ap (λ (y : Chosen). y .refusal) (ok .chosen)) ∙ ok .room
 
   abbrev found : ℕ
   found = indexOf (choose tb (view c) b f .found)
 
   pub picks : Picked tb c b f found (x .effect) (x .place)
-  picks = record { index = refl; effect = ok .chosen .effect; place = ok .chosen .place }
+  picks = record { index = refl; effect = ap (λ (y : Chosen). y .effect) (ok .chosen); place = ap (λ (y : Chosen). y .place) (ok .chosen) }
 
   abbrev next : Task
-  next = planNext caller b c t x
+  next = planNext b c t x
 
   abbrev shift : ℕ
-  shift = planShift caller b c t x
+  shift = planShift b c t x
 
   abbrev mark : Mark
-  mark = planMark caller b c t x
+  mark = planMark b c t x caller
 
   abbrev isB : Bool
   isB = eqb b (top (viewTask (taskBehind c 0)))
@@ -201,7 +201,7 @@ module _ {tb : List ℕ} {c : Session} {b : ℕ} {f : Flags} (z : Sized c) (h : 
   -- ---- the plan
 
   abbrev plan : Plan
-  plan = carryingPlan caller b c t x
+  plan = carryingPlan b c t x caller
 
   carrying-put : putOf c plan ≡ withNoHistory (hold (carried caller tb c b f)) 0
   carrying-put =
@@ -210,7 +210,7 @@ module _ {tb : List ℕ} {c : Session} {b : ℕ} {f : Flags} (z : Sized c) (h : 
 
   carrying-puttable : Puttable c plan
   carrying-puttable =
-      closed-puttable c (planClosed caller b c t x + closedAt mark)
+      closed-puttable c (planClosed b c t x + closedAt mark)
       (plan-puttable c next shift _ _ _ put-sized put-blank (shift-low c z (x .place) (x .effect) (picked-carriable z h room picks))
       mark (stands .0) put-marked _ _ same)
 
@@ -218,17 +218,17 @@ module _ {tb : List ℕ} {c : Session} {b : ℕ} {f : Flags} (z : Sized c) (h : 
   carrying-uncovers = uncovers mark _ _ next shift _ _ _ stands
 
   -- the screens that the effect closes
-  effect-closes : planClosed caller b c t x ≡ closedByChoice (choose tb (view c) b f) b (view c)
+  effect-closes : planClosed b c t x ≡ closedByChoice (choose tb (view c) b f) b (view c)
   effect-closes = rw (ok .task) (picked-closed z h room picks)
 
-  pub start-few : planClosed caller b c t x ≤ mostHeight
+  pub start-few : planClosed b c t x ≤ mostHeight
   start-few = rw (ok .task) (picked-few z h room picks)
 
   -- and with the marked one
   carrying-closes : plan .closed ≡ carriedClosed caller tb c b f
   carrying-closes = go caller
     where
-      go : (caller : Bool) → planClosed caller b c t x + closedAt (markIf caller (x .effect) (x .place) isB) ≡ carriedClosed caller tb c b f
+      go : (caller : Bool) → planClosed b c t x + closedAt (markIf caller (x .effect) (x .place) isB) ≡ carriedClosed caller tb c b f
       go true = picked-finish-closed z h room picks refl effect-closes
       go false = let e = effect-closes in omega (arith, e)
 
@@ -237,7 +237,7 @@ module _ {tb : List ℕ} {c : Session} {b : ℕ} {f : Flags} (z : Sized c) (h : 
 
 -- ---- with the No-History mark
 
-pub plan-accepts : (fin noh : Bool) (b : ℕ) (c : Session) (t : Task) (x : Chosen) → startPlan fin noh b c t x .refusal ≡ 0
+pub plan-accepts : (fin noh : Bool) (b : ℕ) (c : Session) (t : Task) (x : Chosen) → startPlan b c t x fin noh .refusal ≡ 0
 plan-accepts fin noh b c t x = carrying-accepts (callerCloses fin (c .«no_history») (x .rule)) b c t x
 
 module _ {tb : List ℕ} {c : Session} {b : ℕ} {f : Flags} (z : Sized c) (h : Startable tb c b) {t : Task} {x : Chosen}
@@ -248,27 +248,27 @@ module _ {tb : List ℕ} {c : Session} {b : ℕ} {f : Flags} (z : Sized c) (h : 
   abbrev left : ℕ
   left = noHistoryAfter fin (c .«no_history») (f .noh) (x .rule) (x .effect)
 
-  pub start-put : putOf c (startPlan fin (f .noh) b c t x) ≡ hold (made fin tb c b f)
+  pub start-put : putOf c (startPlan b c t x fin (f .noh)) ≡ hold (made fin tb c b f)
   unfolding hold view
   start-put =
       ap (λ (d : Session). withNoHistory d left) (carrying-put z h ok caller)
-      ∙ ap₂ (λ (r : Rule) (d : Effect).
-      withNoHistory (hold (carried (callerCloses fin (c .«no_history») r) tb c b f)) (noHistoryAfter fin (c .«no_history») (f .noh) r d))
-      (ok .chosen .rule) (ok .chosen .effect)
+      ∙ ap (λ (y : Chosen).
+      withNoHistory (hold (carried (callerCloses fin (c .«no_history») (y .rule)) tb c b f)) (noHistoryAfter fin (c .«no_history») (f .noh) (y .rule) (y .effect)))
+      (ok .chosen)
 
-  pub start-puttable : Puttable c (startPlan fin (f .noh) b c t x)
+  pub start-puttable : Puttable c (startPlan b c t x fin (f .noh))
   start-puttable = marked-puttable c left (carrying-puttable z h ok caller)
 
-  pub start-uncovers : Uncovers (startPlan fin (f .noh) b c t x)
+  pub start-uncovers : Uncovers (startPlan b c t x fin (f .noh))
   start-uncovers = carrying-uncovers z h ok caller
 
-  pub start-closes : startPlan fin (f .noh) b c t x .closed ≡ madeClosed fin tb c b f
+  pub start-closes : startPlan b c t x fin (f .noh) .closed ≡ madeClosed fin tb c b f
   unfolding view
   start-closes =
       carrying-closes z h ok caller
-      ∙ ap (λ (r : Rule). carriedClosed (callerCloses fin (c .«no_history») r) tb c b f) (ok .chosen .rule)
+      ∙ ap (λ (y : Chosen). carriedClosed (callerCloses fin (c .«no_history») (y .rule)) tb c b f) (ok .chosen)
 
-  pub start-accepts : startPlan fin (f .noh) b c t x .refusal ≡ 0
+  pub start-accepts : startPlan b c t x fin (f .noh) .refusal ≡ 0
   start-accepts = plan-accepts fin (f .noh) b c t x
 
 -- ---- by what the code has of it
@@ -291,5 +291,6 @@ module _ {tb : List ℕ} {c : Session} {b : ℕ} {f : Flags} (z : Sized c) (h : 
   )
 
   pub plan-is : {k : ℕ} → k ≡ shiftOf (x .effect) (x .place) (c .n) → {m : ℕ} → m ≡ mainAfter (x .effect) (x .place) (c .main)
-      → closesWith mark (leb (next .height) 1) (leb (taskBehind c 0 .height) 1) next k n m (c .edition) closed ≡ carryingPlan caller b c t x
+      → closesWith mark next (record { second = taskBehind c 0 .height; shift = k; n = n; main = m; edition = c .edition; closed = closed })
+      ≡ carryingPlan b c t x caller
   plan-is shift-is main-is = rw (mark-is, top-is, next-is, count-is, shift-is, main-is, closed-is, place-is)

@@ -1,30 +1,35 @@
--- What was sought and what is planned, by the refusals on the way.
-use Prim.Native.Nat.{ℕ, zero, suc, _<_}
+-- What was sought and what is decided, by the refusals on the way.
+use Prim.Native.Nat.{ℕ, zero, suc, _≤_, _<_}
 use mathlib.Core.Path.{_≡_, refl, sym, _∙_, ap}
 use mathlib.Core.Bool.{Bool}
 use mathlib.Core.List.{List}
 use native.Mathlib.Omega.{arith}
-use Rattle.model.specs.declared.Rule.{Rule}
+use lib.ListN.{length}
+use Rattle.model.specs.declared.Flags.{Flags}
 use Rattle.model.specs.Refusals.{refusal}
 use Rattle.model.specs.Session.{mostTasks}
 use Rattle.model.specs.Flags.{flagsOf}
+use Rattle.model.specs.Search.{placeOf}
 use Rattle.model.specs.Rules.{choose}
-use Rattle.model.specs.Balance.{ifAccepted}
+use Rattle.model.specs.Effects.{effectOf}
+use Rattle.model.specs.Calls.{effectIn}
 use Rattle.session.specs.declared.Session.{Session}
 use Rattle.session.specs.declared.Task.{Task}
 use Rattle.session.specs.Stored.{view, Ready, taskBehind}
 use Rattle.session.proofs.Known.{Sized}
-use Rattle.rules.specs.Shows.{indexOf}
+use Rattle.session.proofs.StoredLaws.{sized-at}
+use Rattle.rules.specs.Shows.{indexOf, Shows, Filled}
 use Rattle.rules.specs.Startable.{Startable}
-use Rattle.rules.proofs.Tasks.{index-inside, index-stands}
+use Rattle.rules.proofs.Tasks.{counted, index-inside, task-filled, stored-shows, choice-stands}
+use Rattle.rules.proofs.Rooms.{room-read}
 use Rattle.starts.specs.Checks.{startEntry, roomRefusal}
 use Rattle.starts.proofs.Entries.{start-entered}
 use Rattle.starts.proofs.Planning.{plan-accepts}
 use Rattle.plans.specs.declared.Plan.{Plan}
 use Rattle.plans.specs.Plans.{stillOf}
 use Rattle.starts.specs.declared.Sought.{Sought}
-use Rattle.starts.specs.declared.Chosen.{Chosen}
-use Rattle.starts.specs.Steps.{noneSought, Seeks, orElse, SoughtFrom, Chooses, Plannable, startPlan, chosenStored, roomyPlan, planUnless, planStored, ruleStored, Planned}
+use Rattle.starts.specs.declared.Decided.{Decided}
+use Rattle.starts.specs.Steps.{noneSought, Seeks, orElse, SoughtFrom, ruleSought, chosenBy, chosenStored, taskFor, Plannable, startPlan, planUnless, withoutRule, decidedUnless, decidedWith, decidedBy, decidedStored, Planned}
 
 -- ---- the first of two refusals
 
@@ -72,12 +77,12 @@ module _ (tb : List ℕ) (c : Session) (b w k : ℕ) where
       go : (n : ℕ) → x .refusal ≡ n → x .index < mostTasks
       go zero e =
           let (h, q) = s .seeks e in
-          index-inside tb c b z h (x .index) (index-stands tb c b z h (flagsOf w) (x .group) (q .found) (q .index))
+          index-inside tb c b z h (x .index) (rw (q .index, q .found) (choice-stands tb c b z h (flagsOf w)))
       go (suc n) e = let q = ap (λ (y : Sought). y .index) (s .none (λ o. omega arith)) in omega (arith, q)
 
-  -- and planning may go on
-  pub sought-planned : {x : Sought} → SoughtFrom tb c b w k x → {t : Task} → t ≡ taskBehind c (x .index) → Planned tb c b w t x
-  sought-planned s task e = let (h, q) = s .seeks e in (h, (q, task))
+  -- and deciding may go on
+  pub sought-planned : {x : Sought} → SoughtFrom tb c b w k x → {t : Task} → t ≡ taskBehind c (x .index) → Planned c b t x
+  sought-planned s task e = let (h, q) = s .seeks e in (tb, (flagsOf w, (h, (q, task))))
 
 -- ---- planned
 
@@ -92,53 +97,85 @@ unless-passed k c p e = rw e
 pub unless-found : {n k : ℕ} (c : Session) (p : Plan) → n ≡ k → (n ≡ 0 → ⊥) → stillOf c n ≡ planUnless k c p
 unless-found {n} {k} c p e f = rw e (unless-refused k c p (λ z. f (e ∙ z)))
 
--- ---- counted: nothing where one of two refusals is not 0
+-- ---- decided
 
-pub counted-first : (j k n : ℕ) → (j ≡ 0 → ⊥) → 0 ≡ ifAccepted (orElse j k) n
-counted-first zero k n f = absurd (f refl)
-counted-first (suc j) k n f = refl
+pub decided-refused : (k : ℕ) (c : Session) (d : Decided) → (k ≡ 0 → ⊥) → withoutRule (stillOf c k) 0 ≡ decidedUnless k c d
+decided-refused zero c d n = absurd (n refl)
+decided-refused (suc k) c d n = refl
 
-pub counted-second : (j k n : ℕ) → j ≡ 0 → (k ≡ 0 → ⊥) → 0 ≡ ifAccepted (orElse j k) n
-counted-second j k n e f = rw e (counted-first k 0 n f ∙ ap (λ (i : ℕ). ifAccepted i n) (only k))
-  where
-    only : (i : ℕ) → orElse i 0 ≡ i
-    only zero = refl
-    only (suc i) = refl
+pub decided-passed : (k : ℕ) (c : Session) (d : Decided) → k ≡ 0 → d ≡ decidedUnless k c d
+decided-passed k c d e = rw e
 
-pub counted-all : (j k n : ℕ) → j ≡ 0 → k ≡ 0 → n ≡ ifAccepted (orElse j k) n
-counted-all j k n e f = rw (e, f)
+-- the plan of what is decided
+pub unless-plan : (k : ℕ) (c : Session) (d : Decided) → decidedUnless k c d .plan ≡ planUnless k c (d .plan)
+unless-plan zero c d = refl
+unless-plan (suc k) c d = refl
 
--- ---- planned, by what was chosen
+module _ (tb : List ℕ) (c : Session) (b : ℕ) (f : Flags) (fin : Bool) where
+  abbrev pub roomyPlan : Plan
+  roomyPlan = startPlan b c (taskFor tb c b f) (chosenStored tb c b f) fin (f .noh)
 
-module _ (tb : List ℕ) (c : Session) (b w k : ℕ) (passed : k ≡ 0) (fin : Bool) where
-  -- refused for want of room
-  pub planned-full : (n : ℕ) → n ≡ roomRefusal tb c b (flagsOf w) → (n ≡ 0 → ⊥) → stillOf c n ≡ planStored k tb c b w fin
-  planned-full n e f = unless-found c _ e f ∙ unless-passed k c _ passed
+  pub decided-plan : (k : ℕ) → decidedStored k tb c b f fin .plan ≡ planUnless k c (planUnless (roomRefusal tb c b f) c roomyPlan)
+  decided-plan k = unless-plan k c _ ∙ ap (planUnless k c) (unless-plan (roomRefusal tb c b f) c _)
 
-  module _ {j : ℕ} {x : Chosen} (chooses : Chooses tb c b (flagsOf w) j x) where
-    chosen-is : x ≡ chosenStored tb c b (flagsOf w)
-    chosen-is =
-        let n = chooses .refusal in
-        let q = chooses .rule in
-        let d = chooses .effect in
-        let p = chooses .place in
-        λ i. record { refusal = n i; rule = q i; effect = d i; place = p i }
+-- ---- by what was sought
 
-    module _ (room : x .refusal ≡ 0) {t : Task} (task : t ≡ taskBehind c j) where
-      pub chosen-plannable : Plannable tb c b (flagsOf w) t x
-      chosen-plannable =
-          record {
-            chosen = record { refusal = chooses .refusal; rule = chooses .rule; effect = chooses .effect; place = chooses .place; index = refl };
-            task = task ∙ ap (taskBehind c) (chooses .index);
-            room = room;
-          }
+module _ {tb : List ℕ} {c : Session} {b : ℕ} {f : Flags} (z : Sized c) (h : Startable tb c b) {x : Sought} (s : Seeks tb c b f x)
+    {t : Task} (task : t ≡ taskBehind c (x .index)) where
+  -- a task stands at the index
+  stands : x .index < c .n
+  stands = rw (s .index, s .found) (choice-stands tb c b z h f)
 
-      pub planned-roomy : startPlan fin (flagsOf w .noh) b c t x ≡ planStored k tb c b w fin
-      planned-roomy =
-          rw (chosen-is, task, chooses .index) (unless-passed (roomRefusal tb c b (flagsOf w)) c _ (sym (chooses .refusal) ∙ room))
-          ∙ unless-passed k c _ passed
+  pub sought-filled : Filled t
+  sought-filled = rw task (task-filled tb c b z h (x .index) stands)
 
--- ---- the refusal and the rule
+  sought-rule : ruleSought b c t x ≡ choose tb (view c) b f .rule
+  sought-rule = rw task (s .rule)
+
+  sought-effect : chosenBy b c t x .effect ≡ effectIn (view c) (choose tb (view c) b f)
+  unfolding view
+  sought-effect = ap (effectOf (c .edition) (c .main)) sought-rule
+
+  shows : Shows (view c) (choose tb (view c) b f .found) t
+  shows = rw (task, ← s .found) (stored-shows c (x .found) (s .index) stands)
+
+  low : t .height ≤ length (t .screens)
+  low = let l : length (taskBehind c (x .index) .screens) ≡ 32 = sized-at c z (x .index) (index-inside tb c b z h (x .index) stands) in
+      let e : length (t .screens) ≡ 32 = rw task l in let g = sought-filled in omega arith
+
+  -- what is chosen is what the definition chooses
+  pub sought-chosen : chosenBy b c t x ≡ chosenStored tb c b f
+  sought-chosen =
+      let n = sym (room-read (view c) t low tb b f shows (counted tb c b z h) sought-effect) in
+      let q = sought-rule in
+      let d = sought-effect in
+      let p = ap placeOf (s .found) in
+      λ i. record { refusal = n i; rule = q i; effect = d i; place = p i }
+
+  at-found : t ≡ taskFor tb c b f
+  at-found = task ∙ ap (taskBehind c) (s .index ∙ ap indexOf (s .found))
+
+  pub sought-plannable : chosenBy b c t x .refusal ≡ 0 → Plannable tb c b f t (chosenBy b c t x)
+  sought-plannable room = record { chosen = sought-chosen; task = at-found; room = room }
+
+  pub sought-stored : (fin : Bool) (k : ℕ) → decidedWith fin (x .noh) (x .found) b c t (chosenBy b c t x) k ≡ decidedStored k tb c b f fin
+  sought-stored fin k =
+      let n = s .noh in
+      let g = s .found in
+      let u = at-found in
+      let y = sought-chosen in
+      λ i. decidedWith fin (n i) (g i) b c (u i) (y i) k
+
+-- whatever is sought: decided by it, and by the definition
+module _ (tb : List ℕ) (c : Session) (b w k : ℕ) (z : Sized c) {x : Sought} (s : SoughtFrom tb c b w k x) {t : Task} (task : t ≡ taskBehind c (x .index)) where
+  pub decided-stored : (fin : Bool) → decidedBy fin b c t x ≡ decidedStored (orElse k (refusal (startEntry tb (c .n) b w))) tb c b (flagsOf w) fin
+  decided-stored fin = go (x .refusal) refl ∙ ap (λ (n : ℕ). decidedStored n tb c b (flagsOf w) fin) (s .refusal)
+    where
+      go : (n : ℕ) → x .refusal ≡ n → decidedBy fin b c t x ≡ decidedStored (x .refusal) tb c b (flagsOf w) fin
+      go zero e = let (h, q) = s .seeks e in sought-stored z h q task fin (x .refusal)
+      go (suc n) e = rw e
+
+-- ---- the refusal
 
 -- the refusal of a plan that two refusals may take the place of
 unless-number : (k n : ℕ) (c : Session) (p : Plan) → p .refusal ≡ 0 → planUnless k c (planUnless n c p) .refusal ≡ orElse k n
@@ -146,18 +183,8 @@ unless-number zero zero c p e = e
 unless-number zero (suc n) c p e = refl
 unless-number (suc k) n c p e = refl
 
-module _ (tb : List ℕ) (c : Session) (b w k : ℕ) where
-  pub plan-number : (fin : Bool) → planStored k tb c b w fin .refusal ≡ orElse k (roomRefusal tb c b (flagsOf w))
-  plan-number fin =
-      unless-number k (roomRefusal tb c b (flagsOf w)) c (roomyPlan tb c b (flagsOf w) fin)
-      (plan-accepts fin (flagsOf w .noh) b c (taskBehind c (indexOf (choose tb (view c) b (flagsOf w) .found))) (chosenStored tb c b (flagsOf w)))
-
-  pub rule-refused : (k ≡ 0 → ⊥) → Rule.R18 ≡ ruleStored k tb c b w
-  rule-refused some = go k some
-    where
-      go : (n : ℕ) → (n ≡ 0 → ⊥) → Rule.R18 ≡ ruleStored n tb c b w
-      go zero n = absurd (n refl)
-      go (suc n) _ = refl
-
-  pub rule-chosen : k ≡ 0 → {r : Rule} → r ≡ choose tb (view c) b (flagsOf w) .rule → r ≡ ruleStored k tb c b w
-  rule-chosen e r = rw e r
+pub decided-number : (tb : List ℕ) (c : Session) (b : ℕ) (f : Flags) (fin : Bool) (k : ℕ)
+    → decidedStored k tb c b f fin .plan .refusal ≡ orElse k (roomRefusal tb c b f)
+decided-number tb c b f fin k =
+    ap (λ (p : Plan). p .refusal) (decided-plan tb c b f fin k)
+    ∙ unless-number k (roomRefusal tb c b f) c (roomyPlan tb c b f fin) (plan-accepts fin (f .noh) b c (taskFor tb c b f) (chosenStored tb c b f))

@@ -1,14 +1,14 @@
 -- `calls::decide_for` meets its contract: a start decides by a rule, and any other record is the plan of the call that it asks for.
-use mathlib.Core.Path.{_≡_, _∙_, ap}
+use mathlib.Core.Path.{_∙_, ap}
 use mathlib.Core.Bool.{Bool, false}
 use borrow.Author.Needs.{needs}
 use Rattle.session.proofs.Known.{sized}
-use Rattle.records.specs.Records.{isFinishing}
 use Rattle.records.proofs.Tags.{tag-starts}
 use Rattle.plans.specs.declared.Plan.{Plan}
 use Rattle.plans.proofs.Closes.{back-opens}
-use Rattle.starts.specs.Steps.{planStored}
-use Rattle.calls.proofs.RecordSettling.{start-plan-by}
+use Rattle.starts.specs.Steps.{withoutRule, decidedBy}
+use Rattle.calls.specs.RecordPlans.{launched}
+use Rattle.calls.proofs.RecordSettling.{start-decided}
 use Rattle.calls.proofs.decide_for.Statement.{statement}
 use Rattle.calls.proofs.decide_for.Tie as tie
 
@@ -28,34 +28,25 @@ decide-requires c κs =
     let h = rw (tag-starts (start .args .r .asked) (c .before .match .keys2)) at (start .pre) in h .1
 
 returns : tie.Need-returns
-returns c =
-    let e = c .without-rule .ensures in
-    rw (c .before .before .enum-told .given .1) (e .0 ∙ c .before .launch-plan .ensures, e .1)
+returns c = rw (c .before .before .enum-told .given .1) (c .launched .ensures ∙ ap launched (c .before .launch-plan .ensures))
 
 -- a start
 returns-2 : tie.Need-returns-2
 returns-2 c =
     let a = c .before .before .before .before .args in
     let r = a .r in
-    let s = tag-starts (r .asked) (c .before .before .match .keys2) in
-    let plan = c .decide .ensures .0 ∙ ap (planStored (a .sought .refusal) (a .table .now) (a .s) (r .screen) (r .word)) (c .before .is-finishing .ensures)
-    ∙ start-plan-by (r .asked) s (a .sought .refusal) (a .table .now) (a .s) (r .screen) (r .word) in
-    (plan, rw s (c .decide .ensures .1))
+    c .decide .ensures ∙ ap (λ (f : Bool). decidedBy f (r .screen) (a .s) (a .t) (a .sought)) (c .before .is-finishing .ensures)
+    ∙ start-decided (r .asked) (tag-starts (r .asked) (c .before .before .match .keys2)) (a .table .now) (a .s) (a .t) (a .sought) (r .screen)
 
 returns-3 : tie.Need-returns-3
 returns-3 c =
-    let e = c .without-rule2 .ensures in
-    rw (c .before .before .enum-told2 .given .1) (e .0 ∙ c .before .back-plan .ensures, e .1)
+    rw (c .before .before .enum-told2 .given .1) (c .without-rule .ensures ∙ ap (λ (p : Plan). withoutRule p 0) (c .before .back-plan .ensures))
 
 returns-4 : tie.Need-returns-4
-returns-4 c =
-    let e = c .without-rule3 .ensures in
-    rw (c .before .before .enum-told3 .given .1) (e .0 ∙ c .before .still .ensures, e .1)
+returns-4 c = rw (c .before .before .enum-told3 .given .1) (c .without-rule2 .ensures ∙ ap (λ (p : Plan). withoutRule p 0) (c .before .still .ensures))
 
 returns-5 : tie.Need-returns-5
-returns-5 c =
-    let e = c .without-rule4 .ensures in
-    rw (c .before .before .enum-told4 .given .1) (e .0 ∙ c .before .still2 .ensures, e .1)
+returns-5 c = rw (c .before .before .enum-told4 .given .1) (c .without-rule3 .ensures ∙ ap (λ (p : Plan). withoutRule p 0) (c .before .still2 .ensures))
 
 pub decide-for-spec : {M : Type 1} → statement M
 decide-for-spec =

@@ -8,7 +8,7 @@ use Rattle.session.proofs.Known.{Sized, sized}
 use Rattle.starts.proofs.Seeking.{sought-inside, sought-planned}
 use Rattle.calls.specs.StoredCalls.{callStored}
 use Rattle.calls.proofs.Settling.{shared-ready}
-use Rattle.calls.proofs.PlanSettling.{Gives, start-gives}
+use Rattle.calls.proofs.PlanSettling.{Gives, sought-gives}
 use Rattle.calls.proofs.start.Statement.{statement}
 use Rattle.calls.proofs.start.Tie as tie
 
@@ -29,17 +29,17 @@ element-copy-out-t c =
 mul-t : tie.Need-mul-t
 mul-t c = let i = element-copy-out-t c in omega arith
 
-plan-requires : tie.Need-plan-requires
-plan-requires c κs =
+decide-requires : tie.Need-decide-requires
+decide-requires c κs =
     let a = c .before .before .before .args in sought-planned (a .table .now) (a .s) (a .b) (a .word) (a .shared) (c .before .seek .ensures) refl
 
 gives : (c : tie.After-plan)
-    → let a = c .before .before .before .before .args in Gives (a .s) (c .plan .result) (callStored (a .table .now) (a .s) (start (a .b) (a .word)))
+    → let a = c .before .before .before .before .before .args in
+    Gives (a .s) (c .before .decide .result .plan) (callStored (a .table .now) (a .s) (start (a .b) (a .word)))
 gives c =
-    let start = c .before .before .before .before in
+    let start = c .before .before .before .before .before in
     let a = start .args in
-    rw (c .plan .ensures)
-    (start-gives (a .table .now) (a .s) (sizes start) (a .b) (a .word) false (a .shared) (start .pre) (c .before .before .seek .ensures .refusal))
+    sought-gives (a .table .now) (a .s) (sizes start) (a .b) (a .word) false (a .shared) (start .pre) (c .before .before .before .seek .ensures) refl (c .before .decide .ensures)
 
 answer-of-requires : tie.Need-answer-of-requires
 answer-of-requires c κs = gives (c .before) .showable
@@ -51,4 +51,4 @@ returns : tie.Need-returns
 returns c = rw (c .put .ensures, c .before .answer-of .ensures) (gives (c .before .before .before) .gives)
 
 pub start-spec : {M : Type 1} → statement M
-start-spec = tie.close (tie.spec seek-requires mul-t element-copy-out-t plan-requires (λ c. search needs) answer-of-requires put-requires returns)
+start-spec = tie.close (tie.spec seek-requires mul-t element-copy-out-t decide-requires (λ c. search needs) answer-of-requires put-requires returns)

@@ -16,16 +16,16 @@ returns c =
 read-requires : tie.Need-read-requires
 read-requires c κs = omega (arith, c .if1 .left)
 
-reply-to-requires : tie.Need-reply-to-requires
-reply-to-requires c κs = c .shared-refusal .ensures
+make-requires : tie.Need-make-requires
+make-requires c κs = c .shared-refusal .ensures
 
 returns-2 : tie.Need-returns-2
 returns-2 c =
-    let read = c .before .before in
+    let read = c .before .before .before in
     let a = read .before .before .before .before .args in
-    let e = played-read (a .table .now) (a .s) (a .calls .now) (omega (arith, read .before .if1 .left)) (read .read .ensures) (c .reply-to .ensures) in
+    let e = played-read (a .table .now) (a .s) (a .calls .now) (omega (arith, read .before .if1 .left)) (read .read .ensures) (c .before .make .ensures .0) in
     (e, (played-keeps (a .table .now) (a .s) (a .calls .now) e, promise3 (a .table .now)))
 
 pub play-record-spec : {M : Type 1} → statement M
 play-record-spec =
-    tie.close (tie.spec (λ c κs. search needs) returns read-requires (λ c κs. search needs) reply-to-requires returns-2)
+    tie.close (tie.spec (λ c κs. search needs) returns read-requires (λ c κs. search needs) make-requires returns-2)

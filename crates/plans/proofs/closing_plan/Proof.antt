@@ -12,7 +12,8 @@ returns c =
     let gone = front .before .before in
     let start = gone .before in
     let a = start .args in
-    plan-by (a .mark) (leb (a .t .height) 1) (leb (a .second) 1) (a .t) (a .shift) (a .n) (a .main) (a .edition) (a .closed) (start .pre .1)
+    plan-by (a .mark) (leb (a .t .height) 1) (leb (a .moved .second) 1) (a .t) (a .moved .shift) (a .moved .n) (a .moved .main) (a .moved .edition)
+    (a .moved .closed) (start .pre .1)
     (gone .gone-by .ensures) (front .front-by .ensures) (closed .before .pops-by .ensures) (front .before .count-by .ensures)
     (closed .before .before .main-by .ensures) (closed .closed-with .ensures) (c .edition-by .ensures)
 

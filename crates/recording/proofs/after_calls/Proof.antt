@@ -58,46 +58,53 @@ whole c = (omega arith, omega arith)
 add-p : tie.Need-add-p Inv-loop μ-loop
 add-p c = search needs
 
-created-for-requires : tie.Need-created-for-requires Inv-loop μ-loop
-created-for-requires c κs =
-    let l = c .before .before .before .before .before .before in
+make-with-image-requires : tie.Need-make-with-image-requires Inv-loop μ-loop
+make-with-image-requires c κs =
+    let l = c .before .before .before .before .before .before .before in
     reached-ready (l .loop .inv) (good (l .before .before .before))
+
+-- one record more, which was made
+module _ (c : tie.After-make-with-image Inv-loop μ-loop) where
+  abbrev passed : tie.Else1 Inv-loop μ-loop
+  passed = c .before .before
+
+  abbrev turn : tie.At-loop Inv-loop μ-loop
+  turn = passed .before .before .before .before .before .before
+
+  created-few : turn .loop .created + c .make-with-image .result .created ≤ turn .loop .p + 6 + passed .before .image-length .result
+  created-few =
+      let word = passed .before .before .word-at in
+      let n = passed .before .image-length in
+      let made = c .make-with-image in
+      reached-created (turn .loop .inv) (good (turn .before .before .before)) (whole passed .0) (word .result) (n .result) (word .ensures) (n .ensures)
+      (whole passed .1) (made .result .reply) (made .ensures .0) (made .result .created) (made .ensures .1)
+
+  closed-low : turn .loop .closed + c .make-with-image .result .reply .answer .closed ≤ turn .loop .p + 6 + passed .before .image-length .result
+  closed-low =
+      let word = passed .before .before .word-at in
+      let n = passed .before .image-length in
+      let made = c .make-with-image in
+      reached-closed (turn .loop .inv) (good (turn .before .before .before)) (whole passed .0) (word .result) (n .result) (word .ensures) (n .ensures)
+      (whole passed .1) (made .result .reply) (made .ensures .0)
 
 add-created : tie.Need-add-created Inv-loop μ-loop
-add-created c =
-    let passed = c .before .before in
-    let l = passed .before .before .before .before .before .before in
-    let word = passed .before .before .word-at in
-    let n = passed .before .image-length in
-    let few = reached-created (l .loop .inv) (good (l .before .before .before)) (whole passed .0) (word .result) (n .result) (word .ensures) (n .ensures) (whole passed .1) _ refl (c .before .created-for .result) (c .before .created-for .ensures) in
-    omega (arith, few, c .wide .ensures)
-
-reply-with-image-requires : tie.Need-reply-with-image-requires Inv-loop μ-loop
-reply-with-image-requires c κs =
-    let l = c .before .before .before .before .before .before .before .before .before in
-    reached-ready (l .loop .inv) (good (l .before .before .before))
+add-created c = omega (arith, created-few (c .before), c .wide .ensures, add-p (passed (c .before)))
 
 add-closed : tie.Need-add-closed Inv-loop μ-loop
 add-closed c =
-    let reply = c .before .before in
-    let passed = reply .before .before .before .before in
-    let l = passed .before .before .before .before .before .before in
-    let word = passed .before .before .word-at in
-    let n = passed .before .image-length in
-    let low = reached-closed (l .loop .inv) (good (l .before .before .before)) (whole passed .0) (word .result) (n .result) (word .ensures) (n .ensures) (whole passed .1) (reply .reply-with-image .result) (reply .reply-with-image .ensures) in
-    omega (arith, low, c .wide2 .ensures, add-p passed)
+    let made = c .before .before .before .before in
+    omega (arith, closed-low made, c .wide2 .ensures, add-p (passed made))
 
 loop-again : tie.Need-loop-again Inv-loop μ-loop
 loop-again c =
-    let reply = c .before .before .before in
-    let made = reply .before .before .before in
-    let passed = made .before in
-    let l = passed .before .before .before .before .before .before in
-    let word = passed .before .before .word-at in
-    let n = passed .before .image-length in
-    rw (reply .before .before .wide .ensures, c .before .wide2 .ensures)
-    (reached-more (l .loop .inv) (good (l .before .before .before)) (whole passed .0) (word .result) (n .result) (word .ensures) (n .ensures) (whole passed .1)
-    (reply .reply-with-image .result) (reply .reply-with-image .ensures) (made .created-for .result) (made .created-for .ensures))
+    let made = c .before .before .before .before .before in
+    let l = turn made in
+    let word = passed made .before .before .word-at in
+    let n = passed made .before .image-length in
+    let m = made .make-with-image in
+    rw (c .before .before .before .before .wide .ensures, c .before .wide2 .ensures)
+    (reached-more (l .loop .inv) (good (l .before .before .before)) (whole (passed made) .0) (word .result) (n .result) (word .ensures) (n .ensures)
+    (whole (passed made) .1) (m .result .reply) (m .ensures .0) (m .result .created) (m .ensures .1))
 
 returns-2 : tie.Need-returns-2 Inv-loop μ-loop
 returns-2 c =
@@ -121,13 +128,12 @@ after-calls-spec =
     (λ c. search needs)
     returns
     add-p
-    created-for-requires
+    (λ c. search needs)
+    (λ c. search needs)
+    (λ c. search needs)
+    make-with-image-requires
     (λ c κs. search needs)
     add-created
-    (λ c. search needs)
-    (λ c. search needs)
-    (λ c. search needs)
-    reply-with-image-requires
     (λ c κs. search needs)
     add-closed
     (λ c. search needs)

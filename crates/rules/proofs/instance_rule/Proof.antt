@@ -1,15 +1,13 @@
 -- `rules::instance_rule` meets its contract: R1 where a task was found, else R2.
-use mathlib.Core.Path.{sym, _∙_}
 use borrow.Author.Needs.{needs}
-use Rattle.rules.proofs.Groups.{instance-chain}
 use Rattle.rules.proofs.instance_rule.Statement.{statement}
 use Rattle.rules.proofs.instance_rule.Tie as tie
 
 returns : tie.Need-returns
-returns c tb v b f = sym (instance-chain tb v b f _ (c .before .is-found .ensures) ∙ rw (c .if1 .taken))
+returns c = rw (← c .before .is-found .ensures, c .if1 .taken)
 
 returns-2 : tie.Need-returns-2
-returns-2 c tb v b f = sym (instance-chain tb v b f _ (c .before .is-found .ensures) ∙ rw (c .if1 .left))
+returns-2 c = rw (← c .before .is-found .ensures, c .if1 .left)
 
 pub instance-rule-spec : {M : Type 1} → statement M
 instance-rule-spec = tie.close (tie.spec (λ c κs. search needs) returns returns-2)

@@ -1,16 +1,16 @@
--- `calls::reply_to` meets its contract: what the record seeks, its plan, and that is put.
+-- `calls::make` meets its contract: what the record seeks, what is decided, and its plan is put.
 use mathlib.Core.Path.{_≡_, refl, sym, _∙_}
 use native.Mathlib.Omega.{arith}
 use borrow.Author.Needs.{needs}
 use Rattle.session.specs.Stored.{Ready}
 use Rattle.session.proofs.Known.{Sized, sized}
 use Rattle.records.specs.Records.{isStarting, requestFor}
-use Rattle.calls.specs.StoredCalls.{replyStored}
+use Rattle.calls.specs.StoredCalls.{replyStored, createdStored}
 use Rattle.calls.proofs.Settling.{shared-ready}
 use Rattle.calls.proofs.PlanSettling.{Gives}
-use Rattle.calls.proofs.RecordSettling.{sought-in, sought-for, plan-gives}
-use Rattle.calls.proofs.reply_to.Statement.{statement}
-use Rattle.calls.proofs.reply_to.Tie as tie
+use Rattle.calls.proofs.RecordSettling.{sought-in, sought-for, plan-gives, plan-creates}
+use Rattle.calls.proofs.make.Statement.{statement}
+use Rattle.calls.proofs.make.Tie as tie
 
 sizes : (c : tie.Start) → Sized (c .args .s)
 sizes c = sized (c .args .s) _ (c .good .1 .0)
@@ -47,8 +47,8 @@ gives c =
     let a = start .args in
     let r = a .r in
     let seek = c .before .before .before .seek-for in
-    rw (c .before .decide-for .ensures .0)
-    (plan-gives (a .table .now) (a .s) (sizes start) (a .shared) (start .pre) (r .asked) (r .screen) (r .word) (seek .result) (seek .ensures))
+    rw (c .before .decide-for .ensures)
+    (plan-gives (a .table .now) (a .s) (sizes start) (a .shared) (start .pre) (r .asked) (r .screen) (r .word) (seek .result) (seek .ensures) refl)
 
 answer-of-requires : tie.Need-answer-of-requires
 answer-of-requires c κs = gives (c .before) .showable
@@ -56,9 +56,22 @@ answer-of-requires c κs = gives (c .before) .showable
 put-requires : tie.Need-put-requires
 put-requires c κs = let h = gives (c .before .before) .puttable in record { few = h .few; second = h .second }
 
-returns : tie.Need-returns
-returns c = rw (c .put .ensures, c .before .answer-of .ensures) (gives (c .before .before .before) .gives)
+creates : (c : tie.After-plan)
+    → let a = c .before .before .before .before .before .args in
+    c .before .decide-for .result .created ≡ createdStored (a .table .now) (a .s) (requestFor (a .r))
+creates c =
+    let start = c .before .before .before .before .before in
+    let a = start .args in
+    let r = a .r in
+    let seek = c .before .before .before .seek-for in
+    rw (c .before .decide-for .ensures)
+    (plan-creates (a .table .now) (a .s) (sizes start) (a .shared) (start .pre) (r .asked) (r .screen) (r .word) (seek .result) (seek .ensures) refl)
 
-pub reply-to-spec : {M : Type 1} → statement M
-reply-to-spec =
+returns : tie.Need-returns
+returns c =
+    let planned = c .before .before .before in
+    (rw (c .put .ensures, c .before .answer-of .ensures) (gives planned .gives), creates planned)
+
+pub make-spec : {M : Type 1} → statement M
+make-spec =
     tie.close (tie.spec seek-for-requires mul-t element-copy-out-t decide-for-requires (λ c. search needs) answer-of-requires put-requires returns)
