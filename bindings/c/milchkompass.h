@@ -423,6 +423,14 @@ milchkompass_container milchkompass_container_play(const uint8_t *calls, size_t 
  * for clear task and 64 for reorder to front, where the rules of the class ask for these. */
 uint8_t milchkompass_chart(uint16_t index);
 
+/* Start of screen b with a flag word, driven by the flag chart: session and answer are those of milchkompass_start. */
+milchkompass_answer milchkompass_start_by_chart(const uint8_t *table, size_t table_length, milchkompass_session *s,
+                                                uint8_t b, uint32_t word);
+
+/* Finishing start driven by the flag chart: session and answer are those of milchkompass_finish_start. */
+milchkompass_answer milchkompass_finish_start_by_chart(const uint8_t *table, size_t table_length,
+                                                       milchkompass_session *s, uint8_t b, uint32_t word);
+
 #ifdef __cplusplus
 }
 #endif

@@ -224,6 +224,20 @@ extern "C" {
     fn milchkompass_container_back(c: *mut Container) -> u8;
     fn milchkompass_container_play(calls: *const u8, calls_length: usize) -> Container;
     fn milchkompass_chart(index: u16) -> u8;
+    fn milchkompass_start_by_chart(
+        table: *const u8,
+        table_length: usize,
+        s: *mut Session,
+        b: u8,
+        word: u32,
+    ) -> Answer;
+    fn milchkompass_finish_start_by_chart(
+        table: *const u8,
+        table_length: usize,
+        s: *mut Session,
+        b: u8,
+        word: u32,
+    ) -> Answer;
 }
 
 // SAFETY of each call below: pointers and lengths are those of whole slices,
@@ -365,6 +379,14 @@ pub fn container_back(c: &mut Container) -> u8 {
 pub fn container_play(calls: &[u8]) -> Container {
     check_abi();
     unsafe { milchkompass_container_play(calls.as_ptr(), calls.len()) }
+}
+
+pub fn start_by_chart(table: &[u8], s: &mut Session, b: u8, word: u32) -> Answer {
+    unsafe { milchkompass_start_by_chart(table.as_ptr(), table.len(), s, b, word) }
+}
+
+pub fn finish_start_by_chart(table: &[u8], s: &mut Session, b: u8, word: u32) -> Answer {
+    unsafe { milchkompass_finish_start_by_chart(table.as_ptr(), table.len(), s, b, word) }
 }
 
 pub fn chart(index: u16) -> u8 {

@@ -117,6 +117,29 @@ impl Session {
         Answer::given(raw::finish_start(table, &mut self.stored, screen, word))
     }
 
+    /// A [`start`](Session::start) driven by the [flag chart](crate::chart).
+    ///
+    /// # Errors
+    ///
+    /// As [`start`](Session::start).
+    pub fn start_by_chart(&mut self, screen: u8, flags: Flags) -> Result<Answer, Refusal> {
+        let table = self.table.bytes();
+        let given = raw::start_by_chart(table, &mut self.stored, screen, flags.bits());
+        Answer::given(given)
+    }
+
+    /// A [`finish_start`](Session::finish_start) driven by the
+    /// [flag chart](crate::chart).
+    ///
+    /// # Errors
+    ///
+    /// As [`start`](Session::start).
+    pub fn finish_start_by_chart(&mut self, screen: u8, flags: Flags) -> Result<Answer, Refusal> {
+        let table = self.table.bytes();
+        let given = raw::finish_start_by_chart(table, &mut self.stored, screen, flags.bits());
+        Answer::given(given)
+    }
+
     /// Why a [`start`](Session::start), or a
     /// [`finish_start`](Session::finish_start), of this screen goes as it does:
     /// the rule that it uses, and the task that is found for it. The session

@@ -12,21 +12,21 @@ use Rattle.flag_chart.specs.Chart.{worth, chartRule, indexOf, modeIn, ap
 
 -- ---- one digit
 
-digit : Bool → ℕ
+unfoldable pub digit : Bool → ℕ
 digit t = worth 1 t
 
-worth-digit : (n : ℕ) (t : Bool) → worth n t ≡ n * digit t
+pub worth-digit : (n : ℕ) (t : Bool) → worth n t ≡ n * digit t
 unfolding digit
 worth-digit n true = sym (mul-one n)
 worth-digit n false = sym (mul-zero n)
 
-digit-most : (t : Bool) → digit t ≤ 1
+pub digit-most : (t : Bool) → digit t ≤ 1
 unfolding digit
 digit-most true = omega arith
 digit-most false = omega arith
 
 -- the test of a digit is what it was made of
-digit-test : (t : Bool) {b : ℕ} → b ≡ digit t → eqb b 1 ≡ t
+pub digit-test : (t : Bool) {b : ℕ} → b ≡ digit t → eqb b 1 ≡ t
 unfolding digit
 digit-test true e = rw e
 digit-test false e = rw e

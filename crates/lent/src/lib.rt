@@ -7,7 +7,7 @@ ghost use mathlib.Core.Logic.{_↔_};
 ghost use mathlib.Core.Bool.{true, false};
 ghost use lib.ListN.{take};
 ghost use Rattle.model.specs.Table.{tableRefusal};
-ghost use Rattle.model.specs.Calls.{Call};
+ghost use Rattle.model.specs.Calls.{Call, start, finishingStart};
 ghost use Rattle.calls.specs.StoredCalls.{reply, callStored};
 ghost use Rattle.image_calls.specs.Restores.{AcceptsImages, BringsBack, SavesAgain};
 ghost use Rattle.image_calls.specs.StoredSaves.{saved, saveStored, BroughtBack, NoOtherHas};
@@ -333,4 +333,38 @@ pub extern "C" fn milchkompass_chart(index: u16) -> u8
     ensures indexed { λ _. ⌜ IndexesChart ⌝ }
 {
     flag_chart::entry(index as usize)
+}
+
+// Start of b with a flag word, driven by the flag chart: session and answer are those of `milchkompass_start`.
+#[no_mangle]
+pub extern "C" fn milchkompass_start_by_chart(
+    table: &[u8],
+    s: &mut Session,
+    b: u8,
+    word: u32,
+) -> Answer
+    ensures answers { λ r. ⌜ r ≡ callStored (now (table .entry)) (now (s .entry)) (start b word) .answer ⌝ }
+    ensures stores { λ _. ⌜ now (s .exit) ≡ callStored (now (table .entry)) (now (s .entry)) (start b word) .session ⌝ }
+    ensures promise { λ _. ⌜ KeepsPromise3 (now (table .entry)) ⌝ }
+{
+    let reply = navigator::start_by_chart(table, *s, b, word);
+    *s = reply.session;
+    reply.answer
+}
+
+// Finishing start of b, driven by the flag chart.
+#[no_mangle]
+pub extern "C" fn milchkompass_finish_start_by_chart(
+    table: &[u8],
+    s: &mut Session,
+    b: u8,
+    word: u32,
+) -> Answer
+    ensures answers { λ r. ⌜ r ≡ callStored (now (table .entry)) (now (s .entry)) (finishingStart b word) .answer ⌝ }
+    ensures stores { λ _. ⌜ now (s .exit) ≡ callStored (now (table .entry)) (now (s .entry)) (finishingStart b word) .session ⌝ }
+    ensures promise { λ _. ⌜ KeepsPromise3 (now (table .entry)) ⌝ }
+{
+    let reply = navigator::finish_start_by_chart(table, *s, b, word);
+    *s = reply.session;
+    reply.answer
 }

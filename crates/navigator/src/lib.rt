@@ -76,6 +76,26 @@ pub fn finish_start(table: &[u8], s: Session, b: u8, word: u32) -> Reply
     calls::finish_start(table, s, b, word, refusal)
 }
 
+// The same two, driven by the flag chart: once the index of its entry is formed, neither the six flags nor the mode of b are read
+// again.
+pub fn start_by_chart(table: &[u8], s: Session, b: u8, word: u32) -> Reply
+    ensures gives { λ r. ⌜ r ≡ callStored (now (table .entry)) s (Call.start b word) ⌝ }
+    ensures keeps { λ r. ⌜ KeepsSound (now (table .entry)) s (r .session) ⌝ }
+    ensures promise { λ _. ⌜ KeepsPromise3 (now (table .entry)) ⌝ }
+{
+    let refusal = shared_refusal(table, s);
+    chart_calls::start(table, s, b, word, false, refusal)
+}
+
+pub fn finish_start_by_chart(table: &[u8], s: Session, b: u8, word: u32) -> Reply
+    ensures gives { λ r. ⌜ r ≡ callStored (now (table .entry)) s (Call.finishingStart b word) ⌝ }
+    ensures keeps { λ r. ⌜ KeepsSound (now (table .entry)) s (r .session) ⌝ }
+    ensures promise { λ _. ⌜ KeepsPromise3 (now (table .entry)) ⌝ }
+{
+    let refusal = shared_refusal(table, s);
+    chart_calls::start(table, s, b, word, true, refusal)
+}
+
 // Why a start of b with a flag word goes as it does: its refusal, or its rule, and where and how the task was found for it.
 pub fn why(table: &[u8], s: Session, b: u8, word: u32) -> Reason
     ensures gives { λ r. ⌜ r ≡ whyStored (now (table .entry)) s b word ⌝ }
