@@ -6,19 +6,19 @@ use model::Flags;
 
 // The seven, in hex as Android publishes them: new task, single top, multiple task, clear top, reorder to front, clear task, no
 // history.
-const NTK: u32 = 0x10000000;
+pub const NTK: u32 = 0x10000000;
 
-const STP: u32 = 0x20000000;
+pub const STP: u32 = 0x20000000;
 
-const MTK: u32 = 0x08000000;
+pub const MTK: u32 = 0x08000000;
 
-const CTP: u32 = 0x04000000;
+pub const CTP: u32 = 0x04000000;
 
-const RTF: u32 = 0x00020000;
+pub const RTF: u32 = 0x00020000;
 
-const CTK: u32 = 0x00008000;
+pub const CTK: u32 = 0x00008000;
 
-const NOH: u32 = 0x40000000;
+pub const NOH: u32 = 0x40000000;
 
 // Any of the seven may be set together.
 pub const SEVEN: u32 = NTK | STP | MTK | CTP | RTF | CTK | NOH;

@@ -4,11 +4,9 @@
 ghost use mathlib.Core.Path.{_≡_};
 ghost use Rattle.model.specs.Refusals.{refusal as refusalOf};
 ghost use Rattle.model.specs.Table.{tableRefusal};
-ghost use Rattle.model.specs.Calls.{Call};
-ghost use Rattle.calls.specs.StoredCalls.{sharedRefusal, callStored};
+ghost use Rattle.calls.specs.StoredCalls.{sharedRefusal};
 ghost use Rattle.fronts.specs.Sets.{sizeOf};
 ghost use Rattle.fronts.specs.Fronts.{wordAt, withFront, frontSet, knownChecks, refusedSet, frontsStored, SetExactly, KnowingMore, AnyNoHistory};
-use model::Answer;
 use session::Session;
 
 // A set of screens, bit k for screen k, and how many there are; or the refusal, and zeros.
@@ -21,21 +19,6 @@ pub struct FrontSet {
 
 // ---- fillings
 
-// The seven flags, as Android publishes them.
-const NTK: u32 = 0x10000000;
-
-const STP: u32 = 0x20000000;
-
-const MTK: u32 = 0x08000000;
-
-const CTP: u32 = 0x04000000;
-
-const RTF: u32 = 0x00020000;
-
-const CTK: u32 = 0x00008000;
-
-const NOH: u32 = 0x40000000;
-
 // How many words the seven make.
 const WORDS: u32 = 128;
 
@@ -43,27 +26,19 @@ const WORDS: u32 = 128;
 fn word_at(i: u32) -> u32
     ensures { λ r. ⌜ r ≡ wordAt i ⌝ }
 {
-    let low = i % 2 * NTK + i / 2 % 2 * STP + i / 4 % 2 * MTK;
-    let high = i / 8 % 2 * CTP + i / 16 % 2 * RTF + i / 32 % 2 * CTK + i / 64 % 2 * NOH;
-    low + high
+    let three = i % 2 * flags::NTK + i / 2 % 2 * flags::STP + i / 4 % 2 * flags::MTK;
+    let two = i / 8 % 2 * flags::CTP + i / 16 % 2 * flags::RTF;
+    three + (two + i / 32 % 2 * flags::CTK + i / 64 % 2 * flags::NOH)
 }
 
 // ---- the set
-
-// What a start of b with this word would answer.
-fn answer_to(table: &[u8], s: Session, b: u8, word: u32) -> Answer
-    requires { ⌜ sharedRefusal (now table) s ≡ 0 ⌝ }
-    ensures { λ r. ⌜ r ≡ callStored (now (table .entry)) s (Call.start b word) .answer ⌝ }
-{
-    calls::start(table, s, b, word, 0).answer
-}
 
 // The set with the screen that a start of b with this word brings to the front, if it brings one.
 fn with_front(table: &[u8], s: Session, b: u8, set: u64, word: u32) -> u64
     requires { ⌜ sharedRefusal (now table) s ≡ 0 ⌝ }
     ensures { λ r. ⌜ r ≡ withFront (now (table .entry)) s b set word ⌝ }
 {
-    let answer = answer_to(table, s, b, word);
+    let answer = calls::start_answer(table, s, b, word, 0);
     if answer.refusal != 0 {
         return set;
     }

@@ -10,20 +10,20 @@ use Rattle.fronts.proofs.with_front.Statement.{statement}
 use Rattle.fronts.proofs.with_front.Tie as tie
 
 -- the set with the screen of the answer that was given
-by-answer : (c : tie.After-answer-to)
-    → let a = c .before .before .args in withScreen (a .set) (c .answer-to .result) ≡ withFront (a .table .now) (a .s) (a .b) (a .set) (a .word)
+by-answer : (c : tie.After-start-answer)
+    → let a = c .before .before .args in withScreen (a .set) (c .start-answer .result) ≡ withFront (a .table .now) (a .s) (a .b) (a .set) (a .word)
 unfolding withFront
-by-answer c = let a = c .before .before .args in ap (λ (x : Answer). withScreen (a .set) x) (c .answer-to .ensures)
+by-answer c = let a = c .before .before .args in ap (λ (x : Answer). withScreen (a .set) x) (c .start-answer .ensures)
 
 returns : tie.Need-returns
 returns c =
     let p = c .before .before in
-    sym (with-none (p .before .before .args .set) (p .answer-to .result) (c .if1 .taken)) ∙ by-answer p
+    sym (with-none (p .before .before .args .set) (p .start-answer .result) (c .if1 .taken)) ∙ by-answer p
 
 returns-2 : tie.Need-returns-2
 returns-2 c =
     let p = c .before .before .before .before in
-    sym (with-empty (p .before .before .args .set) (p .answer-to .result) (c .if2 .taken)) ∙ by-answer p
+    sym (with-empty (p .before .before .args .set) (p .start-answer .result) (c .if2 .taken)) ∙ by-answer p
 
 shl-result : tie.Need-shl-result
 shl-result c =
@@ -31,14 +31,14 @@ shl-result c =
     let p = else2 .before .before .before .before in
     let start = p .before .before in
     let a = start .args in
-    front-known (a .table .now) (a .s) (a .b) (a .word) (shared-ready (a .table .now) (a .s) (start .pre)) (p .answer-to .ensures)
+    front-known (a .table .now) (a .s) (a .b) (a .word) (shared-ready (a .table .now) (a .s) (start .pre)) (p .start-answer .ensures)
     (else2 .before .before .if1 .left) (else2 .if2 .left)
 
 returns-3 : tie.Need-returns-3
 returns-3 c =
     let else2 = c .before in
     let p = else2 .before .before .before .before in
-    with-shift (p .before .before .args .set) (p .answer-to .result) (else2 .before .before .if1 .left) (else2 .if2 .left) (shl-result c) ∙ by-answer p
+    with-shift (p .before .before .args .set) (p .start-answer .result) (else2 .before .before .if1 .left) (else2 .if2 .left) (shl-result c) ∙ by-answer p
 
 pub with-front-spec : {M : Type 1} → statement M
-with-front-spec = tie.close (tie.spec (λ c κs. search needs) returns returns-2 (λ c. search needs) shl-result returns-3)
+with-front-spec = tie.close (tie.spec (λ c κs. sym (c .before .pre)) returns returns-2 (λ c. search needs) shl-result returns-3)
