@@ -14,9 +14,9 @@ use Rattle.model.specs.Session.{State, Stack, front, frontScreen}
 use Rattle.model.specs.Rules.{rulesOf, isSingle, isApart, groupOf, soughtBy, fits, chooseIn, choose}
 use Rattle.session.specs.declared.Task.{Task}
 use Rattle.session.specs.Stored.{viewTask}
-use Rattle.rules.specs.Shows.{Shows}
 use Rattle.rules.specs.declared.Asks.{Asks}
 use Rattle.rules.specs.Groups.{asksOf, ruleBy}
+use Rattle.rules.proofs.Tasks.{Shows}
 
 -- ---- the rules of a group, by values, are the definition's
 

@@ -20,8 +20,8 @@ use Rattle.model.specs.Calls.{effectIn, isPush, makesTask, overfills, roomCheck
 use Rattle.model.proofs.Logic.{if-elim}
 use Rattle.session.specs.declared.Task.{Task}
 use Rattle.session.proofs.TaskLaws.{view-height}
-use Rattle.rules.specs.Shows.{Shows}
 use Rattle.rules.specs.Rooms.{roomBy}
+use Rattle.rules.proofs.Tasks.{Shows}
 
 -- ---- only the group that seeks no task changes the front task
 

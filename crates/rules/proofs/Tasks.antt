@@ -4,12 +4,12 @@ use mathlib.Core.Path.{_≡_, refl, ap}
 use mathlib.Core.List.{List}
 use native.Mathlib.Nat.{not-suc-le-zero}
 use native.Mathlib.Omega.{arith}
-use lib.ListN.{length}
+use lib.ListN.{length, getD}
 use Rattle.model.specs.declared.Flags.{Flags}
 use Rattle.model.specs.declared.Found.{Found}
 use Rattle.model.specs.declared.Group.{Group}
 use Rattle.model.specs.Table.{sizeOf}
-use Rattle.model.specs.Session.{Stack, noStack, frontScreen, count, top, mostTasks}
+use Rattle.model.specs.Session.{State, Stack, noStack, frontScreen, count, top, mostTasks}
 use Rattle.model.specs.Search.{seekRoot, seek}
 use Rattle.model.specs.Rules.{groupOf, soughtBy, chooseIn, choose}
 use Rattle.model.proofs.Logic.{All-at, if-elim}
@@ -23,7 +23,11 @@ use Rattle.session.proofs.Known.{Sized}
 use Rattle.session.proofs.StoredLaws.{view-count, view-edition, view-at, sized-at, stored-height, sound-view, sound-blank, blank-few}
 use Rattle.session.proofs.TaskLaws.{view-height}
 use Rattle.rules.specs.Startable.{Startable}
-use Rattle.rules.specs.Shows.{indexOf, Shows, Filled}
+use Rattle.rules.specs.Shows.{indexOf, Filled}
+
+-- the session v has the task t there: t is the task found, or the front task where none was found
+abbrev pub Shows : State ℕ → Found → Task → Type 0
+Shows v found t = getD (v .tasks) (indexOf found) noStack ≡ viewTask t
 
 -- a stored session shows the task that it stores at the index of the task found
 pub stored-shows : (c : Session) (t : Found) {i : ℕ} → i ≡ indexOf t → i < c .n → Shows (view c) t (taskBehind c i)

@@ -18,9 +18,9 @@ use Rattle.session.specs.declared.Task.{Task}
 use Rattle.session.specs.Stored.{view, Ready, taskBehind}
 use Rattle.session.proofs.Known.{Sized}
 use Rattle.session.proofs.StoredLaws.{sized-at}
-use Rattle.rules.specs.Shows.{indexOf, Shows, Filled}
+use Rattle.rules.specs.Shows.{indexOf, Filled}
 use Rattle.rules.specs.Startable.{Startable}
-use Rattle.rules.proofs.Tasks.{counted, index-inside, task-filled, stored-shows, choice-stands}
+use Rattle.rules.proofs.Tasks.{Shows, counted, index-inside, task-filled, stored-shows, choice-stands}
 use Rattle.rules.proofs.Rooms.{room-read}
 use Rattle.starts.specs.Checks.{startEntry, roomRefusal}
 use Rattle.starts.proofs.Entries.{start-entered}
