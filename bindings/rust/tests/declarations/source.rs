@@ -118,7 +118,7 @@ pub fn structs() -> Vec<Struct> {
     let mut found: Vec<Struct> = Vec::new();
     while let Some(kind) = next.pop() {
         let name = inner(&kind);
-        let plain = ["u8", "u16", "u32", "usize", "bool"].contains(&name);
+        let plain = ["u8", "u16", "u32", "u64", "usize", "bool"].contains(&name);
         if !plain && !found.iter().any(|known| known.name == name) {
             let declared = declared(&sources, name);
             next.extend(declared.fields.iter().map(|(_, kind)| kind.clone()));
