@@ -33,9 +33,10 @@ static const uint32_t flags[] = {
 };
 enum { FLAGS = sizeof flags / sizeof *flags };
 
-enum { LAUNCH, START, FINISHING_START, BACK, LOOK, SAVE, RESTORE, WHY, PLAY, PLAY_CALL, CALLS };
-static const char *const names[CALLS] = {"launch", "start",   "finishing start", "Back", "look",
-                                         "save",   "restore", "why",             "play", "play_call"};
+enum { LAUNCH, START, FINISHING_START, BACK, LOOK, SAVE, RESTORE, WHY, PLAY, PLAY_CALL, CHART, FINISHING_CHART, CALLS };
+static const char *const names[CALLS] = {
+    "launch",  "start", "finishing start", "Back",      "look",               "save",
+    "restore", "why",   "play",            "play_call", "start by the chart", "finishing start by the chart"};
 static int most[CALLS], accepted[CALLS];
 
 /* The copies of a call are those since the last one. */
@@ -69,6 +70,10 @@ static void every_start(milchkompass_session s) {
             made(START, milchkompass_start(table, sizeof table, &t, b, word).refusal);
             t = s;
             made(FINISHING_START, milchkompass_finish_start(table, sizeof table, &t, b, word).refusal);
+            t = s;
+            made(CHART, milchkompass_start_by_chart(table, sizeof table, &t, b, word).refusal);
+            t = s;
+            made(FINISHING_CHART, milchkompass_finish_start_by_chart(table, sizeof table, &t, b, word).refusal);
             made(WHY, milchkompass_why(table, sizeof table, s, b, word).refusal);
             t = s;
             made(PLAY, milchkompass_play(table, sizeof table, &t, record, sizeof record).refusal);
