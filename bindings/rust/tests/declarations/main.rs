@@ -202,7 +202,7 @@ fn flags() {
         ("NOH", "NO_HISTORY", Flags::NO_HISTORY),
     ] {
         let bits = format!("{:#010x}", flag.bits());
-        has_line(&flags, &format!("const {short}: u32 = {bits};"));
+        has_line(&flags, &format!("pub const {short}: u32 = {bits};"));
         named(
             &format!("FLAG_ACTIVITY_{name}"),
             &format!("UINT32_C({bits})"),
