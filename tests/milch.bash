@@ -35,7 +35,7 @@ mkdir "$work/examples"
 for found in milch crates sample.recording prices.recording prices.names; do ln -s "$PWD/$found" "$work/examples/$found"; done
 # The lines below a command in a document.
 shown_below() { # DOCUMENT COMMAND
-    awk -v command="    \$ $2" '$0 == command { on = 1; next } on && (!/^    / || /^    \$ /) { exit } on { print substr($0, 5) }' "$1"
+    example="    \$ $2" awk '$0 == ENVIRON["example"] { on = 1; next } on && (!/^    / || /^    \$ /) { exit } on { print substr($0, 5) }' "$1"
 }
 examples() { # DOCUMENT
     local commands example expected wanted
@@ -52,7 +52,7 @@ examples README.md
 examples docs/COMMANDS.md
 name='every command has an example that is run' status=0
 for asked in show at picture play explain same diff depth load chart text bytes fronts panels install; do
-    grep -q "^./milch $asked " "$work/examples.run" || wrong "$asked has none"
+    grep -q "\(^\|| \)./milch $asked " "$work/examples.run" || wrong "$asked has none"
 done
 printf 'ok: %s\n' "$name"
 
