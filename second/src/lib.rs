@@ -98,6 +98,8 @@ pub enum Refusal {
     NotTallied = 31,
     /// Load: the seed is 0.
     SeedZero = 32,
+    /// Fronts: a bit of the mask outside the seven, or a value bit outside the mask.
+    KnownBits = 35,
     /// Panels: a bad count or kind of operations, or a container with too many steps or
     /// panels.
     NotPanels = 36,
@@ -106,6 +108,4 @@ pub enum Refusal {
     /// Panels: a ninth recorded step, an unrecorded one over recorded ones, or Back with
     /// none.
     NoStep = 38,
-    /// Fronts: a bit of the mask outside the seven, or a value bit outside the mask.
-    KnownBits = 35,
 }
