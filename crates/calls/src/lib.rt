@@ -22,7 +22,7 @@ use starts::{Decided, Sought};
 
 // What a call gives: the session after it, and the answer.
 #[repr(C)]
-#[derive(Drop)]
+#[derive(Clone, Copy)]
 pub struct Reply {
     pub session: Session,
     pub answer: Answer,
@@ -280,7 +280,7 @@ pub fn decide_for(table: &[u8], s: Session, t: Task, sought: Sought, r: Record) 
 }
 
 // What a record gives, and how many screens it creates.
-#[derive(Drop)]
+#[derive(Clone, Copy)]
 pub struct Made {
     pub reply: Reply,
     pub created: u8,

@@ -12,7 +12,7 @@ use panels::Panels;
 
 // The panels now, how many steps are recorded, and the panels that each of them found, oldest first.
 #[repr(C)]
-#[derive(Drop)]
+#[derive(Clone, Copy)]
 pub struct Container {
     pub now: Panels,
     pub steps: u8,
@@ -20,7 +20,7 @@ pub struct Container {
 }
 
 // The container after a call and 0, or the container as it was and the refusal.
-#[derive(Drop)]
+#[derive(Clone, Copy)]
 pub struct Reply {
     pub container: Container,
     pub refusal: u8,

@@ -16,7 +16,7 @@ use tally::Tally;
 
 // What is left after a block: how many bytes were read, the session, the tally, how many records the block has, whether
 // reading failed, and whether the input may go on.
-#[derive(Drop)]
+#[derive(Clone, Copy)]
 struct Turned {
     count: usize,
     session: Session,

@@ -9,7 +9,7 @@ use model::Answer;
 use session::Session;
 
 // The first answers that differ and the number of Backs before them; or that none differ.
-#[derive(Drop)]
+#[derive(Clone, Copy)]
 pub struct Difference {
     pub found: bool,
     pub backs: u16,

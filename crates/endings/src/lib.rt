@@ -62,7 +62,7 @@ pub fn ignored(input: &[u8]) -> Notes
 
 // What the bytes of a record are taken for: an image, which a whole restore brings; nothing, since it is no call; an image that
 // is cut.
-#[derive(Drop)]
+#[derive(Clone, Copy)]
 pub enum Share {
     Images,
     LeftOut,
@@ -70,7 +70,7 @@ pub enum Share {
 }
 
 // The records of a recording that are in a share: how many, the number of the first, counted from 1, and their bytes there.
-#[derive(Drop)]
+#[derive(Clone, Copy)]
 pub struct Portion {
     pub records: Notes,
     pub bytes: usize,

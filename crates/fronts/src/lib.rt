@@ -12,7 +12,7 @@ use session::Session;
 
 // A set of screens, bit k for screen k, and how many there are; or the refusal, and zeros.
 #[repr(C)]
-#[derive(Drop)]
+#[derive(Clone, Copy)]
 pub struct FrontSet {
     pub set: u64,
     pub refusal: u8,

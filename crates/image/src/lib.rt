@@ -135,7 +135,7 @@ pub fn shaped(image: &[u8]) -> bool
 }
 
 // What is read from an image: whether its tasks can be read, and the session, a fresh one if they cannot.
-#[derive(Drop)]
+#[derive(Clone, Copy)]
 pub struct Contents {
     pub readable: bool,
     pub session: Session,

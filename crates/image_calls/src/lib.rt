@@ -66,7 +66,7 @@ pub fn restore(table: &[u8], s: Session, image: &[u8], shared: u8) -> Reply
 
 // What a save gives: its refusal, or 0 and the length of the image.
 #[repr(C)]
-#[derive(Drop)]
+#[derive(Clone, Copy)]
 pub struct SaveReply {
     pub refusal: u8,
     pub length: usize,

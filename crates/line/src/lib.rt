@@ -13,7 +13,9 @@ pub fn write_text(out: &mut [u8], at: usize, text: &[u8]) -> usize
     ensures place { result ≡ at + length text.now }
     ensures bytes { out.new ≡ written out.old at text.now }
 {
-    at + bytes::copy(text, &mut out[at..])
+    let end = at + text.len();
+    out[at..end].copy_from_slice(text);
+    end
 }
 
 // Writes a number in base ten, and then the byte `end`. Yields the place after it. Most numbers have one digit.

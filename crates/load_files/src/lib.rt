@@ -19,14 +19,14 @@ use reading::{BLOCK, RECORDS};
 const MOST: u64 = 1000000000000;
 
 // What a text stands for: a number up to the most, or none of these.
-#[derive(Drop)]
+#[derive(Clone, Copy)]
 pub enum Number {
     Is(u64),
     Nothing,
 }
 
 // What is written of a load: table and records, the records alone, or the last state alone.
-#[derive(Drop)]
+#[derive(Clone, Copy)]
 pub enum Part {
     Whole,
     Records,
@@ -34,7 +34,7 @@ pub enum Part {
 }
 
 // The part that is asked for, or none that is known.
-#[derive(Drop)]
+#[derive(Clone, Copy)]
 enum Asked {
     For(Part),
     Nothing,
@@ -128,7 +128,7 @@ fn give(writes: bool, block: &[u8]) -> bool
 }
 
 // What a load came to: whether all of it was made, and the state after its last block.
-#[derive(Drop)]
+#[derive(Clone, Copy)]
 struct Ran {
     done: bool,
     state: u32,

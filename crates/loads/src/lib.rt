@@ -11,7 +11,7 @@ const FEEDBACK: u32 = 0x80200003;
 
 // What a load gives beside the bytes: its refusal, 0 if none, the state after the last record, and how many were made.
 #[repr(C)]
-#[derive(Drop)]
+#[derive(Clone, Copy)]
 pub struct LoadReply {
     pub refusal: u8,
     pub state: u32,

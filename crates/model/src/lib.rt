@@ -4,7 +4,7 @@
 // An answer is nine numbers: the refusal (0 if none); after the call, the front screen, the front root, the front height, the
 // number of tasks and the main place; the screens that the call closed; and after it the edition and the No-History mark.
 #[repr(C)]
-#[derive(Drop)]
+#[derive(Clone, Copy)]
 pub struct Answer {
     pub refusal: u8,
     pub screen: u8,
@@ -22,7 +22,7 @@ impl Answer {
 }
 
 // The seven flags of a flag word: new task, single top, multiple task, clear top, reorder to front, clear task, no history.
-#[derive(Drop)]
+#[derive(Clone, Copy)]
 pub struct Flags {
     pub ntk: bool,
     pub stp: bool,
@@ -34,7 +34,7 @@ pub struct Flags {
 }
 
 // The rules of a start.
-#[derive(Drop)]
+#[derive(Clone, Copy)]
 pub enum Rule {
     R1,
     R2,
@@ -57,7 +57,7 @@ pub enum Rule {
 }
 
 // The groups of rules: b is single-instance; b is single-task; otherwise not apart; otherwise apart.
-#[derive(Drop)]
+#[derive(Clone, Copy)]
 pub enum Group {
     Instance,
     Task,
@@ -66,7 +66,7 @@ pub enum Group {
 }
 
 // A task that was sought: none, or its place and how it was found.
-#[derive(Drop)]
+#[derive(Clone, Copy)]
 pub enum Found {
     Nowhere,
     ByRoot(u8),
@@ -74,7 +74,7 @@ pub enum Found {
 }
 
 // The rule that a start uses, and the task that was found for it.
-#[derive(Drop)]
+#[derive(Clone, Copy)]
 pub struct Choice {
     pub rule: Rule,
     pub found: Found,
@@ -83,7 +83,7 @@ pub struct Choice {
 // Why a start went as it did: its refusal (0 if none), the number of its rule, the place of the task found (0 if none), and
 // how it was found (0 none, 1 by root, 2 by affinity).
 #[repr(C)]
-#[derive(Drop)]
+#[derive(Clone, Copy)]
 pub struct Reason {
     pub refusal: u8,
     pub rule: u8,
@@ -92,7 +92,7 @@ pub struct Reason {
 }
 
 // What is done with the screens of a task: nothing; empty, push B; clear to B; lift; push B.
-#[derive(Drop)]
+#[derive(Clone, Copy)]
 pub enum Change {
     Keep,
     Renew,
@@ -102,7 +102,7 @@ pub enum Change {
 }
 
 // What a rule does: a new task; a change of the front task; or a move and a change of the task moved.
-#[derive(Drop)]
+#[derive(Clone, Copy)]
 pub enum Effect {
     New,
     InFront(Change),
@@ -110,7 +110,7 @@ pub enum Effect {
 }
 
 // Where the marked screen stands after a start: nowhere, or behind so many tasks and below so many screens.
-#[derive(Drop)]
+#[derive(Clone, Copy)]
 pub enum Mark {
     Gone,
     Stands(u8, u8),

@@ -3,7 +3,7 @@
 ghost use Rattle.std.specs.Prelude.{◌<◌, ◌≡◌, []};
 ghost use Rattle.notes.specs.Places.{noted_at, Tells};
 
-#[derive(Drop)]
+#[derive(Clone, Copy)]
 pub struct Notes {
     pub count: usize,
     pub first: usize,

@@ -6,14 +6,14 @@ ghost use Rattle.panels.specs.Stored.{no_panels, view_panels, hold_panels, pushe
 
 // Panels, bottom first: those below `count`.
 #[repr(C)]
-#[derive(Drop)]
+#[derive(Clone, Copy)]
 pub struct Panels {
     pub count: u8,
     pub panels: [u8; Panels::PANELS],
 }
 
 // The panels that a step makes and 0, or none and 37.
-#[derive(Drop)]
+#[derive(Clone, Copy)]
 pub struct Carried {
     pub panels: Panels,
     pub refusal: u8,

@@ -14,7 +14,7 @@ use session::{Session, Task};
 // The front task after the call, how many tasks go one place back, which task goes then, if one does, whether the
 // task behind the front one loses its top screen, the numbers, how many screens close, the edition, and the No-History mark. A
 // refused call changes nothing.
-#[derive(Drop)]
+#[derive(Clone, Copy)]
 pub struct Plan {
     pub front: Task,
     pub main: u8,
@@ -213,7 +213,7 @@ fn edition_by(n: u8, edition: u8) -> u8
 // What moves where a task comes in front, before the marked screen closes: the height of the task behind it, how many tasks go one
 // place back, the numbers, the edition, and how many screens closed. The task itself stands beside it: within it costs the player
 // half of its instructions more.
-#[derive(Drop)]
+#[derive(Clone, Copy)]
 pub struct Moved {
     pub second: u8,
     pub shift: u8,

@@ -18,7 +18,7 @@ use tally::Tally;
 
 // What is said of each record: nothing, and its answer is tallied; the player's line; the reason too, under that of a start; or that
 // with its sentence.
-#[derive(Drop)]
+#[derive(Clone, Copy)]
 pub enum Manner {
     Heights,
     Lines,
@@ -39,7 +39,7 @@ fn in_words(manner: Manner) -> bool
 }
 
 // The place behind the text that was said, and the tally.
-#[derive(Drop)]
+#[derive(Clone, Copy)]
 struct Spoken {
     at: usize,
     tally: Tally,
@@ -106,7 +106,7 @@ fn speak(
 }
 
 // What a run of records gives: the session after them, the tally with their answers, the bytes of text.
-#[derive(Drop)]
+#[derive(Clone, Copy)]
 pub struct Ran {
     pub session: Session,
     pub tally: Tally,
@@ -184,7 +184,7 @@ pub fn run(
 }
 
 // What the player gives: the session after some records, the bytes of input that they took, the bytes of text.
-#[derive(Drop)]
+#[derive(Clone, Copy)]
 pub struct Played {
     pub session: Session,
     pub used: usize,

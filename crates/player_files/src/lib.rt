@@ -76,7 +76,7 @@ fn warn(met: Notes) {
 // ---- blocks
 
 // What is said of each record: the player's line alone; or the reason too, under that of a start; or that with its sentence.
-#[derive(Drop)]
+#[derive(Clone, Copy)]
 pub enum Manner {
     Lines,
     Reasons,
@@ -84,7 +84,7 @@ pub enum Manner {
 }
 
 // What saying a block leaves: the session, and whether all of it was written.
-#[derive(Drop)]
+#[derive(Clone, Copy)]
 struct Said {
     session: Session,
     went: bool,
@@ -138,7 +138,7 @@ fn say(table: &[u8], s: Session, block: &[u8], manner: Manner) -> Said
 }
 
 // What is left after a block: how many bytes were read, the session, the block's records of kind 6, and whether to go on.
-#[derive(Drop)]
+#[derive(Clone, Copy)]
 struct Turned {
     count: usize,
     session: Session,

@@ -14,7 +14,7 @@ pub const RECORDS: usize = 10000;
 pub const BLOCK: usize = 6 * RECORDS;
 
 // What was read: how many bytes, and whether reading failed behind them.
-#[derive(Drop)]
+#[derive(Clone, Copy)]
 pub struct Read {
     pub count: usize,
     pub failed: bool,

@@ -116,7 +116,7 @@ fn wide(x: u8) -> u64
 
 // The session after a list of calls, made one after the other, and the screens that they created and closed. No more screens
 // are closed than the list has bytes: each is created by a record, or a byte of an image.
-#[derive(Drop)]
+#[derive(Clone, Copy)]
 struct Counted {
     session: Session,
     created: u64,
@@ -161,7 +161,7 @@ fn after_calls(table: &[u8], begun: Session, calls: &[u8]) -> Counted
 
 // What a list of calls leaves: the refusal of the table (0 if none), and the session.
 #[repr(C)]
-#[derive(Drop)]
+#[derive(Clone, Copy)]
 pub struct Replayed {
     pub refusal: u8,
     pub session: Session,
@@ -199,7 +199,7 @@ pub fn replay(table: &[u8], calls: &[u8]) -> Replayed
 // What a list of calls did to screens: the refusal of the table (0 if none), the screens created and closed along it, and those
 // standing after it.
 #[repr(C)]
-#[derive(Drop)]
+#[derive(Clone, Copy)]
 pub struct Screens {
     pub refusal: u8,
     pub created: u64,
@@ -253,7 +253,7 @@ fn same_image(s: Session, t: Session) -> bool
 
 // What two lists are to each other: the refusal of the table (0 if none), and whether they end alike.
 #[repr(C)]
-#[derive(Drop)]
+#[derive(Clone, Copy)]
 pub struct Ending {
     pub refusal: u8,
     pub alike: bool,

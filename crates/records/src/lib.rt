@@ -8,7 +8,7 @@ ghost use Rattle.records.specs.Records.{word_at, asked_by, is_finishing, record_
 pub const LENGTH: usize = 6;
 
 // The call that a record asks for: none where its kind is unknown, or where it is cut.
-#[derive(Drop)]
+#[derive(Clone, Copy)]
 pub enum Asked {
     Launch,
     Start,
@@ -19,7 +19,7 @@ pub enum Asked {
 }
 
 // A record that was read. The screen and the word of a cut one are 0.
-#[derive(Drop)]
+#[derive(Clone, Copy)]
 pub struct Record {
     pub kind: u8,
     pub asked: Asked,

@@ -145,7 +145,7 @@ fn holds_where(wanted: bool, t: Task, b: u8) -> bool
 
 // What the search and the rules of a group ask of a start: whether it is single, the mode of b being single-top or STP set, and
 // whether MTK (a new task), CTP, RTF and CTK are set.
-#[derive(Drop)]
+#[derive(Clone, Copy)]
 pub struct Asks {
     pub single: bool,
     pub new_task: bool,

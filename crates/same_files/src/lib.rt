@@ -11,7 +11,7 @@ use endings::Share;
 use libc::{STDERR_FILENO, STDOUT_FILENO};
 
 // A file that was read: whether all of it was, and how many bytes.
-#[derive(Drop)]
+#[derive(Clone, Copy)]
 struct Loaded {
     ok: bool,
     long: usize,

@@ -7,7 +7,7 @@ ghost use Rattle.session.specs.Stored.{fresh_session, view, view_task, with_scre
 
 // A task: the screen that created it, and its screens, bottom first.
 #[repr(C)]
-#[derive(Drop)]
+#[derive(Clone, Copy)]
 pub struct Task {
     pub screens: [u8; Session::SCREENS],
     pub root: u8,
@@ -17,7 +17,7 @@ pub struct Task {
 // A session: n tasks, front first, the main place, the edition (6, 7 or 8, and 8 where no task stands), and the No-History mark: 1
 // where the front screen was pushed or made new by a start with the No-History flag, else 0.
 #[repr(C)]
-#[derive(Drop)]
+#[derive(Clone, Copy)]
 pub struct Session {
     pub tasks: [Task; Session::TASKS],
     pub n: u8,

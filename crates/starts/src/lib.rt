@@ -40,7 +40,7 @@ pub fn entry_refusal(table: &[u8], n: u8, b: u8, word: u32) -> u8
 
 // What a start of b seeks: the refusal so far, or 0 and the group of rules, what it asks of the flags, the No-History flag, the
 // task found, and its index (0, the front task, where none was found).
-#[derive(Drop)]
+#[derive(Clone, Copy)]
 pub struct Sought {
     pub refusal: u8,
     pub index: usize,
@@ -105,7 +105,7 @@ pub fn seek(table: &[u8], s: Session, b: u8, word: u32, refusal: u8) -> Sought
 }
 
 // What is chosen: the rule, what it does, the place of the task found, and 23, 24 or 0.
-#[derive(Drop)]
+#[derive(Clone, Copy)]
 pub struct Chosen {
     pub rule: Rule,
     pub effect: Effect,
@@ -165,7 +165,7 @@ fn mark_if(closes: bool, effect: Effect, place: u8, same: bool) -> Mark
 
 // What is decided of a start: its plan, which has its refusal; the rule, what it does, the task found for it, and how many screens
 // the rule alone creates and closes, before a caller closes.
-#[derive(Drop)]
+#[derive(Clone, Copy)]
 pub struct Decided {
     pub plan: Plan,
     pub rule: Rule,

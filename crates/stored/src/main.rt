@@ -38,7 +38,7 @@ use libc::STDOUT_FILENO;
 use player_files::Manner;
 
 // The program that files are for: the player or `explain`, or `depth`.
-#[derive(Drop)]
+#[derive(Clone, Copy)]
 enum Program {
     Player(Manner),
     Depth,

@@ -95,7 +95,7 @@ pub fn length_said(input: &[u8]) -> usize
 }
 
 // What an input begins with: a table of this length, one of this length that is cut, or an N that no table has.
-#[derive(Drop)]
+#[derive(Clone, Copy)]
 pub enum Beginning {
     Table(usize),
     Cut(usize),

@@ -11,7 +11,7 @@ use session::Session;
 // The numbers of a list of answers: the sum of the front heights after accepted calls, the accepted calls, the refused calls,
 // the greatest of those heights.
 #[repr(C)]
-#[derive(Drop)]
+#[derive(Clone, Copy)]
 pub struct Tally {
     pub sum: u32,
     pub accepted: u16,
@@ -22,7 +22,7 @@ pub struct Tally {
 // A report: the accepted calls, the refused calls, the mean front height in tenths, the report's own refusal (0 if none), the
 // greatest front height.
 #[repr(C)]
-#[derive(Drop)]
+#[derive(Clone, Copy)]
 pub struct Report {
     pub accepted: u16,
     pub refused: u16,
@@ -32,7 +32,7 @@ pub struct Report {
 }
 
 // The tally after an answer and 0, or the tally as it was and 31.
-#[derive(Drop)]
+#[derive(Clone, Copy)]
 pub struct Added {
     pub tally: Tally,
     pub refusal: u8,
