@@ -10,27 +10,27 @@ use Rattle.calls.proofs.back_plan.Statement.{statement}
 use Rattle.calls.proofs.back_plan.Tie as tie
 
 -- its number is the shared refusal or its own
-number : (c : tie.After-first-refusal)
-    → let a = c.before.before.args in c.first-refusal.result ≡ or_else a.shared (back_refusal a.t1.n)
-number c = c.first-refusal.ensures ∙ ap (or_else c.before.before.args.shared) c.before.back-refusal.ensures
+number : (c : tie.After-first_refusal-refusal)
+    → let a = c.before.before.args in c.first_refusal-refusal.result ≡ or_else a.shared (back_refusal a.t1.n)
+number c = c.first_refusal-refusal.ensures ∙ ap (or_else c.before.before.args.shared) c.before.back_refusal.ensures
 
-returns : tie.Need-returns
-returns c = c.still.ensures ∙ unless-found _ _ (number c.before.before) c.before.if1.true
+returns : tie.Need-returns-then-refusal-ne0
+returns c = c.still.ensures ∙ unless-found _ _ (number c.before.before) c.before.if-refusal-ne0.true
 
 -- neither check refuses
-passed : (c : tie.Else1) → let a = c.before.before.before.args in (a.shared ≡ 0) × (back_refusal a.t1.n ≡ 0)
-passed c = or-none _ _ (sym (number c.before) ∙ c.if1.false)
+passed : (c : tie.Else-refusal-ne0) → let a = c.before.before.before.args in (a.shared ≡ 0) × (back_refusal a.t1.n ≡ 0)
+passed c = or-none _ _ (sym (number c.before) ∙ c.if-refusal-ne0.false)
 
-closing-plan-requires : tie.Need-closing-plan-requires
+closing-plan-requires : tie.Need-closing_plan-requires
 closing-plan-requires c κs =
     let start = c.before.before.before.before in
     let (shared, own) = passed c.before in
-    let some = back_some start.args.t1.n own in
+    let some = back_some start.args.self.n own in
     (start.requires shared some, some, omega arith)
 
-returns-2 : tie.Need-returns-2
+returns-2 : tie.Need-returns
 returns-2 c =
-    c.closing-plan.ensures ∙ unless-passed _ _ _ (sym (number c.before.before.before) ∙ c.before.before.if1.false)
+    c.closing_plan.ensures ∙ unless-passed _ _ _ (sym (number c.before.before.before) ∙ c.before.before.if-refusal-ne0.false)
 
-pub back-plan-spec : {M : Type 1} → statement M
-back-plan-spec = tie.close (tie.spec (λ c κs. search rules) (λ c κs. search rules) (λ c κs. search rules) returns (λ c. search rules) closing-plan-requires returns-2)
+pub back_plan_spec : {M : Type 1} → statement M
+back_plan_spec = tie.close (tie.spec (λ c κs. search rules) (λ c κs. search rules) (λ c κs. search rules) returns (λ c. search rules) closing-plan-requires returns-2)

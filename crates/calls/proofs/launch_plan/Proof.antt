@@ -12,17 +12,17 @@ use Rattle.calls.proofs.launch_plan.Statement.{statement}
 use Rattle.calls.proofs.launch_plan.Tie as tie
 
 -- its number is the shared refusal or its own
-number : (c : tie.After-first-refusal)
-    → let a = c.before.before.before.args in c.first-refusal.result ≡ or_else a.shared (launch_refusal a.t2.n a.edition)
-number c = c.first-refusal.ensures ∙ ap (or_else c.before.before.before.args.shared) c.before.launch-refusal.ensures
+number : (c : tie.After-first_refusal-refusal)
+    → let a = c.before.before.before.args in c.first_refusal-refusal.result ≡ or_else a.shared (launch_refusal a.t2.n a.edition)
+number c = c.first_refusal-refusal.ensures ∙ ap (or_else c.before.before.before.args.shared) c.before.launch_refusal.ensures
 
-returns : tie.Need-returns
-returns c = c.still.ensures ∙ unless-found _ _ (number c.before.before) c.before.if1.true
+returns : tie.Need-returns-then-refusal-ne0
+returns c = c.still.ensures ∙ unless-found _ _ (number c.before.before) c.before.if-refusal-ne0.true
 
-main-screen-requires : tie.Need-main-screen-requires
+main-screen-requires : tie.Need-main_screen-b-requires
 main-screen-requires c κs =
     let start = c.before.before.before.before in
-    let shared = (or-none _ _ (sym (number c.before) ∙ c.if1.false)).0 in
+    let shared = (or-none _ _ (sym (number c.before) ∙ c.if-refusal-ne0.false)).0 in
     let g = good-shaped start.args.table.now (start.requires shared) in
     omega arith
 
@@ -34,18 +34,18 @@ gone-stands i e = absurd (let f : 0 ≡ 1 = ap stands e in omega (arith, f))
     stands Mark.Gone = 0
     stands (Mark.Stands k j) = 1
 
-closing-plan-requires : tie.Need-closing-plan-requires
+closing-plan-requires : tie.Need-closing_plan-requires
 closing-plan-requires c κs = (λ i e. gone-stands i e, omega arith, omega arith)
 
-returns-2 : tie.Need-returns-2
+returns-2 : tie.Need-returns
 returns-2 c =
     let front = c.before.before in
-    c.closing-plan.ensures
-    ∙ rw (c.before.edition-named.ensures, front.front-after.ensures, front.before.before.main-screen.ensures)
-    (unless-passed _ _ _ (sym (number front.before.before.before.before) ∙ front.before.before.before.if1.false))
+    c.closing_plan.ensures
+    ∙ rw (c.before.edition_named.ensures, front.front_after-front.ensures, front.before.before.main_screen-b.ensures)
+    (unless-passed _ _ _ (sym (number front.before.before.before.before) ∙ front.before.before.before.if-refusal-ne0.false))
 
-pub launch-plan-spec : {M : Type 1} → statement M
-launch-plan-spec =
+pub launch_plan_spec : {M : Type 1} → statement M
+launch_plan_spec =
     tie.close
     (tie.spec
     (λ c κs. search rules)

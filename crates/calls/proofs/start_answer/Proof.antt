@@ -11,23 +11,23 @@ use Rattle.calls.proofs.PlanSettling.{Gives, start_gives}
 use Rattle.calls.proofs.start_answer.Statement.{statement}
 use Rattle.calls.proofs.start_answer.Tie as tie
 
-decide-start-requires : tie.Need-decide-start-requires
+decide-start-requires : tie.Need-decide_start-decided-requires
 decide-start-requires c κs =
     let start = c.before in
     λ e. shared-ready start.args.table.now start.args.t2 (sym start.requires ∙ e)
 
-gives : (c : tie.After-decide-start)
-    → let a = c.before.before.args in Gives a.t2 c.decide-start.result.plan (call_stored a.table.now a.t2 (start a.b a.word))
+gives : (c : tie.After-decide_start-decided)
+    → let a = c.before.before.args in Gives a.t2 c.decide_start-decided.result.plan (call_stored a.table.now a.t2 (start a.b a.word))
 gives c =
     let start = c.before.before in
     let a = start.args in
-    rw c.decide-start.ensures (start_gives a.table.now a.t2 (sized a.t2 _ start.well-formed.1.0) a.b a.word false a.shared start.requires)
+    rw c.decide_start-decided.ensures (start_gives a.table.now a.t2 (sized a.t2 _ start.well_formed.1.0) a.b a.word false a.shared start.requires)
 
-answer-of-requires : tie.Need-answer-of-requires
+answer-of-requires : tie.Need-answer_of-requires
 answer-of-requires c κs = (gives c.before).showable
 
 returns : tie.Need-returns
-returns c = c.answer-of.ensures ∙ ap (λ (r : Reply). r.answer) (gives c.before.before).gives
+returns c = c.answer_of.ensures ∙ ap (λ (r : Reply). r.answer) (gives c.before.before).gives
 
-pub start-answer-spec : {M : Type 1} → statement M
-start-answer-spec = tie.close (tie.spec decide-start-requires (λ c. search rules) answer-of-requires returns)
+pub start_answer_spec : {M : Type 1} → statement M
+start_answer_spec = tie.close (tie.spec decide-start-requires (λ c. search rules) answer-of-requires returns)

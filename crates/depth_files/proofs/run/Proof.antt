@@ -11,39 +11,39 @@ use Rattle.reading.specs.Blocks.{most_records}
 use Rattle.depth_files.proofs.run.Statement.{statement}
 use Rattle.depth_files.proofs.run.Tie as tie
 
-abbrev invariant-loop : tie.invariant-loop
+abbrev invariant-loop : tie.invariant-loop-left
 invariant-loop fd table s₀ t₀ calls₀ input₀ left₀ s t calls input left =
     Playable table s × ((calls + 10000 * left ≤ 10000000000000000000) × (length input ≡ 6 * most_records))
 
-abbrev decreases-loop : tie.decreases-loop
+abbrev decreases-loop : tie.decreases-loop-left
 decreases-loop fd table s₀ t₀ calls₀ input₀ left₀ s t calls input left = left
 
-loop-holds : tie.Need-loop-init invariant-loop decreases-loop
+loop-holds : tie.Need-loop-left-init invariant-loop decreases-loop
 loop-holds c = (
-  rw c.before.fresh.ensures (fresh-playable c.before.before.before.args.table.now),
+  rw c.before.fresh-s.ensures (fresh-playable c.before.before.before.args.table.now),
   (omega arith, length-replicate {A = ℕ} (6 * most_records) 0),
 )
 
-slice-aggregate-turn : tie.Need-slice-aggregate-turn invariant-loop decreases-loop
-slice-aggregate-turn c = sym c.before.before.loop.invariant.1.1
+slice-aggregate-turn : tie.Need-slice_bounds-turn-end invariant-loop decreases-loop
+slice-aggregate-turn c = sym c.before.before.loop-left.invariant.1.1
 
-turn-requires : tie.Need-turn-requires invariant-loop decreases-loop
-turn-requires c κs = let inv = c.before.before.loop.invariant in (inv.0, inv.1.1)
+turn-requires : tie.Need-turn-r-requires invariant-loop decreases-loop
+turn-requires c κs = let inv = c.before.before.loop-left.invariant in (inv.0, inv.1.1)
 
 -- the calls so far
-fits : (c : tie.After-turn invariant-loop decreases-loop)
-    → let l = c.before.before.before.loop in (l.calls + c.turn.result.records + 10000 * l.left ≤ 10000000000000000000 + 10000)
-fits c = omega (arith, c.turn.ensures.few, c.before.before.before.loop.invariant.1.0)
+fits : (c : tie.After-turn-r invariant-loop decreases-loop)
+    → let l = c.before.before.before.loop-left in (l.calls + c.turn-r.result.records + 10000 * l.false ≤ 10000000000000000000 + 10000)
+fits c = omega (arith, c.turn-r.ensures.few, c.before.before.before.loop-left.invariant.1.0)
 
-add-calls : tie.Need-overflow-add-calls invariant-loop decreases-loop
+add-calls : tie.Need-overflow_add-calls invariant-loop decreases-loop
 add-calls c = omega (arith, fits c.before.before.before.before.before)
 
-loop-again : tie.Need-loop-preserved invariant-loop decreases-loop
+loop-again : tie.Need-loop-left-preserved invariant-loop decreases-loop
 loop-again c =
     let turn = c.before.before.before.before.before.before.before in
-    let l = turn.before.before.before.loop in (
-      turn.turn.ensures.keeps,
-      (omega (arith, fits turn, turn.before.before.loop-test.true), turn.turn.auto.1.1.1.1.0 ∙ l.invariant.1.1),
+    let l = turn.before.before.before.loop-left in (
+      turn.turn-r.ensures.keeps,
+      (omega (arith, fits turn, turn.before.before.loop-left-test.true), turn.turn-r.auto.1.1.1.1.0 ∙ l.invariant.1.1),
     )
 
 pub run_spec : {M : Type 1} → statement M

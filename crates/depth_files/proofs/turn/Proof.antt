@@ -13,14 +13,14 @@ use Rattle.depth_files.proofs.turn.Statement.{statement}
 use Rattle.depth_files.proofs.turn.Tie as tie
 
 -- the block that was read
-abbrev block : tie.After-read-block → List ℕ
-block c = take c.read-block.result.count c.read-block.new.1.0
+abbrev block : tie.After-read_block-read → List ℕ
+block c = take c.read_block-read.result.count c.read_block-read.new.1.0
 
-long : (c : tie.After-read-block) → (length (block c) ≡ c.read-block.result.count) × (length (records_in (block c)) ≤ most_records)
+long : (c : tie.After-read_block-read) → (length (block c) ≡ c.read_block-read.result.count) × (length (records_in (block c)) ≤ most_records)
 long c =
-    let read = c.read-block in
+    let read = c.read_block-read in
     let e : length (block c) ≡ read.result.count = length-take-le read.result.count read.new.1.0 read.ensures.0 in
-    let few : read.result.count ≤ 6 * most_records = omega (arith, read.ensures.0, read.auto.1.0, c.before.before.before.before.requires.1) in
+    let few : read.result.count ≤ 6 * most_records = omega (arith, read.ensures.0, read.auto.1.0, c.before.before.before.before.requires.input_len) in
     let k = records-few (block c) in
     (e, omega arith)
 
@@ -30,13 +30,13 @@ returns c =
     let tallied = count.before.before in
     let read = tallied.before.before.before.before in
     record {
-      read = read.read-block.ensures.0;
-      played = tallied.tally-records.ensures.0;
-      tallied = tallied.tally-records.ensures.1.0;
-      counted = count.count-records.ensures;
-      few = let e = count.count-records.ensures in let l = (long read).1 in omega arith;
+      read = read.read_block-read.ensures.0;
+      played = tallied.tally_records-done.ensures.session;
+      tallied = tallied.tally_records-done.ensures.tally;
+      counted = count.count_records-records.ensures;
+      few = let e = count.count_records-records.ensures in let l = (long read).1 in omega arith;
       full = refl;
-      keeps = tallied.tally-records.ensures.1.1;
+      keeps = tallied.tally_records-done.ensures.keeps;
     }
 
 pub turn_spec : {M : Type 1} → statement M

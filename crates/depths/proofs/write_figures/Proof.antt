@@ -10,16 +10,16 @@ use Rattle.depths.proofs.Figures.{figures-few, figures-three, figures-many, wrot
 use Rattle.depths.proofs.write_figures.Statement.{statement}
 use Rattle.depths.proofs.write_figures.Tie as tie
 
-returns : tie.Need-returns
+returns : tie.Need-returns-then-x-lt256
 returns c =
     let p = c.before.before in
     let x = p.before.before.before.before.args.x in
-    let e = figures-few x (omega (arith, p.before.before.if1.true)) in
-    (rw e p.write-decimal.ensures.0, (rw e p.write-decimal.ensures.1.0, omega (arith, p.write-decimal.ensures.1.1)))
+    let e = figures-few x (omega (arith, p.before.before.if-x-lt256.true)) in
+    (rw e p.write_decimal.ensures.place, (rw e p.write_decimal.ensures.text, omega (arith, p.write_decimal.ensures.bound)))
 
 -- ---- three digits
 
-returns-2 : tie.Need-returns-2
+returns-2 : tie.Need-returns-then-x-lt1000
 returns-2 c =
     let p = c.before.before in
     let digits = p.before in
@@ -27,12 +27,12 @@ returns-2 c =
     let start = if2.before.before.before in
     let a = start.args in
     let x = a.x in
-    let e = figures-three x (omega (arith, if2.before.if1.false)) if2.if2.true in
-    let w = wrote 4 (rw digits.last-digit.ensures at p.write-decimal2.ensures) in
-    let b = p.write-decimal2.ensures.1.1 in
-    let k = p.write-decimal2.auto.0 in
-    let one = wrote_one p.write-decimal2.new.0 p.write-decimal2.result a.end (omega (arith, start.requires)) in
-    let all : Wrote a.out.now a.at ((decimal (x / 10) ++ digit (x % 10) ∷ []) ++ a.end ∷ []) _ _ =
+    let e = figures-three x (omega (arith, if2.before.if-x-lt256.false)) if2.if-x-lt1000.true in
+    let w = wrote 4 (rw digits.last_digit.ensures at p.write_decimal-last.ensures) in
+    let b = p.write_decimal-last.ensures.bound in
+    let k = p.write_decimal-last.auto.0 in
+    let one = wrote_one p.write_decimal-last.new.0 p.write_decimal-last.result a.end (omega (arith, start.requires)) in
+    let all : Wrote a.out-1.now a.at ((decimal (x / 10) ++ digit (x % 10) ∷ []) ++ a.end ∷ []) _ _ =
     wrote-append w (omega (arith, start.requires)) one in
     (rw e all.place, (rw e all.text, omega arith))
 
@@ -40,25 +40,25 @@ returns-2 c =
 
 -- where all but the last two are written
 abbrev Most : Type 0
-Most = tie.After-write-decimal3
+Most = tie.After-write_decimal-tens
 
 abbrev begun : Most → tie.Start
 begun c = c.before.before.before.before.before.before
 
-room : (c : Most) → (c.write-decimal3.result + 3 ≤ length c.write-decimal3.new.0) × (c.write-decimal3.result ≤ length (begun c).args.out.now)
+room : (c : Most) → (c.write_decimal-tens.result + 3 ≤ length c.write_decimal-tens.new.0) × (c.write_decimal-tens.result ≤ length (begun c).args.out.now)
 room c =
-    let b = c.write-decimal3.ensures.1.1 in
-    let k = c.write-decimal3.auto.0 in
+    let b = c.write_decimal-tens.ensures.bound in
+    let k = c.write_decimal-tens.auto.0 in
     let h = (begun c).requires in
     (omega arith, omega arith)
 
-slice-write-out-3 : tie.Need-slice-write-out-3
+slice-write-out-3 : tie.Need-bounds-out-tens-2
 slice-write-out-3 c = let r = room c.before.before.before.before in simp length-set (omega arith)
 
-slice-write-out-4 : tie.Need-slice-write-out-4
+slice-write-out-4 : tie.Need-bounds-out-tens-3
 slice-write-out-4 c = let r = room c.before.before.before.before in simp length-set (omega arith)
 
-returns-3 : tie.Need-returns-3
+returns-3 : tie.Need-returns
 returns-3 c =
     let tens = c.before in
     let p = tens.before.before.before in
@@ -66,16 +66,16 @@ returns-3 c =
     let if2 = digits.before.before in
     let a = (begun p).args in
     let x = a.x in
-    let e = figures-many x if2.if2.false a.end in
+    let e = figures-many x if2.if-x-lt1000.false a.end in
     let r = room p in
-    let b = p.write-decimal3.ensures.1.1 in
-    let w = wrote 4 (rw digits.last-digit2.ensures at p.write-decimal3.ensures) in
-    let three = wrote-three p.write-decimal3.new.0 p.write-decimal3.result (digit (x / 10 % 10)) (digit (x % 10)) a.end r.0 in
+    let b = p.write_decimal-tens.ensures.bound in
+    let w = wrote 4 (rw digits.last_digit-2.ensures at p.write_decimal-tens.ensures) in
+    let three = wrote-three p.write_decimal-tens.new.0 p.write_decimal-tens.result (digit (x / 10 % 10)) (digit (x % 10)) a.end r.0 in
     let all = wrote-append w r.1 three in
-    (rw e all.place, (rw (e, tens.last-digit3.ensures, c.last-digit4.ensures) all.text, omega arith))
+    (rw e all.place, (rw (e, tens.last_digit-3.ensures, c.last_digit-4.ensures) all.text, omega arith))
 
-pub write-figures-spec : {M : Type 1} → statement M
-write-figures-spec =
+pub write_figures_spec : {M : Type 1} → statement M
+write_figures_spec =
     tie.close
     (tie.spec
     (λ c. search rules)

@@ -18,10 +18,10 @@ use Rattle.difference.proofs.Told.{backs-most, told}
 use Rattle.difference.proofs.first_difference.Statement.{statement}
 use Rattle.difference.proofs.first_difference.Tie as tie
 
-abbrev invariant-loop : tie.invariant-loop
+abbrev invariant-loop : tie.invariant-loop-s
 invariant-loop table s₀ t₀ a₀ b₀ backs₀ s t a b backs = Both table (view s₀) (view t₀) backs s t a b
 
-abbrev decreases-loop : tie.decreases-loop
+abbrev decreases-loop : tie.decreases-loop-s
 decreases-loop table s₀ t₀ a₀ b₀ backs₀ s t a b backs = screens_in (view s).tasks
 
 -- the two tests of the loop
@@ -36,15 +36,15 @@ stops false n e f = absurd (false≢true f)
 -- ---- the looks
 
 sizes : (c : tie.Start invariant-loop decreases-loop) → Sized c.args.first × Sized c.args.second
-sizes c = (sized c.args.first _ c.well-formed.1.0, sized c.args.second _ c.well-formed.1.1.0)
+sizes c = (sized c.args.first _ c.well_formed.1.0, sized c.args.second _ c.well_formed.1.1.0)
 
-look-at-requires : tie.Need-look-at-requires invariant-loop decreases-loop
+look-at-requires : tie.Need-look_at-a-requires invariant-loop decreases-loop
 look-at-requires c κs = let start = c.before in ready-seen start.args.table.now start.args.first (sizes start).0 start.requires.0
 
-look-at-requires-2 : tie.Need-look-at-requires-2 invariant-loop decreases-loop
+look-at-requires-2 : tie.Need-look_at-b-requires invariant-loop decreases-loop
 look-at-requires-2 c κs = let start = c.before.before in ready-seen start.args.table.now start.args.second (sizes start).1 start.requires.1
 
-loop-holds : tie.Need-loop-init invariant-loop decreases-loop
+loop-holds : tie.Need-loop-s-init invariant-loop decreases-loop
 loop-holds c =
     let start = c.before.before.before in
     let a = start.args in
@@ -52,8 +52,8 @@ loop-holds c =
     let p = start.requires in
     record {
       before = [];
-      one = reached-look tb p.0.good a.first (sizes start).0 p.0 c.before.look_at.ensures;
-      other = reached-look tb p.0.good a.second (sizes start).1 p.1 c.look-at2.ensures;
+      one = reached-look tb p.0.good a.first (sizes start).0 p.0 c.before.look_at-a.ensures;
+      other = reached-look tb p.0.good a.second (sizes start).1 p.1 c.look_at-b.ensures;
       screens = zero-add _;
       same = λ e. e;
     }
@@ -61,75 +61,75 @@ loop-holds c =
 -- ---- the Backs
 
 -- where the loop goes on the answers agree, and both sessions have a screen
-record Goes (c : tie.Else1 invariant-loop decreases-loop) : Type 0 where
-  agreed : c.before.before.before.loop.a ≡ c.before.before.before.loop.b
-  some : 1 ≤ c.before.before.before.loop.s.n
+record Goes (c : tie.Else-found-s invariant-loop decreases-loop) : Type 0 where
+  agreed : c.before.before.before.loop-s.a ≡ c.before.before.before.loop-s.b
+  some : 1 ≤ c.before.before.before.loop-s.s.n
 
-goes : (c : tie.Else1 invariant-loop decreases-loop) → Goes c
+goes : (c : tie.Else-found-s invariant-loop decreases-loop) → Goes c
 goes c =
-    let agree = c.before.before.agree in
-    let g = goes_on agree.result c.before.before.before.loop.s.n c.if1.false in
+    let agree = c.before.before.agree-found in
+    let g = goes_on agree.result c.before.before.before.loop-s.s.n c.if-found-s.false in
     record { agreed = agree.ensures.0 g.0; some = g.1 }
 
 -- no Back is refused
-back-requires : tie.Need-back-requires invariant-loop decreases-loop
+back-requires : tie.Need-back-one-requires invariant-loop decreases-loop
 back-requires c κs =
     let l = c.before.before.before in
     let start = l.before.before.before.before in
-    reached-shared start.args.table.now start.requires.0.good l.loop.invariant.one
+    reached-shared start.args.table.now start.requires.0.good l.loop-s.invariant.one
 
-back-requires-2 : tie.Need-back-requires-2 invariant-loop decreases-loop
+back-requires-2 : tie.Need-back-other-requires invariant-loop decreases-loop
 back-requires-2 c κs =
     let l = c.before.before.before.before in
     let start = l.before.before.before.before in
-    reached-shared start.args.table.now start.requires.0.good l.loop.invariant.other
+    reached-shared start.args.table.now start.requires.0.good l.loop-s.invariant.other
 
 -- what both leave
-left : (c : tie.After-back2 invariant-loop decreases-loop)
-    → let l = c.before.before.before.before.before.loop in
-    Backed l.s c.before.back.result × Backed l.t c.back2.result
+left : (c : tie.After-back-other invariant-loop decreases-loop)
+    → let l = c.before.before.before.before.before.loop-s in
+    Backed l.s-1 c.before.back-one.result × Backed l.t-1 c.back-other.result
 left c =
     let l = c.before.before.before.before.before in
     let start = l.before.before.before.before in
     let tb = start.args.table.now in
     let good = start.requires.0.good in
     let g = goes c.before.before in
-    let some : 1 ≤ l.loop.t.n = omega (arith, both-count l.loop.invariant g.agreed, g.some) in
-    (reached-backed tb good l.loop.invariant.one g.some c.before.back.ensures, reached-backed tb good l.loop.invariant.other some c.back2.ensures)
+    let some : 1 ≤ l.loop-s.t.n = omega (arith, both-count l.loop-s.invariant g.agreed, g.some) in
+    (reached-backed tb good l.loop-s.invariant.one g.some c.before.back-one.ensures, reached-backed tb good l.loop-s.invariant.other some c.back-other.ensures)
 
-add-backs : tie.Need-overflow-add-backs invariant-loop decreases-loop
+add-backs : tie.Need-overflow_add-backs invariant-loop decreases-loop
 add-backs c =
     let l = c.before.before.before.before.before.before.before.before.before in
     let start = l.before.before.before.before in
-    let most = backs-most l.loop.invariant (sound-view start.args.table.now start.args.first start.requires.0.sound) in
+    let most = backs-most l.loop-s.invariant (sound-view start.args.table.now start.args.first start.requires.0.sound) in
     search rules
 
-loop-less : tie.Need-loop-smaller invariant-loop decreases-loop
+loop-less : tie.Need-loop-s-smaller invariant-loop decreases-loop
 loop-less c =
     let back2 = c.before.before.before.before in
-    let l = back2.before.before.before.before.before.loop in
-    let fewer = reached-fewer l.invariant.one (goes back2.before.before).some back2.before.back.result.session (left back2).0.session in
+    let l = back2.before.before.before.before.before.loop-s in
+    let fewer = reached-fewer l.invariant.one (goes back2.before.before).some back2.before.back-one.result.session (left back2).0.session in
     omega arith
 
-loop-again : tie.Need-loop-preserved invariant-loop decreases-loop
+loop-again : tie.Need-loop-s-preserved invariant-loop decreases-loop
 loop-again c =
     let back2 = c.before.before.before.before in
     let l = back2.before.before.before.before.before in
     let start = l.before.before.before.before in
     let g = goes back2.before.before in
-    both-back l.loop.invariant g.agreed start.requires.0.good g.some back2.before.back.result back2.back2.result
+    both-back l.loop-s.invariant g.agreed start.requires.0.good g.some back2.before.back-one.result back2.back-other.result
     (left back2).0 (left back2).1
 
 returns : tie.Need-returns invariant-loop decreases-loop
 returns c =
     let l = c.before.before.before in
     let start = l.before.before.before.before in
-    let agree = c.before.before.agree in
-    told l.loop.invariant (sound-view start.args.table.now start.args.first start.requires.0.sound)
-    agree.result agree.ensures (stops agree.result l.loop.s.n c.if1.true)
+    let agree = c.before.before.agree-found in
+    told l.loop-s.invariant (sound-view start.args.table.now start.args.first start.requires.0.sound)
+    agree.result agree.ensures (stops agree.result l.loop-s.s.n c.if-found-s.true)
 
-pub first-difference-spec : {M : Type 1} → statement M
-first-difference-spec =
+pub first_difference_spec : {M : Type 1} → statement M
+first_difference_spec =
     tie.close
     (tie.spec
     invariant-loop decreases-loop look-at-requires look-at-requires-2 loop-holds (λ c κs. search rules) back-requires back-requires-2

@@ -19,19 +19,19 @@ use Rattle.endings.proofs.Sharing.{call_fits, bytes-few, Passed, passed_start, p
 use Rattle.endings.proofs.portion_of.Statement.{statement}
 use Rattle.endings.proofs.portion_of.Tie as tie
 
-abbrev invariant-loop : tie.invariant-loop
+abbrev invariant-loop : tie.invariant-loop-p
 invariant-loop input share met₀ bytes₀ i₀ p₀ met bytes i p = Passed share input (length (table_in input)) met bytes i p
 
-abbrev decreases-loop : tie.decreases-loop
+abbrev decreases-loop : tie.decreases-loop-p
 decreases-loop input share met₀ bytes₀ i₀ p₀ met bytes i p = length input - p
 
-loop-holds : tie.Need-loop-init invariant-loop decreases-loop
+loop-holds : tie.Need-loop-p-init invariant-loop decreases-loop
 loop-holds c =
     let a = c.before.before.before.args in
-    let e = c.table-end.ensures.0 in
-    let h = c.table-end.ensures.1 in
+    let e = c.table_end-p.ensures.length in
+    let h = c.table_end-p.ensures.bound in
     rw e
-    (passed_start a.share a.input.now (length (table_in a.input.now)) c.before.none.result (omega arith) c.before.none.ensures)
+    (passed_start a.share a.input.now (length (table_in a.input.now)) c.before.none-met.result (omega arith) c.before.none-met.ensures)
 
 -- the record's bytes, as the part that is lent: k of them from p on
 part : (p k : ℕ) (l : List ℕ) → mid_of p (p + k - p) l ≡ take k (drop p l)
@@ -41,66 +41,66 @@ part_length : (p k : ℕ) (l : List ℕ) → p + k ≤ length l → length (mid_
 part_length p k l h = ap length (part p k l) ∙ length-take-le k (drop p l) (omega (arith, length-drop p l))
 
 -- the record at the place that is reached
-abbrev here : tie.After-call-length invariant-loop decreases-loop → tie.At-loop invariant-loop decreases-loop
+abbrev here : tie.After-call_length invariant-loop decreases-loop → tie.At-loop-p invariant-loop decreases-loop
 here c = c.before.before.before
 
-abbrev bytes_of : tie.After-call-length invariant-loop decreases-loop → List ℕ
+abbrev bytes_of : tie.After-call_length invariant-loop decreases-loop → List ℕ
 bytes_of c = (here c).before.before.before.before.args.input.now
 
-long : (c : tie.After-call-length invariant-loop decreases-loop) → c.Call-length.result ≡ call_length (drop (here c).loop.p (bytes_of c))
+long : (c : tie.After-call_length invariant-loop decreases-loop) → c.Call-length.result ≡ call_length (drop (here c).loop.p (bytes_of c))
 long c = rw (part-rest (here c).loop.p (bytes_of c)) at c.Call-length.ensures
 
-fits : (c : tie.After-call-length invariant-loop decreases-loop)
+fits : (c : tie.After-call_length invariant-loop decreases-loop)
     → (0 < c.Call-length.result) × ((here c).loop.p + c.Call-length.result ≤ length (bytes_of c))
 fits c =
     let l = bytes_of c in
     let p = (here c).loop.p in
     let d = length-drop p l in
-    let some = c.before.before.loop-test.true in
+    let some = c.before.before.loop-p-test.true in
     let f = call_fits (drop p l) (omega arith) in
     let k = long c in
     (omega (arith, f.0), omega (arith, f.1))
 
-is-in-requires : tie.Need-is-in-requires invariant-loop decreases-loop
+is-in-requires : tie.Need-is_in-requires invariant-loop decreases-loop
 is-in-requires c κs =
     let call = c.before in
     let l = part_length (here call).loop.p call.Call-length.result (bytes_of call) (fits call).1 in
     omega (arith, (fits call).0)
 
-noted-requires : tie.Need-noted-requires invariant-loop decreases-loop
+noted-requires : tie.Need-noted-met-requires invariant-loop decreases-loop
 noted-requires c κs =
     let call = c.before.before in
     let inv = (here call).loop.invariant in
     let few = inv.few in
     let number = inv.number in
-    let some = call.before.before.loop-test.true in
+    let some = call.before.before.loop-p-test.true in
     omega arith
 
-bytes-in-requires : tie.Need-bytes-in-requires invariant-loop decreases-loop
+bytes-in-requires : tie.Need-bytes_in-bytes-requires invariant-loop decreases-loop
 bytes-in-requires c κs =
     let call = c.before.before.before.before in
     let l = part_length (here call).loop.p call.Call-length.result (bytes_of call) (fits call).1 in
     omega (arith, (fits call).0)
 
 -- the bytes so far
-summed : (c : tie.After-bytes-in invariant-loop decreases-loop)
+summed : (c : tie.After-bytes_in-bytes invariant-loop decreases-loop)
     → let call = c.before.before.before.before.before in
-    (here call).loop.bytes + c.bytes-in.result ≤ (here call).loop.p + call.Call-length.result
+    (here call).loop.bytes + c.bytes_in-bytes.result ≤ (here call).loop.p + call.Call-length.result
 summed c =
     let call = c.before.before.before.before.before in
     let l = part_length (here call).loop.p call.Call-length.result (bytes_of call) (fits call).1 in
     let few = bytes-few (mid_of (here call).loop.p ((here call).loop.p + call.Call-length.result - (here call).loop.p) (bytes_of call)) (here call).before.before.before.before.args.share in
     let sum = (here call).loop.invariant.sum in
-    omega (arith, c.bytes-in.ensures)
+    omega (arith, c.bytes_in-bytes.ensures)
 
-add-i : tie.Need-overflow-add-i invariant-loop decreases-loop
+add-i : tie.Need-overflow_add-i invariant-loop decreases-loop
 add-i c =
     let call = c.before.before.before.before.before in
     let number = (here call).loop.invariant.number in
-    let some = call.before.before.loop-test.true in
+    let some = call.before.before.loop-p-test.true in
     omega arith
 
-loop-again : tie.Need-loop-preserved invariant-loop decreases-loop
+loop-again : tie.Need-loop-p-preserved invariant-loop decreases-loop
 loop-again c =
     let noted = c.before.before in
     let tested = noted.before in
@@ -109,18 +109,18 @@ loop-again c =
     let share = (here call).before.before.before.before.args.share in
     let l = bytes_of call in
     let k = call.Call-length.result in
-    let is = tested.is-in.ensures ∙ ap (is_in share) (part loop.p k l) in
-    passed-more loop.inv call.before.before.loop-test.true {k = k} (long call)
-    (noted.noted.ensures ∙ ap (λ (b : Bool). noted_at loop.met b loop.i) is)
-    (c.bytes-in.ensures ∙ ap (bytes_in share) (part loop.p k l))
+    let is = tested.is_in.ensures ∙ ap (is_in share) (part loop.p k l) in
+    passed-more loop.invariant call.before.before.loop-p-test.true {k = k} (long call)
+    (noted.noted-met.ensures ∙ ap (λ (b : Bool). noted_at loop.met b loop.i) is)
+    (c.bytes_in-bytes.ensures ∙ ap (bytes_in share) (part loop.p k l))
 
 returns : tie.Need-returns invariant-loop decreases-loop
 returns c =
     let l = c.before.before.before.before.before.args.input.now in
-    rw (drop-taken (2 + 2 * size_of l) l) at (passed-end c.before.loop.invariant (omega arith))
+    rw (drop-taken (2 + 2 * size_of l) l) at (passed-end c.before.loop-p.invariant (omega arith))
 
-pub portion-of-spec : {M : Type 1} → statement M
-portion-of-spec =
+pub portion_of_spec : {M : Type 1} → statement M
+portion_of_spec =
     tie.close
     (tie.spec
     invariant-loop decreases-loop (λ c κs. search rules) (λ c κs. search rules) loop-holds (λ c. search rules) (λ c. search rules)

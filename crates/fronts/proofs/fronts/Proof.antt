@@ -8,50 +8,50 @@ use Rattle.fronts.proofs.FrontLaws.{refusal-shared, refusal-own, refused-told, s
 use Rattle.fronts.proofs.fronts.Statement.{statement}
 use Rattle.fronts.proofs.fronts.Tie as tie
 
-returns : tie.Need-returns
+returns : tie.Need-returns-then-shared-ne0
 returns c =
     let shared = c.before.before in
     let a = shared.before.before.args in
     refused-told a.table.now a.s a.b a.mask a.value
-    (refusal-shared a.table.now a.s a.b a.mask a.value _ (sym shared.shared-refusal.ensures) c.before.if1.true)
-    c.before.if1.true c.refuse.ensures
+    (refusal-shared a.table.now a.s a.b a.mask a.value _ (sym shared.shared_refusal-shared.ensures) c.before.if-shared-ne0.true)
+    c.before.if-shared-ne0.true c.refuse.ensures
 
 -- a sound session under a good table
-ready : (c : tie.Else1) → let a = c.before.before.before.args in Ready a.table.now a.s
+ready : (c : tie.Else-shared-ne0) → let a = c.before.before.before.args in Ready a.table.now a.s
 ready c =
     let a = c.before.before.before.args in
-    shared-ready a.table.now a.s (sym c.before.shared-refusal.ensures ∙ c.if1.false)
+    shared-ready a.table.now a.s (sym c.before.shared_refusal-shared.ensures ∙ c.if-shared-ne0.false)
 
-known-refusal-requires : tie.Need-known-refusal-requires
+known-refusal-requires : tie.Need-known_refusal-refusal-requires
 known-refusal-requires c κs = (ready c).well-formed
 
 -- the refusal of its own checks
-own : (c : tie.After-known-refusal)
-    → let a = c.before.before.before.before.args in fronts_refusal a.table.now a.s a.b a.mask a.value ≡ c.known-refusal.result
+own : (c : tie.After-known_refusal-refusal)
+    → let a = c.before.before.before.before.args in fronts_refusal a.table.now a.s a.b a.mask a.value ≡ c.known_refusal-refusal.result
 own c =
     let a = c.before.before.before.before.args in
-    refusal-own a.table.now a.s a.b a.mask a.value (ready c.before) ∙ sym c.known-refusal.ensures
+    refusal-own a.table.now a.s a.b a.mask a.value (ready c.before) ∙ sym c.known_refusal-refusal.ensures
 
-returns-2 : tie.Need-returns-2
+returns-2 : tie.Need-returns-then-refusal-ne0
 returns-2 c =
     let known = c.before.before in
     let a = known.before.before.before.before.args in
-    refused-told a.table.now a.s a.b a.mask a.value (own known) c.before.if2.true c.refuse2.ensures
+    refused-told a.table.now a.s a.b a.mask a.value (own known) c.before.if-refusal-ne0.true c.refuse-then-refusal-ne0.ensures
 
-set-of-requires : tie.Need-set-of-requires
-set-of-requires c κs = sym c.before.before.before.shared-refusal.ensures ∙ c.before.before.if1.false
+set-of-requires : tie.Need-set_of-set-requires
+set-of-requires c κs = sym c.before.before.before.shared_refusal-shared.ensures ∙ c.before.before.if-shared-ne0.false
 
-returns-3 : tie.Need-returns-3
+returns-3 : tie.Need-returns
 returns-3 c =
     let set = c.before in
     let else2 = set.before in
     let known = else2.before in
     let a = known.before.before.before.before.args in
-    set_told a.table.now a.s a.b a.mask a.value (own known ∙ else2.if2.false)
-    (rw (c.type_size.ensures, set.set-of.ensures))
+    set_told a.table.now a.s a.b a.mask a.value (own known ∙ else2.if-refusal-ne0.false)
+    (rw (c.type_size.ensures, set.set_of-set.ensures))
 
-pub fronts-spec : {M : Type 1} → statement M
-fronts-spec =
+pub fronts_spec : {M : Type 1} → statement M
+fronts_spec =
     tie.close
     (tie.spec
     (λ c κs. search rules)

@@ -13,32 +13,32 @@ use Rattle.image.proofs.Bodies.{Next, body-whole, body-next}
 use Rattle.image.proofs.length.Statement.{statement}
 use Rattle.image.proofs.length.Tie as tie
 
-abbrev invariant-loop : tie.invariant-loop
+abbrev invariant-loop : tie.invariant-loop-i
 invariant-loop s count sum₀ i₀ sum i =
     (i ≤ count) × ((count ≤ 16) × ((sum ≡ length (body_of (take i (view s).tasks)) + 6) × (sum ≤ 34 * i + 6)))
 
-abbrev decreases-loop : tie.decreases-loop
+abbrev decreases-loop : tie.decreases-loop-i
 decreases-loop s count sum₀ i₀ sum i = count - i
 
-next : (c : tie.After-struct-known invariant-loop decreases-loop) → Next c.before.before.before.before.args.t1 c.before.before.before.loop.i
+next : (c : tie.After-struct_known-1 invariant-loop decreases-loop) → Next c.before.before.before.before.args.self c.before.before.before.loop-i.i
 next c =
     let start = c.before.before.before.before in
-    body-next start.args.t1 (sized start.args.t1 _ start.well-formed.0) start.requires c.before.before.before.loop.i (omega arith)
+    body-next start.args.self (sized start.args.self _ start.well_formed.0) start.requires c.before.before.before.loop-i.i (omega arith)
 
 returns : tie.Need-returns invariant-loop decreases-loop
 returns c =
     let start = c.before.before in
-    let s = start.args.t1 in
-    let here = c.before.loop in
+    let s = start.args.self in
+    let here = c.before.loop-i in
     let k : here.i ≡ s.n = omega arith in
-    let e = ap length (body-whole s (sized s _ start.well-formed.0) start.requires here.i k) in
+    let e = ap length (body-whole s (sized s _ start.well_formed.0) start.requires here.i k) in
     omega (arith, image-length (view s))
 
 pub length_spec : {M : Type 1} → statement M
 length_spec =
     tie.close
     (tie.spec
-    invariant-loop decreases-loop (λ c. search rules) (λ c. let f = blank-few c.args.t1 c.requires in search rules)
+    invariant-loop decreases-loop (λ c. search rules) (λ c. let f = blank-few c.args.self c.requires in search rules)
     (λ c. search rules) (λ c. search rules) (λ c. search rules) (λ c. search rules) (λ c. omega (arith, (next c).low))
     (λ c. search rules) (λ c. search rules)
     (λ c. let k = (next c).low in let l = (next c).long in (omega arith, (omega arith, (omega arith, omega arith))))

@@ -24,11 +24,11 @@ returns c =
     let start = c.before.before in
     let a = start.args in
     let p = pair-at a.edition start.requires.1.1 c.wide.result c.wide.ensures.0 in
-    let w = written-sets a.out.now a.at (trailer a.at a.n a.main a.edition) (omega arith) in
+    let w = written-sets a.out-1.now a.at (trailer a.at a.n a.main a.edition) (omega arith) in
     (refl, rw (p.0, p.1) (simp towards_suc w))
 
-pub write-trailer-spec : {M : Type 1} → statement M
-write-trailer-spec =
+pub write_trailer_spec : {M : Type 1} → statement M
+write_trailer_spec =
     tie.close
     (tie.spec
     (λ c κs. search rules) (λ c. (known c).0) (λ c. search rules) (λ c. search rules) (λ c. search rules)

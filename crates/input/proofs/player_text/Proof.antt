@@ -19,46 +19,46 @@ use Rattle.input.proofs.player_text.Statement.{statement}
 use Rattle.input.proofs.player_text.Tie as tie
 
 -- no table stands in the input
-otherwise : (c : tie.At-match-keys2) → starts_with_table c.before.before.before.before.args.input.now ≡ false
+otherwise : (c : tie.In_default) → starts_with_table c.before.before.before.before.args.input.now ≡ false
 otherwise c =
-    let told = c.before.beginning-of in
-    starts-otherwise c.before.before.before.before.args.input.now told.result told.ensures c.match.keys2
+    let told = c.before.beginning_of in
+    starts-otherwise c.before.before.before.before.args.input.now told.result told.ensures c.in_default.keys2
 
-returns : tie.Need-returns
+returns : tie.Need-returns-in_default
 returns c =
     let told = c.before.before.before.before in
     let a = told.before.before.before.before.args in
     let w = c.before.before.stop.ensures in
-    let t = text-stop a.input.now a.out.now (otherwise told) in
-    (rw t w.0, (rw t w.1, text-whole a.input.now a.out.now))
+    let t = text-stop a.input.now a.out-1.now (otherwise told) in
+    (rw t w.0, (rw t w.1, text-whole a.input.now a.out-1.now))
 
 -- the table stands in the input
-begun : (c : tie.After-long)
+begun : (c : tie.In-Table-2)
     → let l = c.before.before.before.before.before.args.input.now in
-    let n = c.long.given.0.0 in
+    let n = c.long-1.given.0.0 in
     (starts_with_table l ≡ true) × (n ≡ 2 + 2 * size_of l)
-begun c = starts_with c.before.before.before.before.before.args.input.now c.before.before.beginning-of.ensures c.long.given.1
+begun c = starts_with c.before.before.before.before.before.args.input.now c.before.before.beginning_of.ensures c.long-1.given.1
 
-within : (c : tie.After-long) → c.long.given.0.0 ≤ length c.before.before.before.before.before.args.input.now
+within : (c : tie.In-Table-2) → c.long-1.given.0.0 ≤ length c.before.before.before.before.before.args.input.now
 within c =
-    let n = c.long.given.0.0 in
-    let k = told c.before.before.before.before.before.args.input.now (Beginning.Table n) c.before.before.beginning-of.ensures c.long.given.1 in
+    let n = c.long-1.given.0.0 in
+    let k = told c.before.before.before.before.before.args.input.now (Beginning.Table n) c.before.before.beginning_of.ensures c.long-1.given.1 in
     omega arith
 
-returns-2 : tie.Need-returns-2
+returns-2 : tie.Need-returns
 returns-2 c =
     let long = c.before.before.before.before.before.before.before.before in
     let a = long.before.before.before.before.before.args in
     let b = begun long in
-    let n = long.long.given.0.0 in
+    let n = long.long-1.given.0.0 in
     let p = c.before.before.play.ensures in
     let v : view c.before.before.before.before.before.fresh.result ≡ fresh = ap view c.before.before.before.before.before.fresh.ensures ∙ view-fresh in
-    let t = text-table a.input.now a.out.now b.0 in
+    let t = text-table a.input.now a.out-1.now b.0 in
     let q = rw (table-part a.input.now n b.1, records-part a.input.now n b.1, v) at p.1.1 in
-    (rw t q.0, (rw t q.1.0, text-whole a.input.now a.out.now))
+    (rw t q.0, (rw t q.1.0, text-whole a.input.now a.out-1.now))
 
-pub player-text-spec : {M : Type 1} → statement M
-player-text-spec =
+pub player_text_spec : {M : Type 1} → statement M
+player_text_spec =
     tie.close
     (tie.spec
     (λ c κs. search rules) (λ c. search rules) (λ c κs. search rules) (λ c. search rules) returns

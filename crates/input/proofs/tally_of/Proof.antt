@@ -20,27 +20,27 @@ use Rattle.input.proofs.WrittenLaws.{answers-none, answers-tally}
 use Rattle.input.proofs.tally_of.Statement.{statement}
 use Rattle.input.proofs.tally_of.Tie as tie
 
-returns : tie.Need-returns
+returns : tie.Need-returns-in_default
 returns c =
     let keys = c.before in
-    let told = keys.before.beginning-of in
+    let told = keys.before.beginning_of in
     let l = keys.before.before.before.args.input.now in
-    c.none.ensures ∙ ap tally_of (sym (answers-none l (starts-otherwise l told.result told.ensures keys.match.keys2)))
+    c.none.ensures ∙ ap tally_of (sym (answers-none l (starts-otherwise l told.result-1 told.ensures keys.in_default.keys2)))
 
 -- the table stands in the input
-begun : (c : tie.After-long)
+begun : (c : tie.In-Table-2)
     → let l = c.before.before.before.before.args.input.now in
-    let n = c.long.given.0.0 in
+    let n = c.long-1.given.0.0 in
     (starts_with_table l ≡ true) × (n ≡ 2 + 2 * size_of l)
-begun c = starts_with c.before.before.before.before.args.input.now c.before.before.beginning-of.ensures c.long.given.1
+begun c = starts_with c.before.before.before.before.args.input.now c.before.before.beginning_of.ensures c.long-1.given.1
 
-within : (c : tie.After-long) → c.long.given.0.0 ≤ length c.before.before.before.before.args.input.now
+within : (c : tie.In-Table-2) → c.long-1.given.0.0 ≤ length c.before.before.before.before.args.input.now
 within c =
-    let n = c.long.given.0.0 in
-    let k = told c.before.before.before.before.args.input.now (Beginning.Table n) c.before.before.beginning-of.ensures c.long.given.1 in
+    let n = c.long-1.given.0.0 in
+    let k = told c.before.before.before.before.args.input.now (Beginning.Table n) c.before.before.beginning_of.ensures c.long-1.given.1 in
     omega arith
 
-returns-2 : tie.Need-returns-2
+returns-2 : tie.Need-returns
 returns-2 c =
     let tally = c.before in
     let none = tally.before.before in
@@ -48,13 +48,13 @@ returns-2 c =
     let long = fresh'.before.before.before in
     let l = long.before.before.before.before.args.input.now in
     let b = begun long in
-    let n = long.long.given.0.0 in
+    let n = long.long-1.given.0.0 in
     let v : view fresh'.fresh.result ≡ fresh = ap view fresh'.fresh.ensures ∙ view-fresh in
-    let q = rw (table-part l n b.1, records-part l n b.1, v, none.none2.ensures) at tally.tally-records.ensures.1.0 in
+    let q = rw (table-part l n b.1, records-part l n b.1, v, none.none-2.ensures) at tally.tally_records.ensures.tally in
     q ∙ answers-tally l b.0
 
-pub tally-of-spec : {M : Type 1} → statement M
-tally-of-spec =
+pub tally_of_spec : {M : Type 1} → statement M
+tally_of_spec =
     tie.close
     (tie.spec
     (λ c κs. search rules) (λ c. search rules) (λ c κs. search rules) returns

@@ -12,57 +12,57 @@ use Rattle.load_files.proofs.Digits.{digit-below, digit-above, digit-most, digit
 use Rattle.load_files.proofs.number_in.Statement.{statement}
 use Rattle.load_files.proofs.number_in.Tie as tie
 
-abbrev invariant-loop : tie.invariant-loop
+abbrev invariant-loop : tie.invariant-loop-i
 invariant-loop text value₀ i₀ value i = (i ≤ length text) × ((value ≤ most_asked) × (number_in text ≡ number_from value (drop i text)))
 
-abbrev decreases-loop : tie.decreases-loop
+abbrev decreases-loop : tie.decreases-loop-i
 decreases-loop text value₀ i₀ value i = length text - i
 
-returns : tie.Need-returns invariant-loop decreases-loop
-returns c = number-none c.before.before.args.text.now c.if1.true
+returns : tie.Need-returns-then-text-eq0 invariant-loop decreases-loop
+returns c = number-none c.before.before.args.text.now c.if-text-eq0.true
 
-loop-holds : tie.Need-loop-init invariant-loop decreases-loop
-loop-holds c = (omega arith, (omega arith, number-begins c.before.before.args.text.now c.if1.false))
+loop-holds : tie.Need-loop-i-init invariant-loop decreases-loop
+loop-holds c = (omega arith, (omega arith, number-begins c.before.before.args.text.now c.if-text-eq0.false))
 
 -- what a law of the digit at the place gives for the whole text
-module _ (c : tie.At-loop invariant-loop decreases-loop) where
+module _ (c : tie.At-loop-i invariant-loop decreases-loop) where
   abbrev text : List ℕ
   text = c.before.before.before.args.text.now
 
-  so : {r : Number} → number_from c.loop.value (drop c.loop.i text) ≡ r → r ≡ number_in text
-  so e = sym (c.loop.invariant.1.1 ∙ e)
+  so : {r : Number} → number_from c.loop-i.value (drop c.loop-i.i text) ≡ r → r ≡ number_in text
+  so e = sym (c.loop-i.invariant.1.1 ∙ e)
 
-returns-2 : tie.Need-returns-2 invariant-loop decreases-loop
+returns-2 : tie.Need-returns-then-digit-lt48 invariant-loop decreases-loop
 returns-2 c =
     let at = c.before.before.before in
-    so at (digit-below (text at) at.loop.value at.loop.i (omega arith) (omega arith))
+    so at (digit-below (text at) at.loop-i.value at.loop-i.i (omega arith) (omega arith))
 
-returns-3 : tie.Need-returns-3 invariant-loop decreases-loop
+returns-3 : tie.Need-returns-then-digit-gt57 invariant-loop decreases-loop
 returns-3 c =
     let at = c.before.before.before.before in
-    so at (digit-above (text at) at.loop.value at.loop.i (omega arith) (omega arith) (omega arith))
+    so at (digit-above (text at) at.loop-i.value at.loop-i.i (omega arith) (omega arith) (omega arith))
 
-add-value : tie.Need-overflow-add-value invariant-loop decreases-loop
+add-value : tie.Need-overflow_add-value invariant-loop decreases-loop
 add-value c = let e = c.wide.ensures in omega arith
 
-returns-4 : tie.Need-returns-4 invariant-loop decreases-loop
+returns-4 : tie.Need-returns-then-value-gt-MOST invariant-loop decreases-loop
 returns-4 c =
     let at = c.before.before.before.before.before.before in
     let e = c.before.wide.ensures in
-    so at (digit-most (text at) at.loop.value at.loop.i (omega arith) (omega arith) (omega arith) (omega arith))
+    so at (digit-most (text at) at.loop-i.value at.loop-i.i (omega arith) (omega arith) (omega arith) (omega arith))
 
-loop-again : tie.Need-loop-preserved invariant-loop decreases-loop
+loop-again : tie.Need-loop-i-preserved invariant-loop decreases-loop
 loop-again c =
     let at = c.before.before.before.before.before.before in
     let e = c.before.wide.ensures in
-    let r = digit-read (text at) at.loop.value at.loop.i (omega arith) (omega arith) (omega arith) (omega arith) in
+    let r = digit-read (text at) at.loop-i.value at.loop-i.i (omega arith) (omega arith) (omega arith) (omega arith) in
     (omega arith, (omega arith, rw e (sym (so at r))))
 
-returns-5 : tie.Need-returns-5 invariant-loop decreases-loop
-returns-5 c = so c.before (number-ends (text c.before) c.before.loop.value c.before.loop.i (omega arith))
+returns-5 : tie.Need-returns invariant-loop decreases-loop
+returns-5 c = so c.before (number-ends (text c.before) c.before.loop-i.value c.before.loop-i.i (omega arith))
 
-pub number-in-spec : {M : Type 1} → statement M
-number-in-spec =
+pub number_in_spec : {M : Type 1} → statement M
+number_in_spec =
     tie.close
     (tie.spec
     invariant-loop

@@ -16,21 +16,21 @@ use Rattle.player_files.proofs.turn.Statement.{statement}
 use Rattle.player_files.proofs.turn.Tie as tie
 
 -- the block that was read
-abbrev block : tie.After-read-block → List ℕ
-block c = take c.read-block.result.count c.read-block.new.1.0
+abbrev block : tie.After-read_block-read → List ℕ
+block c = take c.read_block-read.result.count c.read_block-read.new.1.0
 
-long : (c : tie.After-read-block) → (length (block c) ≡ c.read-block.result.count) × (length (records_in (block c)) ≤ most_records)
+long : (c : tie.After-read_block-read) → (length (block c) ≡ c.read_block-read.result.count) × (length (records_in (block c)) ≤ most_records)
 long c =
-    let read = c.read-block in
+    let read = c.read_block-read in
     let e : length (block c) ≡ read.result.count = length-take-le read.result.count read.new.1.0 read.ensures.0 in
-    let few : read.result.count ≤ 6 * most_records = omega (arith, read.ensures.0, read.auto.1.0, c.before.before.before.before.requires.1) in
+    let few : read.result.count ≤ 6 * most_records = omega (arith, read.ensures.0, read.auto.1.0, c.before.before.before.before.requires.input_len) in
     let k = records-few (block c) in
     (e, omega arith)
 
-say-requires : tie.Need-say-requires
+say-requires : tie.Need-say-said-requires
 say-requires c κs =
     let read = c.before.before.before.before.before in
-    (read.before.before.before.before.requires.0, (long read).1)
+    (read.before.before.before.before.requires.playable, (long read).1)
 
 returns : tie.Need-returns
 returns c =
@@ -38,12 +38,12 @@ returns c =
     let restores = say.before.before in
     let read = restores.before.before.before.before in
     record {
-      read = read.read-block.ensures.0;
-      played = say.say.ensures.played;
-      met = restores.restores.ensures;
-      few = met-few (records_in (block read)) restores.restores.ensures (long read).1;
-      full = λ h. eqb-true _ _ (and_right say.say.result.went _ h);
-      keeps = say.say.ensures.keeps;
+      read = read.read_block-read.ensures.0;
+      played = say.say-said.ensures.played;
+      met = restores.restores-met.ensures;
+      few = met-few (records_in (block read)) restores.restores-met.ensures (long read).1;
+      full = λ h. eqb-true _ _ (and_right say.say-said.result.went _ h);
+      keeps = say.say-said.ensures.keeps;
     }
 
 pub turn_spec : {M : Type 1} → statement M

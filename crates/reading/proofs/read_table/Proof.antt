@@ -13,11 +13,11 @@ use Rattle.reading.proofs.read_table.Statement.{statement}
 use Rattle.reading.proofs.read_table.Tie as tie
 
 -- what was read, and what stands in the buffer then
-few : (c : tie.After-read-block)
-    → let there = c.read-block.new.1.0 ++ drop 2 c.before.before.before.args.buffer.now in
-    (c.read-block.result.count ≤ 2) × ((c.read-block.result.count ≤ length there) × (130 ≤ length there))
+few : (c : tie.After-read_block-first)
+    → let there = c.read_block-first.new.1.0 ++ drop 2 c.before.before.before.args.buffer.now in
+    (c.read_block-first.result.count ≤ 2) × ((c.read_block-first.result.count ≤ length there) × (130 ≤ length there))
 few c =
-    let read = c.read-block in
+    let read = c.read_block-first in
     let buffer = c.before.before.before.args.buffer.now in
     let lent = length-take-le 2 buffer (omega arith) in
     let all = length-append read.new.1.0 (drop 2 buffer) in
@@ -25,30 +25,30 @@ few c =
     (omega (arith, read.ensures, read.auto.1.0), (omega (arith, read.ensures), omega (arith, read.auto.1.0)))
 
 -- the table is cut there
-abbrev first : tie.After-long → tie.After-read-block
+abbrev first : tie.In-Cut-2 → tie.After-read_block-first
 first c = c.before.before.before.before.before.before
 
-cut : (c : tie.After-long) → ((first c).read-block.result.count < c.long.given.0.0) × (c.long.given.0.0 ≤ 130)
+cut : (c : tie.In-Cut-2) → ((first c).read-block.result.count < c.long-1.given.0.0) × (c.long-1.given.0.0 ≤ 130)
 cut c =
     let read = first c in
-    let there = read.read-block.last.1.0 ++ drop 2 read.before.before.before.args.buffer.now in
-    let k = told (take read.read-block.result.count there) (Beginning.Cut c.long.given.0.0) c.before.before.beginning-of.ensures c.long.given.1 in
-    let l = length-take-le read.read-block.result.count there (few read).1.0 in
+    let there = read.read_block-first.last.1.0 ++ drop 2 read.before.before.before.args.buffer.now in
+    let k = told (take read.read_block-first.result.count there) (Beginning.Cut c.long-1.given.0.0) c.before.before.beginning_of.ensures c.long-1.given.1 in
+    let l = length-take-le read.read_block-first.result.count there (few read).1.0 in
     (omega arith, omega arith)
 
-returns-3 : tie.Need-returns-3
+returns-3 : tie.Need-returns
 returns-3 c =
     let then = c.before.before.before in
     let long = then.before.before.before.before in
     let read = first long in
-    let there = read.read-block.last.1.0 ++ drop 2 read.before.before.before.args.buffer.now in
+    let there = read.read_block-first.last.1.0 ++ drop 2 read.before.before.before.args.buffer.now in
     let k = cut long in
     let l = (few read).1.1 in
-    let lent = mid_len read.read-block.result.count long.long.given.0.0 there (omega arith) in
-    omega (arith, then.read-block2.ensures, then.read-block2.auto.1.0)
+    let lent = mid_len read.read_block-first.result.count long.long-1.given.0.0 there (omega arith) in
+    omega (arith, then.read_block-rest.ensures, then.read_block-rest.auto.1.0)
 
-pub read-table-spec : {M : Type 1} → statement M
-read-table-spec =
+pub read_table_spec : {M : Type 1} → statement M
+read_table_spec =
     tie.close
     (tie.spec
     (λ c. search rules) (λ c. sym (length-take-le 2 c.before.before.args.buffer.now (omega arith)))

@@ -13,16 +13,16 @@ use Rattle.recording.proofs.Replaying.{Reached, reached-start, reached-more, rea
 use Rattle.recording.proofs.after_calls.Statement.{statement}
 use Rattle.recording.proofs.after_calls.Tie as tie
 
-abbrev invariant-loop : tie.invariant-loop
+abbrev invariant-loop : tie.invariant-loop-p
 invariant-loop table calls s₀ created₀ closed₀ p₀ s created closed p = Reached table calls s₀ s p created closed
 
-abbrev decreases-loop : tie.decreases-loop
+abbrev decreases-loop : tie.decreases-loop-p
 decreases-loop table calls s₀ created₀ closed₀ p₀ s created closed p = length calls - p
 
 -- ---- what it begins with
 
 sizes : (c : tie.Start invariant-loop decreases-loop) → Sized c.args.begun
-sizes c = sized c.args.begun _ c.well-formed.1.0
+sizes c = sized c.args.begun _ c.well_formed.1.0
 
 good : (c : tie.Start invariant-loop decreases-loop) → table_refusal c.args.table.now ≡ 0
 good c = c.requires.0.good
@@ -33,86 +33,86 @@ stored c = held c.args.begun (sizes c) (sound-blank c.args.table.now c.args.begu
 sound : (c : tie.Start invariant-loop decreases-loop) → Sound c.args.table.now (view c.args.begun)
 sound c = sound-view c.args.table.now c.args.begun c.requires.0.sound
 
-loop-holds : tie.Need-loop-init invariant-loop decreases-loop
+loop-holds : tie.Need-loop-p-init invariant-loop decreases-loop
 loop-holds c =
     let start = c.before.before in
     reached-start start.args.table.now start.args.calls.now start.args.begun (sizes start) start.requires.0 start.requires.1
 
 -- ---- a record
 
-returns : tie.Need-returns invariant-loop decreases-loop
+returns : tie.Need-returns-then-n-calls invariant-loop decreases-loop
 returns c =
     let l = c.before.before.before.before.before.before in
     let start = l.before.before.before in
-    let word = c.before.before.word_at in
-    let n = c.before.image-length in
-    reached-cut l.loop.invariant (good start) (stored start) (sound start) (omega arith) word.result n.result word.ensures n.ensures (omega arith)
+    let word = c.before.before.word_at-word in
+    let n = c.before.image_length-n in
+    reached-cut l.loop-p.invariant (good start) (stored start) (sound start) (omega arith) word.result n.result word.ensures n.ensures (omega arith)
 
 -- it is whole, and the place behind it is a number of 64 bits
-whole : (c : tie.Else1 invariant-loop decreases-loop)
+whole : (c : tie.Else-n-calls invariant-loop decreases-loop)
     → let l = c.before.before.before.before.before.before in
     let long = length l.before.before.before.args.calls.now in
-    (l.loop.p + 6 ≤ long) × (c.before.image-length.result ≤ long - (l.loop.p + 6))
+    (l.loop-p.p + 6 ≤ long) × (c.before.image_length-n.result ≤ long - (l.loop-p.p + 6))
 whole c = (omega arith, omega arith)
 
-add-p : tie.Need-overflow-add-p invariant-loop decreases-loop
+add-p : tie.Need-overflow_add-p invariant-loop decreases-loop
 add-p c = search rules
 
-make-with-image-requires : tie.Need-make-with-image-requires invariant-loop decreases-loop
+make-with-image-requires : tie.Need-make_with_image-made-requires invariant-loop decreases-loop
 make-with-image-requires c κs =
     let l = c.before.before.before.before.before.before.before in
-    reached-ready l.loop.invariant (good l.before.before.before)
+    reached-ready l.loop-p.invariant (good l.before.before.before)
 
 -- one record more, which was made
-module _ (c : tie.After-make-with-image invariant-loop decreases-loop) where
-  abbrev passed : tie.Else1 invariant-loop decreases-loop
+module _ (c : tie.After-make_with_image-made invariant-loop decreases-loop) where
+  abbrev passed : tie.Else-n-calls invariant-loop decreases-loop
   passed = c.before.before
 
-  abbrev turn : tie.At-loop invariant-loop decreases-loop
+  abbrev turn : tie.At-loop-p invariant-loop decreases-loop
   turn = passed.before.before.before.before.before.before
 
-  created-few : turn.loop.created + c.make-with-image.result.created ≤ turn.loop.p + 6 + passed.before.image-length.result
+  created-few : turn.loop-p.created + c.make_with_image-made.result.created ≤ turn.loop-p.p + 6 + passed.before.image_length-n.result
   created-few =
-      let word = passed.before.before.word_at in
-      let n = passed.before.image-length in
-      let made = c.make-with-image in
-      reached-created turn.loop.inv (good turn.before.before.before) (whole passed).0 word.result n.result word.ensures n.ensures
+      let word = passed.before.before.word_at-word in
+      let n = passed.before.image_length-n in
+      let made = c.make_with_image-made in
+      reached-created turn.loop-p.invariant (good turn.before.before.before) (whole passed).0 word.result n.result word.ensures n.ensures
       (whole passed).1 made.result.reply made.ensures.0 made.result.created made.ensures.1
 
-  closed-low : turn.loop.closed + c.make-with-image.result.reply.answer.closed ≤ turn.loop.p + 6 + passed.before.image-length.result
+  closed-low : turn.loop-p.closed + c.make_with_image-made.result.reply.answer.closed ≤ turn.loop-p.p + 6 + passed.before.image_length-n.result
   closed-low =
-      let word = passed.before.before.word_at in
-      let n = passed.before.image-length in
-      let made = c.make-with-image in
-      reached-closed turn.loop.inv (good turn.before.before.before) (whole passed).0 word.result n.result word.ensures n.ensures
+      let word = passed.before.before.word_at-word in
+      let n = passed.before.image_length-n in
+      let made = c.make_with_image-made in
+      reached-closed turn.loop-p.invariant (good turn.before.before.before) (whole passed).0 word.result n.result word.ensures n.ensures
       (whole passed).1 made.result.reply made.ensures.0
 
-add-created : tie.Need-overflow-add-created invariant-loop decreases-loop
-add-created c = omega (arith, created-few c.before, c.wide.ensures, add-p (passed c.before))
+add-created : tie.Need-overflow_add-created invariant-loop decreases-loop
+add-created c = omega (arith, created-few c.before, c.wide-created.ensures, add-p (passed c.before))
 
-add-closed : tie.Need-overflow-add-closed invariant-loop decreases-loop
+add-closed : tie.Need-overflow_add-closed invariant-loop decreases-loop
 add-closed c =
     let made = c.before.before.before.before in
-    omega (arith, closed-low made, c.wide2.ensures, add-p (passed made))
+    omega (arith, closed-low made, c.wide-closed.ensures, add-p (passed made))
 
-loop-again : tie.Need-loop-preserved invariant-loop decreases-loop
+loop-again : tie.Need-loop-p-preserved invariant-loop decreases-loop
 loop-again c =
     let made = c.before.before.before.before.before in
     let l = turn made in
     let word = (passed made).before.before.word_at in
     let n = (passed made).before.image-length in
-    let m = made.make-with-image in
-    rw (c.before.before.before.before.wide.ensures, c.before.wide2.ensures)
-    (reached-more l.loop.inv (good l.before.before.before) (whole (passed made)).0 word.result n.result word.ensures n.ensures
+    let m = made.make_with_image-made in
+    rw (c.before.before.before.before.wide-created.ensures, c.before.wide-closed.ensures)
+    (reached-more l.loop-p.invariant (good l.before.before.before) (whole (passed made)).0 word.result n.result word.ensures n.ensures
     (whole (passed made)).1 m.result.reply m.ensures.0 m.result.created m.ensures.1)
 
-returns-2 : tie.Need-returns-2 invariant-loop decreases-loop
+returns-2 : tie.Need-returns invariant-loop decreases-loop
 returns-2 c =
     let start = c.before.before.before.before in
-    reached-few c.before.loop.invariant (good start) (stored start) (sound start) (omega arith)
+    reached-few c.before.loop-p.invariant (good start) (stored start) (sound start) (omega arith)
 
-pub after-calls-spec : {M : Type 1} → statement M
-after-calls-spec =
+pub after_calls_spec : {M : Type 1} → statement M
+after_calls_spec =
     tie.close
     (tie.spec
     invariant-loop

@@ -10,32 +10,32 @@ use Rattle.recording.proofs.OneCall.{few-cut, image-cut, image-whole, length_cut
 use Rattle.recording.proofs.call_length.Statement.{statement}
 use Rattle.recording.proofs.call_length.Tie as tie
 
-returns : tie.Need-returns
-returns c = let l = c.before.before.args.calls.now in length_cut l (few-cut l c.if1.true)
+returns : tie.Need-returns-then-calls-lt6
+returns c = let l = c.before.before.args.calls.now in length_cut l (few-cut l c.if-calls-lt6.true)
 
 -- the bytes of an image that follow
-image : (c : tie.After-image-length)
+image : (c : tie.After-image_length-n)
     → let l = c.before.before.before.before.before.args.calls.now in
-    (6 ≤ length l) × (c.image-length.result ≡ image_length (get_or l 0 0) (word_at l 0))
-image c = (c.before.before.before.if1.false, rw c.before.word_at.ensures at c.image-length.ensures)
+    (6 ≤ length l) × (c.image_length-n.result ≡ image_length (get_or l 0 0) (word_at l 0))
+image c = (c.before.before.before.if-calls-lt6.false, rw c.before.word_at.ensures at c.image_length-n.ensures)
 
-word-at-requires : tie.Need-word-at-requires
-word-at-requires c κs = c.before.if1.false
+word-at-requires : tie.Need-word_at-requires
+word-at-requires c κs = c.before.if-calls-lt6.false
 
-returns-2 : tie.Need-returns-2
+returns-2 : tie.Need-returns-then-n-calls
 returns-2 c =
     let l = c.before.before.before.before.before.before.args.calls.now in
     let i = image c.before in
-    length_cut l (image-cut l i.0 _ i.1 (omega (arith, c.if2.true)))
+    length_cut l (image-cut l i.0 _ i.1 (omega (arith, c.if-n-calls.true)))
 
-returns-3 : tie.Need-returns-3
+returns-3 : tie.Need-returns
 returns-3 c =
     let l = c.before.before.before.before.before.before.args.calls.now in
     let i = image c.before in
-    length_whole l (image-whole l i.0 _ i.1 (omega (arith, c.if2.false))) i.1
+    length_whole l (image-whole l i.0 _ i.1 (omega (arith, c.if-n-calls.false))) i.1
 
-pub call-length-spec : {M : Type 1} → statement M
-call-length-spec =
+pub call_length_spec : {M : Type 1} → statement M
+call_length_spec =
     tie.close
     (tie.spec
     returns

@@ -18,30 +18,30 @@ use Rattle.recording.proofs.make_with_image.Tie as tie
 passed : (c : tie.Start) → 0 ≡ shared_refusal c.args.table.now c.args.s
 passed c = sym (shared-passed c.args.table.now c.args.s c.requires.good c.requires.sound)
 
-restore-requires : tie.Need-restore-requires
+restore-requires : tie.Need-restore-reply-requires
 restore-requires c κs = passed c.before.before.before
 
-returns : tie.Need-returns
+returns : tie.Need-returns-then-kind-eq6
 unfolding call_of
 returns c =
     let start = c.before.before.before.before in
     let a = start.args in
-    rw c.before.if1.true (c.restore.ensures, restore-creates a.table.now a.s start.requires a.image.now)
+    rw c.before.if-kind-eq6.true (c.restore-reply.ensures, restore-creates a.table.now a.s start.requires a.image.now)
 
 make-requires : tie.Need-make-requires
 make-requires c κs = passed c.before.before.before.before
 
-returns-2 : tie.Need-returns-2
+returns-2 : tie.Need-returns
 unfolding call_of
 returns-2 c =
     let start = c.before.before.before.before.before in
     let a = start.args in
     let request = ap (λ (x : Asked). request_by x a.b a.word) c.before.asked_by.ensures ∙ asked-request a.b a.word a.kind in
     let q = request_of a.kind a.b a.word in
-    rw (ne_eqb a.kind 6 c.before.before.if1.false) (
-      c.make.ensures.0 ∙ ap (reply_stored a.table.now a.s) request ∙ asked-reply a.table.now a.s q,
-      c.make.ensures.1 ∙ ap (created_stored a.table.now a.s) request ∙ asked-created a.table.now a.s start.requires q,
+    rw (ne_eqb a.kind 6 c.before.before.if-kind-eq6.false) (
+      c.make.ensures.reply ∙ ap (reply_stored a.table.now a.s) request ∙ asked-reply a.table.now a.s q,
+      c.make.ensures.created ∙ ap (created_stored a.table.now a.s) request ∙ asked-created a.table.now a.s start.requires q,
     )
 
-pub make-with-image-spec : {M : Type 1} → statement M
-make-with-image-spec = tie.close (tie.spec restore-requires returns (λ c κs. search rules) make-requires returns-2)
+pub make_with_image_spec : {M : Type 1} → statement M
+make_with_image_spec = tie.close (tie.spec restore-requires returns (λ c κs. search rules) make-requires returns-2)

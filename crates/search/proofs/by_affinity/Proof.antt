@@ -15,47 +15,47 @@ use Rattle.search.proofs.Steps.{behind, find-begin, find-take-end, find-take-her
 use Rattle.search.proofs.by_affinity.Statement.{statement}
 use Rattle.search.proofs.by_affinity.Tie as tie
 
-abbrev invariant-loop : tie.invariant-loop
+abbrev invariant-loop : tie.invariant-loop-i
 invariant-loop table n b roots affinity i₀ i =
     (i ≤ n) × (find (akin table b) (take n roots) ≡ behind i (find (akin table b) (drop i (take n roots))))
 
-abbrev decreases-loop : tie.decreases-loop
+abbrev decreases-loop : tie.decreases-loop-i
 decreases-loop table n b roots affinity i₀ i = n - i
 
-affinity-requires : tie.Need-affinity-requires invariant-loop decreases-loop
+affinity-requires : tie.Need-affinity-affinity-requires invariant-loop decreases-loop
 affinity-requires c κs =
     let g = good-shaped c.before.args.table.now c.before.requires.good in
     let k = c.before.requires.known in
     omega arith
 
-loop-holds : tie.Need-loop-init invariant-loop decreases-loop
+loop-holds : tie.Need-loop-i-init invariant-loop decreases-loop
 loop-holds c =
     let a = c.before.before.args in
     (search rules, find-begin (akin a.table.now a.b) (take a.n a.t2))
 
 -- the table has the row of the root at i
-row : (c : tie.Else1 invariant-loop decreases-loop)
-    → 3 + 2 * (get_or c.before.before.before.before.args.t2 c.before.loop.i 0) < length c.before.before.before.before.args.table.now
+row : (c : tie.Else-i-n invariant-loop decreases-loop)
+    → 3 + 2 * (get_or c.before.before.before.before.args.t2 c.before.loop-i.i 0) < length c.before.before.before.before.args.table.now
 row c =
     let start = c.before.before.before.before in
     let a = start.args in
     let l : length a.t2 ≡ 16 = search rules in
     let few = start.requires.few in
     let g = good-shaped a.table.now start.requires.good in
-    let k = root-known a.table.now a.t2 a.n (omega arith) start.requires.each c.before.loop.i (omega arith) in
+    let k = root-known a.table.now a.t2 a.n (omega arith) start.requires.each c.before.loop-i.i (omega arith) in
     omega arith
 
 -- the test of the root at i is the code's
-tested : (c : tie.After-affinity2 invariant-loop decreases-loop)
+tested : (c : tie.After-affinity invariant-loop decreases-loop)
     → akin c.before.before.before.before.before.before.args.table.now c.before.before.before.before.before.before.args.b
-    (get_or c.before.before.before.before.before.before.args.t2 c.before.before.before.loop.i 0)
-    ≡ ((not (eqb c.before.mode.result 3) && eqb c.affinity2.result c.before.before.before.before.affinity.result)
-    && not (eqb c.before.before.before.before.affinity.result 0))
+    (get_or c.before.before.before.before.before.before.args.t2 c.before.before.before.loop-i.i 0)
+    ≡ ((not (eqb c.before.mode.result 3) && eqb c.affinity.result c.before.before.before.before.affinity-affinity.result)
+    && not (eqb c.before.before.before.before.affinity-affinity.result 0))
 tested c =
     let a = c.before.before.before.before.before.before.args in
-    akin-test a.table.now a.b _ c.before.mode.ensures c.affinity2.ensures c.before.before.before.before.affinity.ensures
+    akin-test a.table.now a.b _ c.before.mode.ensures c.affinity.ensures c.before.before.before.before.affinity-affinity.ensures
 
-loop-again : tie.Need-loop-preserved invariant-loop decreases-loop
+loop-again : tie.Need-loop-i-preserved invariant-loop decreases-loop
 loop-again c =
     let here = c.before.before.before.before in
     let start = here.before.before.before in
@@ -63,31 +63,31 @@ loop-again c =
     let l : length a.t2 ≡ 16 = search rules in
     let few = start.requires.few in (
       omega arith,
-      here.loop.invariant.1 ∙ find-take-next (akin a.table.now a.b) a.t2 a.n (omega arith) here.loop.i 0 (omega arith)
-          (tested c.before ∙ c.if2.false),
+      here.loop-i.invariant.1 ∙ find-take-next (akin a.table.now a.b) a.t2 a.n (omega arith) here.loop-i.i 0 (omega arith)
+          (tested c.before ∙ c.if-mode-affinity.false),
     )
 
-returns : tie.Need-returns invariant-loop decreases-loop
+returns : tie.Need-returns-then-i-n invariant-loop decreases-loop
 returns c =
     let here = c.before in
     let start = here.before.before.before in
     let a = start.args in
     let l : length a.t2 ≡ 16 = search rules in
     let few = start.requires.few in
-    sym (here.loop.invariant.1 ∙ find-take-end (akin a.table.now a.b) a.t2 a.n (omega arith) here.loop.i (omega arith))
+    sym (here.loop-i.invariant.1 ∙ find-take-end (akin a.table.now a.b) a.t2 a.n (omega arith) here.loop-i.i (omega arith))
 
-returns-2 : tie.Need-returns-2 invariant-loop decreases-loop
+returns-2 : tie.Need-returns-then-mode-affinity invariant-loop decreases-loop
 returns-2 c =
     let here = c.before.before.before.before in
     let start = here.before.before.before in
     let a = start.args in
     let l : length a.t2 ≡ 16 = search rules in
     let few = start.requires.few in
-    sym (here.loop.invariant.1 ∙ find-take-here (akin a.table.now a.b) a.t2 a.n (omega arith) here.loop.i 0 (omega arith)
-    (tested c.before ∙ c.if2.true))
+    sym (here.loop-i.invariant.1 ∙ find-take-here (akin a.table.now a.b) a.t2 a.n (omega arith) here.loop-i.i 0 (omega arith)
+    (tested c.before ∙ c.if-mode-affinity.true))
 
-pub by-affinity-spec : {M : Type 1} → statement M
-by-affinity-spec =
+pub by_affinity_spec : {M : Type 1} → statement M
+by_affinity_spec =
     tie.close
     (tie.spec
     invariant-loop decreases-loop affinity-requires loop-holds (λ c. search rules) (λ c. search rules) (λ c κs. omega (arith, row c))

@@ -21,82 +21,82 @@ use Rattle.soundness.proofs.sound.Tie as tie
 
 -- what is known after the first four places, and after each four more
 
-abbrev Known : tie.After-four-roots → List ℕ → ℕ → Type 0
+abbrev Known : tie.After-four_roots-roots → List ℕ → ℕ → Type 0
 Known c roots k = let a = c.before.before.before.before.before.before.before.before.before.args in Before a.table.now a.s roots k
 
-first : (c : tie.After-four-roots) → Known c c.four-roots.result 4
+first : (c : tie.After-four_roots-roots) → Known c c.four_roots-roots.result 4
 first c =
     let start = c.before.before.before.before.before.before.before.before.before in
     let l : length start.args.s.tasks ≡ 16 = search (rules, long) in
-    after-four (before-first _ start.args.s start.requires (omega arith) l (sums-fit start.args.s _ start.well-formed.1.0)) (omega arith)
-    c.four-roots.ensures
+    after-four (before-first _ start.args.s start.requires (omega arith) l (sums-fit start.args.s _ start.well_formed.1.0)) (omega arith)
+    c.four_roots-roots.ensures
 
-second : (c : tie.Joined2) → Known c.before c.if2.roots 8
+second : (c : tie.Joined-n-gt4) → Known c.before c.if-n-gt4.roots 8
 second c =
     let b = first c.before in
     ⊎_elim (λ w. after-four b (omega arith) (w.6 ∙ w.5.ensures))
-    (λ w. after-blanks b (omega arith) (omega arith) (said-yes w.5.ensures w.6.left) w.7) c.if2.branch
+    (λ w. after-blanks b (omega arith) (omega arith) (said-yes w.5.ensures w.6.false) w.7) c.if-n-gt4.branch
 
-third : (c : tie.Joined4) → Known c.before.before c.if4.roots 12
+third : (c : tie.Joined-n-gt8) → Known c.before.before c.if-n-gt8.roots 12
 third c =
     let b = second c.before in
     ⊎_elim (λ w. after-four b (omega arith) (w.6 ∙ w.5.ensures))
-    (λ w. after-blanks b (omega arith) (omega arith) (said-yes w.5.ensures w.6.left) w.7) c.if4.branch
+    (λ w. after-blanks b (omega arith) (omega arith) (said-yes w.5.ensures w.6.false) w.7) c.if-n-gt8.branch
 
-fourth : (c : tie.Joined6) → Known c.before.before.before c.if6.roots 16
+fourth : (c : tie.Joined-n-gt12) → Known c.before.before.before c.if-n-gt12.roots 16
 fourth c =
     let b = third c.before in
     ⊎_elim (λ w. after-four b (omega arith) (w.6 ∙ w.5.ensures))
-    (λ w. after-blanks b (omega arith) (omega arith) (said-yes w.5.ensures w.6.left) w.7) c.if6.branch
+    (λ w. after-blanks b (omega arith) (omega arith) (said-yes w.5.ensures w.6.false) w.7) c.if-n-gt12.branch
 
-are-roots : (c : tie.Else8) → all is_root c.before.before.if6.roots ≡ true
-are-roots c = said-yes c.before.all-roots.ensures c.if8.false
+are-roots : (c : tie.Else-not-all_roots) → all is_root c.before.before.if-n-gt12.roots ≡ true
+are-roots c = said-yes c.before.all_roots.ensures c.if-not-all_roots.false
 
-returns : tie.Need-returns
+returns : tie.Need-returns-then-n-gt-TASKS
 returns c = sym (refuted _ (session-fits _ _) (λ f. omega arith))
 
 -- four places in which no task stands are not blank
 
-returns-2 : tie.Need-returns-2
+returns-2 : tie.Need-returns-then-not-blank_four
 returns-2 c =
     let test = c.before.before.before.before.before.before.before in
-    sym (blanks-fail (first test) (omega arith) (omega arith) (said-no c.before.blank-four.ensures c.if3.true))
+    sym (blanks-fail (first test) (omega arith) (omega arith) (said-no c.before.blank_four.ensures c.if-not-blank_four.true))
 
-returns-3 : tie.Need-returns-3
+returns-3 : tie.Need-returns-then-not-blank_four-2
 returns-3 c =
     let test = c.before.before.before.before.before.before.before in
-    sym (blanks-fail (second test) (omega arith) (omega arith) (said-no c.before.blank-four2.ensures c.if5.true))
+    sym (blanks-fail (second test) (omega arith) (omega arith) (said-no c.before.blank_four-else-n-gt8.ensures c.if-not-blank_four-2.true))
 
-returns-4 : tie.Need-returns-4
+returns-4 : tie.Need-returns-then-not-blank_four-3
 returns-4 c =
     let test = c.before.before.before.before.before.before.before in
-    sym (blanks-fail (third test) (omega arith) (omega arith) (said-no c.before.blank-four3.ensures c.if7.true))
+    sym (blanks-fail (third test) (omega arith) (omega arith) (said-no c.before.blank_four-else-n-gt12.ensures c.if-not-blank_four-3.true))
 
-returns-5 : tie.Need-returns-5
-returns-5 c = sym (roots-fail (fourth c.before.before) (said-no c.before.all-roots.ensures c.if8.true))
+returns-5 : tie.Need-returns-then-not-all_roots
+returns-5 c = sym (roots-fail (fourth c.before.before) (said-no c.before.all_roots.ensures c.if-not-all_roots.true))
 
-roots-differ-requires : tie.Need-roots-differ-requires
+roots-differ-requires : tie.Need-roots_differ-requires
 roots-differ-requires c κs = let b = fourth c.before.before in (b.good, (b.few, read_known b (are-roots c)))
 
-returns-6 : tie.Need-returns-6
+returns-6 : tie.Need-returns-then-not-roots_differ
 returns-6 c =
     let test = c.before.before in
-    let e = rw (roots-read (fourth test.before.before) (are-roots test)) at (said-no c.before.roots-differ.ensures c.if9.true) in
+    let e = rw (roots-read (fourth test.before.before) (are-roots test)) at (said-no c.before.roots_differ.ensures c.if-not-roots_differ.true) in
     sym (refuted _ (session-fits _ _) (λ f. contradiction f.pairs e))
 
-returns-7 : tie.Need-returns-7
+returns-7 : tie.Need-returns
 returns-7 c =
     let left = c.before.before.before in
     let test = left.before.before in
     let b = fourth test.before.before in
     let y = are-roots test in
     let r = roots-read b y in
-    let p = rw r at (said-yes left.before.roots-differ.ensures left.if9.false) in
-    let main = c.before.before.main-sound.result in
-    let edition = c.before.edition-sound.result in
-    let m = rw r at c.before.before.main-sound.ensures in
-    let d = c.before.edition-sound.ensures ∙ sym (edition-read b) in
-    let h = c.no-history-sound.ensures ∙ sym (no-history-read b) in
+    let p = rw r at (said-yes left.before.roots_differ.ensures left.if-not-roots_differ.false) in
+    let main = c.before.before.main_sound.result in
+    let edition = c.before.edition_sound.result in
+    let m = rw r at c.before.before.main_sound.ensures in
+    let d = c.before.edition_sound.ensures ∙ sym (edition-read b) in
+    let h = c.no_history_sound.ensures ∙ sym (no-history-read b) in
     same_test
     (record {
       holds = λ e.
@@ -114,8 +114,8 @@ returns-7 c =
     (session-fits _ _)
 
 -- what is searched for: each place named is one of the 16, and what is called asks for nothing that is not known
-pub sound-spec : {M : Type 1} → statement M
-sound-spec =
+pub sound_spec : {M : Type 1} → statement M
+sound_spec =
     tie.close
     (tie.spec
     (λ c. search rules) returns (λ c. search rules) (λ c. search rules) (λ c. search rules) (λ c. search rules)

@@ -18,8 +18,8 @@ use Rattle.starts.proofs.Planning.{room, picks, closing-requires, plan-is}
 use Rattle.starts.proofs.accepted.Statement.{statement}
 use Rattle.starts.proofs.accepted.Tie as tie
 
-sizes : (c : tie.Start) → Sized c.args.t1
-sizes c = sized c.args.t1 _ c.well-formed.0
+sizes : (c : tie.Start) → Sized c.args.self
+sizes c = sized c.args.self _ c.well_formed.0
 
 -- ---- what was chosen, under which table and with which flags
 
@@ -29,32 +29,32 @@ table c = c.requires.0
 abbrev flags : tie.Start → Flags
 flags c = c.requires.1.0
 
-startable : (c : tie.Start) → Startable (table c) c.args.t1 c.args.b
+startable : (c : tie.Start) → Startable (table c) c.args.self c.args.b
 startable c = c.requires.1.1.0
 
-plannable : (c : tie.Start) → Plannable (table c) c.args.t1 c.args.b (flags c) c.args.t c.args.chosen
+plannable : (c : tie.Start) → Plannable (table c) c.args.self c.args.b (flags c) c.args.t c.args.chosen
 plannable c = c.requires.1.1.1
 
-carriable : (c : tie.Start) → Carriable c.args.t1 c.args.chosen.effect c.args.chosen.place
+carriable : (c : tie.Start) → Carriable c.args.self c.args.chosen.effect c.args.chosen.place
 carriable c =
     let z = sizes c in
     let h = startable c in
     let ok = plannable c in
     picked-carriable z h (room z h ok c.args.finishing) (picks z h ok c.args.finishing)
 
-shift-of-requires : tie.Need-shift-of-requires
+shift-of-requires : tie.Need-shift_of-shift-requires
 shift-of-requires c κs =
-    let start = c.before.before in placed start.args.t1 (sizes start) start.args.chosen.place start.args.chosen.effect (carriable start)
+    let start = c.before.before in placed start.args.self (sizes start) start.args.chosen.place start.args.chosen.effect (carriable start)
 
-count-after-requires : tie.Need-count-after-requires
+count-after-requires : tie.Need-count_after-n-requires
 count-after-requires c κs =
     let start = c.before.before.before in
-    blank-few start.args.t1 (sound-blank (table start) start.args.t1 (startable start).ready.sound)
+    blank-few start.args.self (sound-blank (table start) start.args.self (startable start).ready.sound)
 
-main-after-requires : tie.Need-main-after-requires
+main-after-requires : tie.Need-main_after-main-requires
 main-after-requires c κs =
     let start = c.before.before.before.before in
-    main-low start.args.t1 (sizes start) start.args.chosen.place start.args.chosen.effect (carriable start)
+    main-low start.args.self (sizes start) start.args.chosen.place start.args.chosen.effect (carriable start)
 
 top-requires : tie.Need-top-requires
 top-requires c κs =
@@ -70,22 +70,22 @@ changeable c =
     let ok = plannable c in
     rw ok.task (picked-changeable z h (room z h ok c.args.finishing) (picks z h ok c.args.finishing))
 
-place-for-requires : tie.Need-place-for-requires
+place-for-requires : tie.Need-place_for-topmost-requires
 place-for-requires c κs = changeable c.before.before.before.before.before.before.before
 
-front-after-requires : tie.Need-front-after-requires
-front-after-requires c κs = (changeable c.before.before.before.before.before.before.before.before, c.place-for.ensures)
+front-after-requires : tie.Need-front_after-next-requires
+front-after-requires c κs = (changeable c.before.before.before.before.before.before.before.before, c.place_for-topmost.ensures)
 
-closing-plan-requires : tie.Need-closing-plan-requires
+closing-plan-requires : tie.Need-closing_plan-plan-requires
 closing-plan-requires c κs =
     let made = c.before in
     let marked = made.before.before in
     let count = marked.before.before.before in
     let closes = count.before.before in
     let start = closes.before.before in
-    closing-requires (sizes start) (startable start) (plannable start) closes.caller-closes.result marked.before.top.ensures
-    marked.mark-if.ensures made.front-after.ensures count.count-after.ensures
-    made.before.place-for.ensures c.closed-by.ensures
+    closing-requires (sizes start) (startable start) (plannable start) closes.caller_closes-closes.result marked.before.top.ensures
+    marked.mark_if-mark.ensures made.front_after-next.ensures count.count_after-n.ensures
+    made.before.place_for-topmost.ensures c.closed_by-closed.ensures
 
 returns : tie.Need-returns
 returns c =
@@ -95,15 +95,15 @@ returns c =
     let count = marked.before.before.before in
     let closes = count.before.before in
     let start = closes.before.before in
-    let is = plan.closing-plan.ensures
-    ∙ plan-is (sizes start) (startable start) (plannable start) closes.caller-closes.result marked.before.top.ensures
-    marked.mark-if.ensures made.front-after.ensures count.count-after.ensures
-    made.before.place-for.ensures plan.before.closed-by.ensures
-    count.before.Shift-of.ensures marked.before.before.main-after.ensures in
-    rw (c.created-by.ensures, c.before.no-history-after.ensures, is, closes.caller-closes.ensures, plan.before.closed-by.ensures, made.before.place-for.ensures)
+    let is = plan.closing_plan-plan.ensures
+    ∙ plan-is (sizes start) (startable start) (plannable start) closes.caller_closes-closes.result marked.before.top.ensures
+    marked.mark_if-mark.ensures made.front_after-next.ensures count.count_after-n.ensures
+    made.before.place_for-topmost.ensures plan.before.closed_by-closed.ensures
+    count.before.Shift-of.ensures marked.before.before.main_after-main.ensures in
+    rw (c.created_by.ensures, c.before.no_history_after.ensures, is, closes.caller_closes-closes.ensures, plan.before.closed_by-closed.ensures, made.before.place_for-topmost.ensures)
 
-pub accepted-spec : {M : Type 1} → statement M
-accepted-spec =
+pub accepted_spec : {M : Type 1} → statement M
+accepted_spec =
     tie.close
     (tie.spec
     (λ c. search rules)

@@ -12,7 +12,7 @@ use Rattle.starts.proofs.seek_task.Statement.{statement}
 use Rattle.starts.proofs.seek_task.Tie as tie
 
 sizes : (c : tie.Start) → Sized c.args.t2
-sizes c = sized c.args.t2 _ c.well-formed.1.0
+sizes c = sized c.args.t2 _ c.well_formed.1.0
 
 top-requires : tie.Need-top-requires
 top-requires c κs =
@@ -20,35 +20,35 @@ top-requires c κs =
     let a = start.args in
     task-filled a.table.now a.t2 a.b (sizes start) start.requires 0 start.requires.some
 
-group-of-requires : tie.Need-group-of-requires
+group-of-requires : tie.Need-group_of-group-requires
 group-of-requires c κs =
     let start = c.before.before.before in
     let a = start.args in
     (rw c.top.ensures (top-row a.table.now a.t2 a.b (sizes start) start.requires 0 start.requires.some), own_row a.table.now a.t2 a.b (sizes start) start.requires)
 
-asks-of-requires : tie.Need-asks-of-requires
+asks-of-requires : tie.Need-asks_of-asks-requires
 asks-of-requires c κs =
     let start = c.before.before.before.before in
     let a = start.args in
     own_row a.table.now a.t2 a.b (sizes start) start.requires
 
-sought-by-requires : tie.Need-sought-by-requires
+sought-by-requires : tie.Need-sought_by-found-requires
 sought-by-requires c κs = c.before.before.before.before.before.requires
 
 -- the group and the task found are the definition's
-group : (c : tie.After-group-of)
+group : (c : tie.After-group_of-group)
     → let a = c.before.before.before.before.args in c.Group-of.result ≡ group_of a.table.now (view a.t2) a.b a.f
 group c =
     let start = c.before.before.before.before in
     c.Group-of.ensures _ (front-screen start.args.t2 start.requires.some ∙ sym c.before.top.ensures)
 
-found : (c : tie.After-sought-by)
+found : (c : tie.After-sought_by-found)
     → let group = c.before.before in
     let a = group.before.before.before.before.args in
-    c.sought-by.result ≡ sought_by a.table.now (view a.t2) a.b a.f group.Group-of.result
+    c.sought_by-found.result ≡ sought_by a.table.now (view a.t2) a.b a.f group.Group-of.result
 found c =
     let a = c.before.before.before.before.before.before.args in
-    c.sought-by.ensures a.f (sym (ap (λ (x : Asks). x.new_task) c.before.asks_of.ensures))
+    c.sought_by-found.ensures a.f (sym (ap (λ (x : Asks). x.new_task) c.before.asks_of-asks.ensures))
 
 returns : tie.Need-returns
 returns c =
@@ -64,12 +64,12 @@ returns c =
       refusal = refl;
       found = found-chosen tb (view a.t2) a.b a.f g t;
       index = i;
-      rule = rule-chosen tb (view a.t2) a.b a.f g t (task_behind a.t2 c.index_of.result) (stored-shows a.t2 c.before.sought-by.result i stands)
-          (view-main a.t2) asks.asks_of.ensures;
+      rule = rule-chosen tb (view a.t2) a.b a.f g t (task_behind a.t2 c.index_of.result) (stored-shows a.t2 c.before.sought_by-found.result i stands)
+          (view-main a.t2) asks.asks_of-asks.ensures;
       noh = refl;
     }
 
-pub seek-task-spec : {M : Type 1} → statement M
-seek-task-spec =
+pub seek_task_spec : {M : Type 1} → statement M
+seek_task_spec =
     tie.close
     (tie.spec (λ c. search rules) top-requires group-of-requires asks-of-requires sought-by-requires (λ c κs. search rules) returns)

@@ -18,69 +18,69 @@ use Rattle.container.proofs.Container.step.Tie as tie
 -- the code's test for 36
 tested : (c : tie.After-good2)
     → let a = c.before.before.before.args in
-    (not c.before.good-operations.result || not c.good2.result) ≡ bad a.operations.now a.self
-tested c = rw (c.before.good-operations.ensures, c.good2.ensures)
+    (not c.before.good_operations.result || not c.good2.result) ≡ bad a.operations.now a.self
+tested c = rw (c.before.good_operations.ensures, c.good2.ensures)
 
-passed : (c : tie.Else1) → let a = c.before.before.before.before.args in bad a.operations.now a.self ≡ false
-passed c = sym (tested c.before) ∙ c.if1.false
+passed : (c : tie.Else-good_operations-good) → let a = c.before.before.before.before.args in bad a.operations.now a.self ≡ false
+passed c = sym (tested c.before) ∙ c.if-good_operations-good.false
 
-known : (c : tie.Else2)
+known : (c : tie.Else-carried-ne0)
     → let a = c.before.before.before.before.before.before.before.before.args in
-    Known a.recorded a.operations.now a.self c.before.before.carry.result
+    Known a.recorded a.operations.now a.self c.before.before.carry-carried.result
 known c =
-    record { passed = passed c.before.before.before.before; carried = c.before.before.carry.ensures; accepted = c.if2.false }
+    record { passed = passed c.before.before.before.before; carried = c.before.before.carry-carried.ensures; accepted = c.if-carried-ne0.false }
 
 long : (c : tie.Start) → length c.args.self.kept ≡ 8
-long c = sized c.args.self _ c.well-formed.0
+long c = sized c.args.self _ c.well_formed.0
 
-returns : tie.Need-returns
+returns : tie.Need-returns-then-good_operations-good
 returns c =
     let a = c.before.before.before.before.args in
-    (step-36 a.recorded a.operations.now a.self (sym (tested c.before) ∙ c.if1.true), keeps-promise)
+    (step-36 a.recorded a.operations.now a.self (sym (tested c.before) ∙ c.if-good_operations-good.true), keeps-promise)
 
-carry-requires : tie.Need-carry-requires
+carry-requires : tie.Need-carry-carried-requires
 carry-requires c κs =
     let a = c.before.before.before.before.before.args in
     (is-good a.self (both_true (good_operations a.operations.now) (good_container a.self) (passed c.before)).1).low
 
-returns-2 : tie.Need-returns-2
+returns-2 : tie.Need-returns-then-carried-ne0
 returns-2 c =
-    let carry = c.before.before.carry in
+    let carry = c.before.before.carry-carried in
     let else1 = c.before.before.before.before in
     let a = else1.before.before.before.before.args in
-    (step-37 a.recorded a.operations.now a.self (passed else1) carry.result carry.ensures c.if2.true, keeps-promise)
+    (step-37 a.recorded a.operations.now a.self (passed else1) carry.result carry.ensures c.if-carried-ne0.true, keeps-promise)
 
-returns-3 : tie.Need-returns-3
-returns-3 c = (step-38 (known c.before) c.if3.true, keeps-promise)
+returns-3 : tie.Need-returns-then-recorded-steps
+returns-3 c = (step-38 (known c.before) c.if-recorded-steps.true, keeps-promise)
 
-settled-requires : tie.Need-settled-requires
+settled-requires : tie.Need-settled-out-requires
 settled-requires c κs =
     let else2 = c.before.before in
     let a = else2.before.before.before.before.before.before.before.before.args.self in
     let g = good (known else2) in
     (shown-low (known else2), (g.few, fits-fewer a.kept a.steps a.steps (omega arith) g.each))
 
-keep-requires : tie.Need-keep-requires
+keep-requires : tie.Need-keep-out-requires
 keep-requires c κs =
     let else2 = c.before.before.before.before in
     let start = else2.before.before.before.before.before.before.before.before in
     let k = known else2 in
-    (has-place k c.before.before.before.if3.false c.before.settled.ensures c.if4.true (long start), (good k).low)
+    (has-place k c.before.before.before.if-recorded-steps.false c.before.settled-out.ensures c.if-recorded-ne0.true (long start), (good k).low)
 
-returns-4 : tie.Need-returns-4
+returns-4 : tie.Need-returns-then-recorded-ne0
 returns-4 c =
     let else2 = c.before.before.before.before.before in
     let start = else2.before.before.before.before.before.before.before.before in
-    let t = c.before.before.before.before.if3.false in (
-      ap (λ (x : Container). reply x 0) c.keep.ensures
-          ∙ recorded-0 (known else2) t c.before.before.settled.ensures c.before.if4.true (long start),
+    let t = c.before.before.before.before.if-recorded-steps.false in (
+      ap (λ (x : Container). reply x 0) c.keep-out.ensures
+          ∙ recorded-0 (known else2) t c.before.before.settled-out.ensures c.before.if-recorded-ne0.true (long start),
       keeps-promise,
     )
 
-returns-5 : tie.Need-returns-5
+returns-5 : tie.Need-returns-else-recorded-ne0
 returns-5 c =
-    let t = c.before.before.before.if3.false in
-    (unrecorded-0 (known c.before.before.before.before) t c.before.settled.ensures c.if4.false, keeps-promise)
+    let t = c.before.before.before.if-recorded-steps.false in
+    (unrecorded-0 (known c.before.before.before.before) t c.before.settled-out.ensures c.if-recorded-ne0.false, keeps-promise)
 
 pub step_spec : {M : Type 1} → statement M
 step_spec =

@@ -11,63 +11,63 @@ use Rattle.panels.proofs.CarryLaws.{room, stops, stays-clean, goes_on, ends}
 use Rattle.panels.proofs.Panels.carry.Statement.{statement}
 use Rattle.panels.proofs.Panels.carry.Tie as tie
 
-abbrev invariant-loop : tie.invariant-loop
+abbrev invariant-loop : tie.invariant-loop-i
 invariant-loop operations n out₀ i₀ out i =
     (i ≤ n) × IsClean out
     × (carried_or37 (operations_in operations) (view_panels out₀) ≡ carried_or37 (operations_in (drop (2 * i) operations)) (view_panels out))
 
-abbrev decreases-loop : tie.decreases-loop
+abbrev decreases-loop : tie.decreases-loop-i
 decreases-loop operations n out₀ i₀ out i = n - i
 
-loop-holds : tie.Need-loop-init invariant-loop decreases-loop
+loop-holds : tie.Need-loop-i-init invariant-loop decreases-loop
 loop-holds c =
     let start = c.before.before in
     let a = start.args in
-    (omega arith, held-clean c.cleaned.result (view_panels a.self) c.cleaned.ensures (view-low a.self start.requires), refl)
+    (omega arith, held-clean c.cleaned-out.result (view_panels a.self) c.cleaned-out.ensures (view-low a.self start.requires), refl)
 
 -- what the panels that the loop begins with show
-begun : (c : tie.After-cleaned invariant-loop decreases-loop) → view_panels c.cleaned.result ≡ view_panels c.before.before.args.self
-begun c = ap view_panels c.cleaned.ensures ∙ view-held (view_panels c.before.before.args.self)
+begun : (c : tie.After-cleaned-out invariant-loop decreases-loop) → view_panels c.cleaned-out.result ≡ view_panels c.before.before.args.self
+begun c = ap view_panels c.cleaned-out.ensures ∙ view-held (view_panels c.before.before.args.self)
 
-returns : tie.Need-returns invariant-loop decreases-loop
+returns : tie.Need-returns-then-kind-out invariant-loop decreases-loop
 returns c =
     let l = c.before.before.before.before.before.before in
     let o = l.before.before.before.args.operations.now in
-    let t = c.before.before.before.before.before.loop-test.true in
-    stops o l.loop.i _ l.loop.out l.loop.invariant.1 l.loop.invariant.2 c.none.result c.none.ensures (omega arith) c.before.if1.true
+    let t = c.before.before.before.before.before.loop-i-test.true in
+    stops o l.loop-i.i _ l.loop-i.out l.loop-i.invariant.1 l.loop-i.invariant.2 c.none-none.result c.none-none.ensures (omega arith) c.before.if-kind-out.true
     ∙ ap (carried_or37 (operations_in o)) (begun l.before)
 
 -- an add finds room
-finds-room : (c : tie.Else1 invariant-loop decreases-loop)
+finds-room : (c : tie.Else-kind-out invariant-loop decreases-loop)
     → let l = c.before.before.before.before.before in
-    get_or l.before.before.before.args.operations.now (2 * l.loop.i) 0 ≡ 1 → l.loop.out.count < 8
-finds-room c = let l = c.before.before.before.before.before.loop in room _ l.out.count l.invariant.1.0 c.if1.false
+    get_or l.before.before.before.args.operations.now (2 * l.loop-i.i) 0 ≡ 1 → l.loop-i.out.count < 8
+finds-room c = let l = c.before.before.before.before.before.loop-i in room _ l.out.count l.invariant.1.0 c.if-kind-out.false
 
-operate-requires : tie.Need-operate-requires invariant-loop decreases-loop
-operate-requires c κs = (c.before.before.before.before.before.loop.invariant.1, finds-room c)
+operate-requires : tie.Need-operate-out-requires invariant-loop decreases-loop
+operate-requires c κs = (c.before.before.before.before.before.loop-i.invariant.1, finds-room c)
 
-loop-again : tie.Need-loop-preserved invariant-loop decreases-loop
+loop-again : tie.Need-loop-i-preserved invariant-loop decreases-loop
 loop-again c =
     let l = c.before.before.before.before.before.before in
     let o = l.before.before.before.args.operations.now in
-    let t = c.before.before.before.before.before.loop-test.true in
-    let r = c.operate.result in
-    let e = c.operate.ensures in
+    let t = c.before.before.before.before.before.loop-i-test.true in
+    let r = c.operate-out.result in
+    let e = c.operate-out.ensures in
     let f = finds-room c.before in (
       omega arith,
-      stays-clean o l.loop.i _ l.loop.out l.loop.invariant.1 l.loop.invariant.2 r e f,
-      goes_on o l.loop.i _ l.loop.out l.loop.invariant.1 l.loop.invariant.2 r e f (omega arith),
+      stays-clean o l.loop-i.i _ l.loop-i.out l.loop-i.invariant.1 l.loop-i.invariant.2 r e f,
+      goes_on o l.loop-i.i _ l.loop-i.out l.loop-i.invariant.1 l.loop-i.invariant.2 r e f (omega arith),
     )
 
-returns-2 : tie.Need-returns-2 invariant-loop decreases-loop
+returns-2 : tie.Need-returns invariant-loop decreases-loop
 returns-2 c =
     let l = c.before in
     let o = l.before.before.before.args.operations.now in
-    let t = c.loop-test.false in
-    ends o l.loop.i _ l.loop.out l.loop.invariant.1 l.loop.invariant.2 (omega arith) ∙ ap (carried_or37 (operations_in o)) (begun l.before)
+    let t = c.loop-i-test.false in
+    ends o l.loop-i.i _ l.loop-i.out l.loop-i.invariant.1 l.loop-i.invariant.2 (omega arith) ∙ ap (carried_or37 (operations_in o)) (begun l.before)
 
-pub carry-spec : {M : Type 1} → statement M
-carry-spec =
+pub carry_spec : {M : Type 1} → statement M
+carry_spec =
     tie.close
     (tie.spec
     invariant-loop

@@ -10,7 +10,7 @@ use Rattle.tally.proofs.Tally.with_answer.Tie as tie
 taken : (c : tie.Start) → Takes c.args.self c.args.refusal c.args.height
 taken c = (takes-decides c.args.self c.args.refusal c.args.height).holds c.requires
 
-add-t8 : tie.Need-overflow-add-t8
+add-t8 : tie.Need-overflow_add-result
 add-t8 c =
     let wide = c.before in
     let start = wide.before.before.before.before in
@@ -18,25 +18,25 @@ add-t8 c =
     let s = tally-sum start.args.self h.tally in
     let l = seen_most h in
     let e = wide.wide.ensures in
-    let f = wide.before.before.before.height-seen.ensures in
+    let f = wide.before.before.before.height_seen-seen.ensures in
     let n = h.room in
     search rules
 
-add-t9 : tie.Need-overflow-add-t9
+add-t9 : tie.Need-overflow_add-result-2
 add-t9 c =
     let one = c.before.before.before.before in
     let start = one.before.before in
     let n = (taken start).room in
     let l = accepted-most start.args.refusal in
-    let e = one.accepted-by.ensures in
+    let e = one.accepted_by-accepted.ensures in
     search rules
 
-sub-t10 : tie.Need-overflow-sub-t10
+sub-t10 : tie.Need-overflow_sub-result
 sub-t10 c =
     let one = c.before.before.before.before in
-    omega (arith, one.accepted-by.ensures, accepted-most one.before.before.args.refusal)
+    omega (arith, one.accepted_by-accepted.ensures, accepted-most one.before.before.args.refusal)
 
-add-t11 : tie.Need-overflow-add-t11
+add-t11 : tie.Need-overflow_add-result-3
 add-t11 c =
     let one = c.before.before.before.before.before in
     let n = (taken one.before.before).room in
@@ -48,9 +48,9 @@ returns c =
     let one = wide.before.before in
     let start = one.before.before in
     let a = start.args in
-    let e = one.before.height-seen.ensures in
-    rw (wide.before.larger.ensures, wide.wide.ensures) (with-answer a.self a.refusal a.height e one.accepted-by.ensures)
+    let e = one.before.height_seen-seen.ensures in
+    rw (wide.before.larger-greatest.ensures, wide.wide.ensures) (with-answer a.self a.refusal a.height e one.accepted_by-accepted.ensures)
 
-pub with-answer-spec : {M : Type 1} → statement M
-with-answer-spec =
+pub with_answer_spec : {M : Type 1} → statement M
+with_answer_spec =
     tie.close (tie.spec (λ c κs. search rules) (λ c κs. search rules) (λ c κs. search rules) (λ c κs. search rules) add-t8 add-t9 sub-t10 add-t11 returns)

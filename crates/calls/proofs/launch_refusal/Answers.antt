@@ -1,0 +1,23 @@
+-- `calls::launch_refusal` meets its contract: 22 first, then 30.
+use mathlib.Core.Path.{◌≡◌, sym, ◌∙◌, ap}
+use borrow.Author.Rules.{rules}
+use borrow.Author.Tests.{eq-eqb, ne_eqb}
+use Rattle.model.specs.Session.{is_edition}
+use Rattle.calls.proofs.launch_refusal.Goals as goal
+
+pub returns-then-n-ne0 : goal.returns-then-n-ne0
+returns-then-n-ne0 c = rw (ne_eqb c.args.n 0 c.if-n-ne0.true)
+
+pub returns-then-is_edition : goal.returns-then-is_edition
+returns-then-is_edition c =
+    rw (
+      eq-eqb c.args.n 0 c.if-n-ne0.false,
+      ap is_edition (sym c.edition_named.ensures) ∙ sym c.is_edition.ensures ∙ c.if-is_edition.true,
+    )
+
+pub returns : goal.returns
+returns c =
+    rw (
+      eq-eqb c.args.n 0 c.if-n-ne0.false,
+      ap is_edition (sym c.edition_named.ensures) ∙ sym c.is_edition.ensures ∙ c.if-is_edition.false,
+    )

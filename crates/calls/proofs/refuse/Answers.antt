@@ -1,0 +1,6 @@
+-- `calls::refuse` meets its contract: the session as it was, and the answer of the refusal.
+use borrow.Author.Rules.{rules}
+use Rattle.calls.proofs.refuse.Goals as goal
+
+pub returns : goal.returns
+returns c = rw c.refused.ensures

@@ -1,0 +1,29 @@
+-- Each number behind the one before it.
+use mathlib.Core.Path.{◌∙◌}
+use mathlib.Core.List.{[], ◌∷◌, ◌++◌}
+use native.Mathlib.Nat.{zero-add}
+use native.Mathlib.Omega.{arith}
+use borrow.Author.Rules.{rules}
+use Rattle.model.specs.Player.{space, newline}
+use Rattle.model.proofs.WrittenLaws.{Wrote, wrote}
+use Rattle.depths.specs.Reports.{figures, numbers_text, report_text}
+use Rattle.depths.proofs.Figures.{figures-then}
+use Rattle.depths.proofs.write_report.Goals as goal
+
+pub returns : goal.returns
+unfolding report_text numbers_text
+returns c =
+    let r = c.args.r in
+    let b1 = c.write_figures-refused.ensures.bound in
+    let b2 = c.write_figures-greatest.ensures.bound in
+    let b3 = c.write_figures-tenths.ensures.bound in
+    let b4 = c.write_figures.ensures.bound in
+    let last = figures r.tenths ++ newline ∷ [] in
+    let third = figures r.greatest ++ space ∷ last in
+    let second = figures r.refused ++ space ∷ third in
+    let text : Wrote c.args.out.now 0 (figures r.accepted ++ space ∷ second) c.write_figures.new.out c.write_figures.result =
+    figures-then r.accepted space second (wrote 7 (c.write_figures-refused.ensures.place, (c.write_figures-refused.ensures.text, c.write_figures-refused.ensures.bound))) (omega (arith, c.requires)) (
+    figures-then r.refused space third (wrote 7 (c.write_figures-greatest.ensures.place, (c.write_figures-greatest.ensures.text, c.write_figures-greatest.ensures.bound))) (omega (arith, c.requires, c.write_figures-refused.auto.0)) (
+    figures-then r.greatest space last (wrote 7 (c.write_figures-tenths.ensures.place, (c.write_figures-tenths.ensures.text, c.write_figures-tenths.ensures.bound))) (omega (arith, c.requires, c.write_figures-refused.auto.0, c.write_figures-greatest.auto.0))
+    (wrote 7 (c.write_figures.ensures.place, (c.write_figures.ensures.text, c.write_figures.ensures.bound))))) in
+    record { length = text.place ∙ zero-add _; text = text.text; bound = omega arith }

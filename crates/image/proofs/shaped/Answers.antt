@@ -1,0 +1,14 @@
+-- `image::shaped` meets its contract: fewer than six bytes are no image, and of six or more the trailer decides.
+use mathlib.Core.Path.{sym}
+use borrow.Author.Rules.{rules}
+use Rattle.image.proofs.ReadTrailer.{shaped-short, shaped-long}
+use Rattle.image.proofs.shaped.Goals as goal
+
+pub returns-then-long-lt6 : goal.returns-then-long-lt6
+returns-then-long-lt6 c = sym (shaped-short c.args.image.now c.if-long-lt6.true)
+
+pub returns : goal.returns
+returns c =
+    let image = c.args.image.now in
+    rw (c.closes.ensures, c.wide-high.ensures.0, c.wide-low.ensures.0)
+    (sym (shaped-long image c.if-long-lt6.false))

@@ -1,0 +1,16 @@
+-- `navigator::restore` meets its contract: what `calls::restore` gives with the refusal of the shared checks.
+use borrow.Author.Rules.{rules}
+use Rattle.image_calls.proofs.RestoreLaws.{restore-gives, all-bytes}
+use Rattle.navigator.proofs.Promise3Laws.{promise3}
+use Rattle.navigator.proofs.restore.Goals as goal
+
+pub restore-requires : goal.restore-requires
+restore-requires c = c.shared_refusal-refusal.ensures
+
+pub returns : goal.returns
+returns c =
+    let a = c.args in
+    let known = c.shared_slice_known-2-1.given in
+    let bytes = all-bytes a.image.now (λ i. (known i).fits) in
+    let g = restore-gives a.table.now a.s a.image.now bytes c.restore.result c.restore.ensures in
+    record { gives = g.0; keeps = g.1.0; accepts = g.1.1.0; brings = g.1.1.1.0; saves = g.1.1.1.1; promise = promise3 a.table.now }

@@ -1,0 +1,15 @@
+-- What stands, pushed one by one.
+use Prim.Native.Nat.{ℕ, ◌≤◌, ◌-◌}
+use mathlib.Core.Path.{◌≡◌, refl, ap, ◌∙◌}
+use native.Mathlib.Omega.{arith}
+use borrow.Author.Rules.{rules}
+use lib.ListN.{length, take}
+use Rattle.panels.specs.Stored.{hold_panels, view_panels}
+use Rattle.panels.proofs.PanelLaws.{none-held, push-room, push-next}
+use Rattle.panels.proofs.Panels.cleaned.Given as goal
+
+abbrev pub invariant-loop-i : goal.invariant-loop-i
+invariant-loop-i l = (l.i ≤ l.n) × (l.n ≡ l.self.count) × (l.out ≡ hold_panels (take l.i l.self.panels))
+
+abbrev pub decreases-loop-i : goal.decreases-loop-i
+decreases-loop-i l = l.n - l.i

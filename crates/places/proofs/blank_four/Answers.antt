@@ -1,0 +1,35 @@
+-- Invariant: the test so far and the screens from i on, of all four tasks, decide.
+use Prim.Native.Nat.{◌-◌, ◌≤◌}
+use mathlib.Core.Path.{◌≡◌, sym, ◌∙◌}
+use mathlib.Core.Bool.{◌&&◌}
+use mathlib.Core.List.{[], ◌∷◌}
+use native.Mathlib.Omega.{arith}
+use lib.ListN.{length}
+use borrow.Author.Rules.{rules}
+use Rattle.model.specs.Lists.{all}
+use Rattle.session.specs.Stored.{is_blank}
+use Rattle.places.proofs.Fours.{rests, fours-begin, fours-step, fours-end}
+use Rattle.places.proofs.blank_four.Goals as goal
+
+pub loop-i-init : goal.loop-i-init
+loop-i-init c = (search rules, fours-begin _ _ _ _)
+
+pub loop-i-preserved : goal.loop-i-preserved
+loop-i-preserved c =
+    let o = c.loop-i in
+    let a = c.args in
+    let la : length a.t1.screens ≡ 32 = search rules in
+    let lb : length a.t2.screens ≡ 32 = search rules in
+    let lc : length a.t3.screens ≡ 32 = search rules in
+    let ld : length a.t4.screens ≡ 32 = search rules in
+    (omega arith, o.invariant.1 ∙ fours-step a.t1 a.t2 a.t3 a.t4 o.i la lb lc ld (omega arith) o.zero)
+
+pub returns : goal.returns
+returns c =
+    let o = c.loop-i in
+    let a = c.args in
+    let la : length a.t1.screens ≡ 32 = search rules in
+    let lb : length a.t2.screens ≡ 32 = search rules in
+    let lc : length a.t3.screens ≡ 32 = search rules in
+    let ld : length a.t4.screens ≡ 32 = search rules in
+    sym (o.invariant.1 ∙ fours-end a.t1 a.t2 a.t3 a.t4 o.i la lb lc ld (omega arith) o.zero)

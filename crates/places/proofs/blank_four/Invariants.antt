@@ -1,0 +1,18 @@
+-- Invariant: the test so far and the screens from i on, of all four tasks, decide.
+use Prim.Native.Nat.{◌-◌, ◌≤◌}
+use mathlib.Core.Path.{◌≡◌, sym, ◌∙◌}
+use mathlib.Core.Bool.{◌&&◌}
+use mathlib.Core.List.{[], ◌∷◌}
+use native.Mathlib.Omega.{arith}
+use lib.ListN.{length}
+use borrow.Author.Rules.{rules}
+use Rattle.model.specs.Lists.{all}
+use Rattle.session.specs.Stored.{is_blank}
+use Rattle.places.proofs.Fours.{rests, fours-begin, fours-step, fours-end}
+use Rattle.places.proofs.blank_four.Given as goal
+
+abbrev pub invariant-loop-i : goal.invariant-loop-i
+invariant-loop-i l = (l.i ≤ 32) × (all is_blank (l.a ∷ l.b ∷ l.c ∷ l.d ∷ []) ≡ (l.zero && rests l.i l.a l.b l.c l.d))
+
+abbrev pub decreases-loop-i : goal.decreases-loop-i
+decreases-loop-i l = 32 - l.i

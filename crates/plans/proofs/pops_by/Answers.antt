@@ -1,0 +1,6 @@
+-- `plans::pops_by` meets its contract, by the mark.
+use borrow.Author.Rules.{rules}
+use Rattle.plans.proofs.pops_by.Goals as goal
+
+pub returns-in-Stands : goal.returns-in-Stands
+returns-in-Stands c = rw c.in-Stands.is

@@ -1,0 +1,22 @@
+-- The player plays as many bytes as hold the records for whose lines there is room.
+use Prim.Native.Nat.{◌≤◌}
+use mathlib.Core.Path.{◌≡◌, refl, sym, ◌∙◌, ap}
+use native.Mathlib.Omega.{arith}
+use lib.ListN.{length, take}
+use lib.Seq.{length-take-le}
+use borrow.Author.Rules.{rules}
+use Rattle.play.proofs.BlockLaws.{part_for, part-fits, part-plays}
+use Rattle.play.proofs.play.Goals as goal
+
+pub slice_bounds-run-end : goal.slice_bounds-run-end
+slice_bounds-run-end c = let e = c.part_for-part.ensures in sym (length-take-le _ _ (omega arith))
+
+pub run-ran-requires : goal.run-ran-requires
+run-ran-requires c =
+    let a = c.args in
+    record { playable = c.requires; input_in_bounds = rw c.part_for-part.ensures (part-fits a.input.now a.out.now) }
+
+pub returns : goal.returns
+returns c =
+    let a = c.args in
+    rw c.part_for-part.ensures (part-plays a.input.now a.out.now (rw c.part_for-part.ensures at c.run-ran.ensures))

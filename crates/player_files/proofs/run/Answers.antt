@@ -1,0 +1,44 @@
+-- The loop's invariant: the session can be played on, and so many records were met at most that no number overflows; the buffer
+-- is as long as a block. The number of blocks left falls.
+use Prim.Native.Nat.{ℕ, ◌+◌, ◌*◌, ◌≤◌}
+use mathlib.Core.Path.{◌≡◌, sym, ◌∙◌}
+use native.Mathlib.Omega.{arith}
+use borrow.Author.Rules.{rules}
+use lib.ListN.{length, length-replicate}
+use Rattle.play.specs.Playable.{Playable}
+use Rattle.play.proofs.Replies.{fresh-playable}
+use Rattle.reading.specs.Blocks.{most_records}
+use Rattle.player_files.proofs.run.Goals as goal
+
+pub loop-left-init : goal.loop-left-init
+loop-left-init c =
+    let none = c.none-met.ensures.count in (
+      rw c.fresh-s.ensures (fresh-playable c.args.table.now),
+      (omega arith, (omega arith, length-replicate {A = ℕ} (6 * most_records) 0)),
+    )
+
+pub slice_bounds-turn-end : goal.slice_bounds-turn-end
+slice_bounds-turn-end c = sym c.loop-left.invariant.1.1.1
+
+pub turn-t-requires : goal.turn-t-requires
+turn-t-requires c = let inv = c.loop-left.invariant in record { playable = inv.0; input_len = inv.1.1.1 }
+
+pub joined-met-requires : goal.joined-met-requires
+joined-met-requires c =
+    let few = c.turn-t.ensures.few in
+    let all = c.loop-left.invariant.1 in
+    (omega (arith, few.0, all.0, all.1.0), omega (arith, few.1, all.1.0))
+
+pub overflow_add-others : goal.overflow_add-others
+overflow_add-others c = omega (arith, c.loop-left.invariant.1.1.0)
+
+pub loop-left-preserved : goal.loop-left-preserved
+loop-left-preserved c =
+    let all = c.loop-left.invariant.1 in
+    let sum = c.joined-met.ensures.sum in (
+      c.turn-t.ensures.keeps,
+      (
+        omega (arith, sum, c.turn-t.ensures.few.0, all.0),
+        (omega (arith, all.1.0), c.turn-t.auto.1.1.1.1.0 ∙ all.1.1),
+      ),
+    )

@@ -1,0 +1,19 @@
+-- The loop's invariant: the session can be played on, and so many records were met at most that no number overflows; the buffer
+-- is as long as a block. The number of blocks left falls.
+use Prim.Native.Nat.{ℕ, ◌+◌, ◌*◌, ◌≤◌}
+use mathlib.Core.Path.{◌≡◌, sym, ◌∙◌}
+use native.Mathlib.Omega.{arith}
+use borrow.Author.Rules.{rules}
+use lib.ListN.{length, length-replicate}
+use Rattle.play.specs.Playable.{Playable}
+use Rattle.play.proofs.Replies.{fresh-playable}
+use Rattle.reading.specs.Blocks.{most_records}
+use Rattle.player_files.proofs.run.Given as goal
+
+abbrev pub invariant-loop-left : goal.invariant-loop-left
+invariant-loop-left l =
+    Playable l.table l.s
+    × ((l.met.count ≤ l.others) × ((l.others + 10000 * l.left ≤ 10000000000000000000) × (length l.input ≡ 6 * most_records)))
+
+abbrev pub decreases-loop-left : goal.decreases-loop-left
+decreases-loop-left l = l.left

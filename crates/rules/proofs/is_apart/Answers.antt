@@ -1,0 +1,8 @@
+-- `rules::is_apart` meets its contract.
+use borrow.Author.Rules.{rules}
+use Rattle.model.specs.Table.{is_single_instance}
+use Rattle.rules.proofs.is_apart.Goals as goal
+
+pub returns : goal.returns
+unfolding is_single_instance
+returns c = rw c.mode.ensures

@@ -1,0 +1,17 @@
+-- `search::roots_of` meets its contract. The loop's invariant: the roots before i are stored.
+use Prim.Native.Nat.{ℕ, ◌-◌, ◌≤◌}
+use mathlib.Core.Path.{◌≡◌, refl, sym, ◌∙◌}
+use native.Mathlib.Omega.{arith}
+use borrow.Author.Rules.{rules}
+use lib.ListN.{length, take, length-map, length-replicate, length-set}
+use lib.Seq.{take_all}
+use Rattle.session.proofs.Known.{long}
+use Rattle.session.specs.Stored.{root, roots_of}
+use Rattle.search.proofs.Roots.{next-root}
+use Rattle.search.proofs.roots_of.Given as goal
+
+abbrev pub invariant-loop-i : goal.invariant-loop-i
+invariant-loop-i l = (l.i ≤ 16) × ((length l.roots ≡ 16) × (take l.i l.roots ≡ take l.i (roots_of l.s.tasks)))
+
+abbrev pub decreases-loop-i : goal.decreases-loop-i
+decreases-loop-i l = 16 - l.i

@@ -1,0 +1,19 @@
+-- The four tests are the check. The product fits: both numbers are at most what their types hold.
+use Prim.Native.Nat.{◌≤◌}
+use native.Mathlib.Omega.{arith}
+use native.Mathlib.Nat.{mul-le-mul}
+use borrow.Author.Rules.{rules}
+use Rattle.tally.proofs.Checks.{test-same}
+use Rattle.tally.proofs.Tally.is_tally.Goals as goal
+
+pub overflow_mul-result : goal.overflow_mul-result
+overflow_mul-result c =
+    let l : c.wider-3.result ≤ 65535 = omega arith in
+    let m : c.wide-greatest.result ≤ 255 = omega arith in
+    let p = mul-le-mul l m in
+    search rules
+
+pub returns : goal.returns
+returns c =
+    rw (c.wider.ensures, c.wider-2.ensures, c.wide-greatest.ensures, c.wider-3.ensures)
+    (test-same c.args.self)
