@@ -27,3 +27,8 @@ module _ (out text part : List ℕ) (at : ℕ) where
   pub copied : (n : ℕ) → n ≡ length text → part ≡ take n text ++ drop n (mid_of at (length out - at) out)
       → put_mid at (length out - at) out part ≡ written out at text
   copied n e f = placed (rw (f, e, take-length text))
+
+  -- a text that fills the part behind a place
+  pub copied-whole : part ≡ text → put_mid at (at + length text - at) out part ≡ written out at text
+  unfolding written
+  copied-whole f = let k : at + length text - at ≡ length text = omega arith in rw (f, k, drop-drop (length text) at out) refl

@@ -10,4 +10,4 @@ of_front-requires c = λ some. (c.requires.filled some, c.requires.low some)
 
 pub returns : goal.returns
 returns c =
-    c.of_front.ensures ∙ sym (look-fronted c.args.self (sized c.args.self _ c.well_formed.0) c.requires)
+    c.of_front.ensures ∙ sym (look-fronted c.args.s (sized c.args.s _ c.well_formed.0) c.requires)

@@ -19,10 +19,10 @@ some t zero m x v h e b = absurd (e refl)
 some t (suc n) m x v h e b = rw b
 
 pub returns-then-n-eq0 : goal.returns-then-n-eq0
-returns-then-n-eq0 c = let a = c.args in none a.t a.n a.main a.closed a.edition a.no-history c.if-n-eq0.true
+returns-then-n-eq0 c = let a = c.args in none a.t a.n a.main a.closed a.edition a.no_history c.if-n-eq0.true
 
 pub top-requires : goal.top-requires
 top-requires c = let f = c.requires (omega arith) in (omega (arith, f.0), f.1)
 
 pub returns : goal.returns
-returns c = let a = c.args in some a.t a.n a.main a.closed a.edition a.no-history c.if-n-eq0.false c.top.ensures
+returns c = let a = c.args in some a.t a.n a.main a.closed a.edition a.no_history c.if-n-eq0.false c.top.ensures

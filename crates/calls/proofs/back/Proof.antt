@@ -17,7 +17,7 @@ back-plan-requires c κs =
     back-plans a.table.now a.s (sizes start) a.shared start.requires
 
 gives : (c : tie.After-back_plan-plan)
-    → let a = c.before.before.args in Gives a.s c.back_plan-plan.result (call_stored a.table.now a.s back)
+    → let a = c.args in Gives a.s c.back_plan-plan.result (call_stored a.table.now a.s back)
 gives c =
     let start = c.before.before in
     let a = start.args in
@@ -30,7 +30,7 @@ put-requires : tie.Need-put-requires
 put-requires c κs = let h = (gives c.before.before).puttable in record { few = h.few; second = h.second-1 }
 
 returns : tie.Need-returns
-returns c = rw (c.put.ensures, c.before.answer_of-answer.ensures) (gives c.before.before.before).gives
+returns c = rw (c.put.ensures, c.answer_of-answer.ensures) (gives c.before.before.before).gives
 
 pub back_spec : {M : Type 1} → statement M
 back_spec = tie.close (tie.spec back-plan-requires (λ c. search rules) answer-of-requires put-requires returns)

@@ -31,15 +31,15 @@ mul-t c = let i = element-copy-out-t c in omega arith
 
 decide-requires : tie.Need-decide-decided-requires
 decide-requires c κs =
-    let a = c.before.before.before.args in sought-planned a.table.now a.s a.b a.word a.shared c.before.seek-sought.ensures refl
+    let a = c.args in sought-planned a.table.now a.s a.b a.word a.shared c.seek-sought.ensures refl
 
 gives : (c : tie.After-plan-1)
-    → let a = c.before.before.before.before.before.args in
-    Gives a.s c.before.decide-decided.result.plan (call_stored a.table.now a.s (finishing_start a.b a.word))
+    → let a = c.args in
+    Gives a.s c.decide-decided.result.plan (call_stored a.table.now a.s (finishing_start a.b a.word))
 gives c =
     let start = c.before.before.before.before.before in
     let a = start.args in
-    sought-gives a.table.now a.s (sizes start) a.b a.word true a.shared start.requires c.before.before.before.seek-sought.ensures refl c.before.decide-decided.ensures
+    sought-gives a.table.now a.s (sizes start) a.b a.word true a.shared start.requires c.seek-sought.ensures refl c.decide-decided.ensures
 
 answer-of-requires : tie.Need-answer_of-answer-requires
 answer-of-requires c κs = (gives c.before).showable
@@ -48,7 +48,7 @@ put-requires : tie.Need-put-requires
 put-requires c κs = let h = (gives c.before.before).puttable in record { few = h.few; second = h.second-1 }
 
 returns : tie.Need-returns
-returns c = rw (c.put.ensures, c.before.answer_of-answer.ensures) (gives c.before.before.before).gives
+returns c = rw (c.put.ensures, c.answer_of-answer.ensures) (gives c.before.before.before).gives
 
 pub finish_start_spec : {M : Type 1} → statement M
 finish_start_spec = tie.close (tie.spec seek-requires mul-t element-copy-out-t decide-requires (λ c. search rules) answer-of-requires put-requires returns)

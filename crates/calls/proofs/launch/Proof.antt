@@ -18,7 +18,7 @@ launch-plan-requires c κs =
     λ e. (shared-ready start.args.table.now start.args.s (sym start.requires ∙ e)).good
 
 gives : (c : tie.After-launch_plan-plan)
-    → let a = c.before.before.args in Gives a.s c.launch_plan-plan.result (call_stored a.table.now a.s (launch a.edition))
+    → let a = c.args in Gives a.s c.launch_plan-plan.result (call_stored a.table.now a.s (launch a.edition))
 gives c =
     let start = c.before.before in
     let a = start.args in
@@ -31,7 +31,7 @@ put-requires : tie.Need-put-requires
 put-requires c κs = let h = (gives c.before.before).puttable in record { few = h.few; second = h.second-1 }
 
 returns : tie.Need-returns
-returns c = rw (c.put.ensures, c.before.answer_of-answer.ensures) (gives c.before.before.before).gives
+returns c = rw (c.put.ensures, c.answer_of-answer.ensures) (gives c.before.before.before).gives
 
 pub launch_spec : {M : Type 1} → statement M
 launch_spec = tie.close (tie.spec launch-plan-requires (λ c. search rules) answer-of-requires put-requires returns)

@@ -13,11 +13,11 @@ use Rattle.calls.proofs.launch_plan.Tie as tie
 
 -- its number is the shared refusal or its own
 number : (c : tie.After-first_refusal-refusal)
-    → let a = c.before.before.before.args in c.first_refusal-refusal.result ≡ or_else a.shared (launch_refusal a.t2.n a.edition)
-number c = c.first_refusal-refusal.ensures ∙ ap (or_else c.before.before.before.args.shared) c.before.launch_refusal.ensures
+    → let a = c.args in c.first_refusal-refusal.result ≡ or_else a.shared (launch_refusal a.s.n a.edition)
+number c = c.first_refusal-refusal.ensures ∙ ap (or_else c.args.shared) c.launch_refusal.ensures
 
 returns : tie.Need-returns-then-refusal-ne0
-returns c = c.still.ensures ∙ unless-found _ _ (number c.before.before) c.before.if-refusal-ne0.true
+returns c = c.still.ensures ∙ unless-found _ _ (number c.before.before) c.if-refusal-ne0.true
 
 main-screen-requires : tie.Need-main_screen-b-requires
 main-screen-requires c κs =
@@ -41,8 +41,8 @@ returns-2 : tie.Need-returns
 returns-2 c =
     let front = c.before.before in
     c.closing_plan.ensures
-    ∙ rw (c.before.edition_named.ensures, front.front_after-front.ensures, front.before.before.main_screen-b.ensures)
-    (unless-passed _ _ _ (sym (number front.before.before.before.before) ∙ front.before.before.before.if-refusal-ne0.false))
+    ∙ rw (c.edition_named.ensures, front.front_after-front.ensures, front.main_screen-b.ensures)
+    (unless-passed _ _ _ (sym (number front.before.before.before.before) ∙ front.if-refusal-ne0.false))
 
 pub launch_plan_spec : {M : Type 1} → statement M
 launch_plan_spec =

@@ -36,18 +36,18 @@ decide-for-requires c κs =
     let start = c.before.before.before in
     let a = start.args in
     let r = a.r in
-    let seek = c.before.seek_for-sought in
+    let seek = c.seek_for-sought in
     sought-for a.table.now a.s r.screen r.word a.shared seek.result (ready start) (is_starting r.asked) seek.ensures refl
 
 gives : (c : tie.After-plan-1)
-    → let a = c.before.before.before.before.before.args in
-    Gives a.s c.before.decide_for-decided.result.plan (reply_stored a.table.now a.s (request_for a.r))
+    → let a = c.args in
+    Gives a.s c.decide_for-decided.result.plan (reply_stored a.table.now a.s (request_for a.r))
 gives c =
     let start = c.before.before.before.before.before in
     let a = start.args in
     let r = a.r in
-    let seek = c.before.before.before.seek_for-sought in
-    rw c.before.decide_for-decided.ensures
+    let seek = c.seek_for-sought in
+    rw c.decide_for-decided.ensures
     (plan-gives a.table.now a.s (sizes start) a.shared start.requires r.asked r.screen r.word seek.result seek.ensures refl)
 
 answer-of-requires : tie.Need-answer_of-answer-requires
@@ -57,20 +57,20 @@ put-requires : tie.Need-put-requires
 put-requires c κs = let h = (gives c.before.before).puttable in record { few = h.few; second = h.second-1 }
 
 creates : (c : tie.After-plan-1)
-    → let a = c.before.before.before.before.before.args in
-    c.before.decide_for-decided.result.created ≡ created_stored a.table.now a.s (request_for a.r)
+    → let a = c.args in
+    c.decide_for-decided.result.created ≡ created_stored a.table.now a.s (request_for a.r)
 creates c =
     let start = c.before.before.before.before.before in
     let a = start.args in
     let r = a.r in
-    let seek = c.before.before.before.seek_for-sought in
-    rw c.before.decide_for-decided.ensures
+    let seek = c.seek_for-sought in
+    rw c.decide_for-decided.ensures
     (plan-creates a.table.now a.s (sizes start) a.shared start.requires r.asked r.screen r.word seek.result seek.ensures refl)
 
 returns : tie.Need-returns
 returns c =
     let planned = c.before.before.before in
-    (rw (c.put.ensures, c.before.answer_of-answer.ensures) (gives planned).gives, creates planned)
+    (rw (c.put.ensures, c.answer_of-answer.ensures) (gives planned).gives, creates planned)
 
 pub make_spec : {M : Type 1} → statement M
 make_spec =

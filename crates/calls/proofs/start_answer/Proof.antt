@@ -14,14 +14,14 @@ use Rattle.calls.proofs.start_answer.Tie as tie
 decide-start-requires : tie.Need-decide_start-decided-requires
 decide-start-requires c κs =
     let start = c.before in
-    λ e. shared-ready start.args.table.now start.args.t2 (sym start.requires ∙ e)
+    λ e. shared-ready start.args.table.now start.args.s (sym start.requires ∙ e)
 
 gives : (c : tie.After-decide_start-decided)
-    → let a = c.before.before.args in Gives a.t2 c.decide_start-decided.result.plan (call_stored a.table.now a.t2 (start a.b a.word))
+    → let a = c.args in Gives a.s c.decide_start-decided.result.plan (call_stored a.table.now a.s (start a.b a.word))
 gives c =
     let start = c.before.before in
     let a = start.args in
-    rw c.decide_start-decided.ensures (start_gives a.table.now a.t2 (sized a.t2 _ start.well_formed.1.0) a.b a.word false a.shared start.requires)
+    rw c.decide_start-decided.ensures (start_gives a.table.now a.s (sized a.s _ start.well_formed.1.0) a.b a.word false a.shared start.requires)
 
 answer-of-requires : tie.Need-answer_of-requires
 answer-of-requires c κs = (gives c.before).showable

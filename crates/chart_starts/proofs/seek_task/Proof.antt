@@ -24,26 +24,26 @@ use Rattle.chart_starts.proofs.Decoded.{decoded, found-by, rule-by}
 use Rattle.chart_starts.proofs.seek_task.Statement.{statement}
 use Rattle.chart_starts.proofs.seek_task.Tie as tie
 
-sizes : (c : tie.Start) → Sized c.args.t2
-sizes c = sized c.args.t2 _ c.well_formed.1.0
+sizes : (c : tie.Start) → Sized c.args.s
+sizes c = sized c.args.s _ c.well_formed.1.0
 
 top-requires : tie.Need-top-requires
 top-requires c κs =
     let start = c.before.before in
     let a = start.args in
-    task-filled a.table.now a.t2 a.b (sizes start) start.requires 0 start.requires.some
+    task-filled a.table.now a.s a.b (sizes start) start.requires 0 start.requires.some
 
 mode-requires : tie.Need-mode-caller-requires
 mode-requires c κs =
     let start = c.before.before.before in
     let a = start.args in
-    rw c.top.ensures (top-row a.table.now a.t2 a.b (sizes start) start.requires 0 start.requires.some)
+    rw c.top.ensures (top-row a.table.now a.s a.b (sizes start) start.requires 0 start.requires.some)
 
 mode-requires-2 : tie.Need-mode-requires
 mode-requires-2 c κs =
     let start = c.before.before.before.before in
     let a = start.args in
-    own_row a.table.now a.t2 a.b (sizes start) start.requires
+    own_row a.table.now a.s a.b (sizes start) start.requires
 
 -- the mode of a screen of a good table is one of the four
 mode-known : (tb : List ℕ) → table_refusal tb ≡ 0 → (x : ℕ) → x < size_of tb → mode_of tb x < 4
@@ -56,8 +56,8 @@ mode-known tb ok x l =
 
 -- the entry is that of the rule, for the mode of b, the front screen and the flags
 entry : (c : tie.After-entry-entry)
-    → let a = c.before.before.before.before.before.before.before.args in
-    c.entry-entry.result ≡ chart_rule (mode_of a.table.now a.b) (is_single_instance a.table.now (front_screen (view a.t2))) a.f
+    → let a = c.args in
+    c.entry-entry.result ≡ chart_rule (mode_of a.table.now a.b) (is_single_instance a.table.now (front_screen (view a.s))) a.f
 unfolding is_single_instance
 entry c =
     let index = c.before in
@@ -67,8 +67,8 @@ entry c =
     let start = top.before.before.before in
     let a = start.args in
     let tb = a.table.now in
-    let front : top.top.result ≡ front_screen (view a.t2) = top.top.ensures ∙ sym (front-screen a.t2 start.requires.some) in
-    let apart : eqb caller.mode-caller.result 3 ≡ eqb (mode_of tb (front_screen (view a.t2))) 3 =
+    let front : top.top.result ≡ front_screen (view a.s) = top.top.ensures ∙ sym (front-screen a.s start.requires.some) in
+    let apart : eqb caller.mode-caller.result 3 ≡ eqb (mode_of tb (front_screen (view a.s))) 3 =
     ap (λ (m : ℕ). eqb m 3) (caller.mode-caller.ensures ∙ ap (mode_of tb) front) in
     c.entry-entry.ensures.entry
     ∙ ap entry_at (index.index-index.ensures ∙ ap (λ (m : ℕ). index_of m (eqb caller.mode-caller.result 3) a.f) own.mode.ensures
@@ -83,20 +83,20 @@ returns c =
     let start = group.before.before.before.before.before.before.before.before in
     let a = start.args in
     let tb = a.table.now in
-    let d = decoded tb (view a.t2) a.b a.f in
+    let d = decoded tb (view a.s) a.b a.f in
     let e = entry group.before in
     let g = group.group_in-group.ensures ∙ ap group_in e in
     let k = asks.asks_in-asks.ensures ∙ ap asks_in e in
     let sought = found-by d g k found.sought_by-found.ensures in
     let i = c.index_of.ensures in
-    let stands = index-stands tb a.t2 a.b (sizes start) start.requires a.f _ sought i in
-    let t = task_behind a.t2 c.index_of.result in
+    let stands = index-stands tb a.s a.b (sizes start) start.requires a.f _ sought i in
+    let t = task_behind a.s c.index_of.result in
     record {
       refusal = refl;
-      found = found-chosen tb (view a.t2) a.b a.f (g ∙ d.group) sought;
+      found = found-chosen tb (view a.s) a.b a.f (g ∙ d.group) sought;
       index = i;
-      rule = rule-by d g k (view_task t) a.t2.main found.sought_by-found.result
-          ∙ rule-chosen tb (view a.t2) a.b a.f (g ∙ d.group) sought t (stored-shows a.t2 found.sought_by-found.result i stands) (view-main a.t2) refl;
+      rule = rule-by d g k (view_task t) a.s.main found.sought_by-found.result
+          ∙ rule-chosen tb (view a.s) a.b a.f (g ∙ d.group) sought t (stored-shows a.s found.sought_by-found.result i stands) (view-main a.s) refl;
       noh = refl;
     }
 

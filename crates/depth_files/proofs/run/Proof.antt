@@ -20,20 +20,20 @@ decreases-loop fd table s₀ t₀ calls₀ input₀ left₀ s t calls input left
 
 loop-holds : tie.Need-loop-left-init invariant-loop decreases-loop
 loop-holds c = (
-  rw c.before.fresh-s.ensures (fresh-playable c.before.before.before.args.table.now),
+  rw c.fresh-s.ensures (fresh-playable c.args.table.now),
   (omega arith, length-replicate {A = ℕ} (6 * most_records) 0),
 )
 
 slice-aggregate-turn : tie.Need-slice_bounds-turn-end invariant-loop decreases-loop
-slice-aggregate-turn c = sym c.before.before.loop-left.invariant.1.1
+slice-aggregate-turn c = sym c.loop-left.invariant.1.1
 
 turn-requires : tie.Need-turn-r-requires invariant-loop decreases-loop
-turn-requires c κs = let inv = c.before.before.loop-left.invariant in (inv.0, inv.1.1)
+turn-requires c κs = let inv = c.loop-left.invariant in (inv.0, inv.1.1)
 
 -- the calls so far
 fits : (c : tie.After-turn-r invariant-loop decreases-loop)
-    → let l = c.before.before.before.loop-left in (l.calls + c.turn-r.result.records + 10000 * l.false ≤ 10000000000000000000 + 10000)
-fits c = omega (arith, c.turn-r.ensures.few, c.before.before.before.loop-left.invariant.1.0)
+    → let l = c.loop-left in (l.calls + c.turn-r.result.records + 10000 * l.false ≤ 10000000000000000000 + 10000)
+fits c = omega (arith, c.turn-r.ensures.few, c.loop-left.invariant.1.0)
 
 add-calls : tie.Need-overflow_add-calls invariant-loop decreases-loop
 add-calls c = omega (arith, fits c.before.before.before.before.before)
@@ -41,9 +41,9 @@ add-calls c = omega (arith, fits c.before.before.before.before.before)
 loop-again : tie.Need-loop-left-preserved invariant-loop decreases-loop
 loop-again c =
     let turn = c.before.before.before.before.before.before.before in
-    let l = turn.before.before.before.loop-left in (
+    let l = turn.loop-left in (
       turn.turn-r.ensures.keeps,
-      (omega (arith, fits turn, turn.before.before.loop-left-test.true), turn.turn-r.auto.1.1.1.1.0 ∙ l.invariant.1.1),
+      (omega (arith, fits turn, turn.loop-left-test.true), turn.turn-r.auto.1.1.1.1.0 ∙ l.invariant.1.1),
     )
 
 pub run_spec : {M : Type 1} → statement M

@@ -13,8 +13,8 @@ use Rattle.depths.proofs.write_figures.Tie as tie
 returns : tie.Need-returns-then-x-lt256
 returns c =
     let p = c.before.before in
-    let x = p.before.before.before.before.args.x in
-    let e = figures-few x (omega (arith, p.before.before.if-x-lt256.true)) in
+    let x = p.args.x in
+    let e = figures-few x (omega (arith, p.if-x-lt256.true)) in
     (rw e p.write_decimal.ensures.place, (rw e p.write_decimal.ensures.text, omega (arith, p.write_decimal.ensures.bound)))
 
 -- ---- three digits
@@ -27,12 +27,12 @@ returns-2 c =
     let start = if2.before.before.before in
     let a = start.args in
     let x = a.x in
-    let e = figures-three x (omega (arith, if2.before.if-x-lt256.false)) if2.if-x-lt1000.true in
+    let e = figures-three x (omega (arith, if2.if-x-lt256.false)) if2.if-x-lt1000.true in
     let w = wrote 4 (rw digits.last_digit.ensures at p.write_decimal-last.ensures) in
     let b = p.write_decimal-last.ensures.bound in
     let k = p.write_decimal-last.auto.0 in
     let one = wrote_one p.write_decimal-last.new.0 p.write_decimal-last.result a.end (omega (arith, start.requires)) in
-    let all : Wrote a.out-1.now a.at ((decimal (x / 10) ++ digit (x % 10) ∷ []) ++ a.end ∷ []) _ _ =
+    let all : Wrote a.out.now a.at ((decimal (x / 10) ++ digit (x % 10) ∷ []) ++ a.end ∷ []) _ _ =
     wrote-append w (omega (arith, start.requires)) one in
     (rw e all.place, (rw e all.text, omega arith))
 

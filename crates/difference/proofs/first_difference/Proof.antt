@@ -52,7 +52,7 @@ loop-holds c =
     let p = start.requires in
     record {
       before = [];
-      one = reached-look tb p.0.good a.first (sizes start).0 p.0 c.before.look_at-a.ensures;
+      one = reached-look tb p.0.good a.first (sizes start).0 p.0 c.look_at-a.ensures;
       other = reached-look tb p.0.good a.second (sizes start).1 p.1 c.look_at-b.ensures;
       screens = zero-add _;
       same = λ e. e;
@@ -62,13 +62,13 @@ loop-holds c =
 
 -- where the loop goes on the answers agree, and both sessions have a screen
 record Goes (c : tie.Else-found-s invariant-loop decreases-loop) : Type 0 where
-  agreed : c.before.before.before.loop-s.a ≡ c.before.before.before.loop-s.b
-  some : 1 ≤ c.before.before.before.loop-s.s.n
+  agreed : c.loop-s.a ≡ c.loop-s.b
+  some : 1 ≤ c.loop-s.s.n
 
 goes : (c : tie.Else-found-s invariant-loop decreases-loop) → Goes c
 goes c =
-    let agree = c.before.before.agree-found in
-    let g = goes_on agree.result c.before.before.before.loop-s.s.n c.if-found-s.false in
+    let agree = c.agree-found in
+    let g = goes_on agree.result c.loop-s.s.n c.if-found-s.false in
     record { agreed = agree.ensures.0 g.0; some = g.1 }
 
 -- no Back is refused
@@ -86,8 +86,8 @@ back-requires-2 c κs =
 
 -- what both leave
 left : (c : tie.After-back-other invariant-loop decreases-loop)
-    → let l = c.before.before.before.before.before.loop-s in
-    Backed l.s-1 c.before.back-one.result × Backed l.t-1 c.back-other.result
+    → let l = c.loop-s in
+    Backed l.s-1 c.back-one.result × Backed l.t-1 c.back-other.result
 left c =
     let l = c.before.before.before.before.before in
     let start = l.before.before.before.before in
@@ -95,7 +95,7 @@ left c =
     let good = start.requires.0.good in
     let g = goes c.before.before in
     let some : 1 ≤ l.loop-s.t.n = omega (arith, both-count l.loop-s.invariant g.agreed, g.some) in
-    (reached-backed tb good l.loop-s.invariant.one g.some c.before.back-one.ensures, reached-backed tb good l.loop-s.invariant.other some c.back-other.ensures)
+    (reached-backed tb good l.loop-s.invariant.one g.some c.back-one.ensures, reached-backed tb good l.loop-s.invariant.other some c.back-other.ensures)
 
 add-backs : tie.Need-overflow_add-backs invariant-loop decreases-loop
 add-backs c =
@@ -107,8 +107,8 @@ add-backs c =
 loop-less : tie.Need-loop-s-smaller invariant-loop decreases-loop
 loop-less c =
     let back2 = c.before.before.before.before in
-    let l = back2.before.before.before.before.before.loop-s in
-    let fewer = reached-fewer l.invariant.one (goes back2.before.before).some back2.before.back-one.result.session (left back2).0.session in
+    let l = back2.loop-s in
+    let fewer = reached-fewer l.invariant.one (goes back2.before.before).some back2.back-one.result.session (left back2).0.session in
     omega arith
 
 loop-again : tie.Need-loop-s-preserved invariant-loop decreases-loop
@@ -117,14 +117,14 @@ loop-again c =
     let l = back2.before.before.before.before.before in
     let start = l.before.before.before.before in
     let g = goes back2.before.before in
-    both-back l.loop-s.invariant g.agreed start.requires.0.good g.some back2.before.back-one.result back2.back-other.result
+    both-back l.loop-s.invariant g.agreed start.requires.0.good g.some back2.back-one.result back2.back-other.result
     (left back2).0 (left back2).1
 
 returns : tie.Need-returns invariant-loop decreases-loop
 returns c =
     let l = c.before.before.before in
     let start = l.before.before.before.before in
-    let agree = c.before.before.agree-found in
+    let agree = c.agree-found in
     told l.loop-s.invariant (sound-view start.args.table.now start.args.first start.requires.0.sound)
     agree.result agree.ensures (stops agree.result l.loop-s.s.n c.if-found-s.true)
 

@@ -29,7 +29,7 @@ closed-up-requires : tie.Need-closed_up-requires
 closed-up-requires c κs =
     let start = c.before.before in
     let f = blank-low start.args.t start.requires.0 in
-    let some = c.before.if-place-eq0.false in
+    let some = c.if-place-eq0.false in
     omega (arith, low start)
 
 returns-2 : tie.Need-returns
@@ -37,7 +37,7 @@ returns-2 c =
     let start = c.before.before.before in
     let l : length start.args.t.screens ≡ 32 = search rules in
     c.closed_up.ensures
-    ∙ sym (lift-found start.args.t l start.requires.0 start.args.b start.args.place start.requires.1 c.before.before.if-place-eq0.false)
+    ∙ sym (lift-found start.args.t l start.requires.0 start.args.b start.args.place start.requires.1 c.if-place-eq0.false)
 
 pub lifted_spec : {M : Type 1} → statement M
 lifted_spec = tie.close (tie.spec returns sub-closed-up (λ c. search rules) closed-up-requires returns-2)

@@ -27,11 +27,11 @@ decreases-loop input share met₀ bytes₀ i₀ p₀ met bytes i p = length inpu
 
 loop-holds : tie.Need-loop-p-init invariant-loop decreases-loop
 loop-holds c =
-    let a = c.before.before.before.args in
+    let a = c.args in
     let e = c.table_end-p.ensures.length in
     let h = c.table_end-p.ensures.bound in
     rw e
-    (passed_start a.share a.input.now (length (table_in a.input.now)) c.before.none-met.result (omega arith) c.before.none-met.ensures)
+    (passed_start a.share a.input.now (length (table_in a.input.now)) c.none-met.result (omega arith) c.none-met.ensures)
 
 -- the record's bytes, as the part that is lent: k of them from p on
 part : (p k : ℕ) (l : List ℕ) → mid_of p (p + k - p) l ≡ take k (drop p l)
@@ -45,18 +45,18 @@ abbrev here : tie.After-call_length invariant-loop decreases-loop → tie.At-loo
 here c = c.before.before.before
 
 abbrev bytes_of : tie.After-call_length invariant-loop decreases-loop → List ℕ
-bytes_of c = (here c).before.before.before.before.args.input.now
+bytes_of c = (here c).args.input.now
 
-long : (c : tie.After-call_length invariant-loop decreases-loop) → c.Call-length.result ≡ call_length (drop (here c).loop.p (bytes_of c))
-long c = rw (part-rest (here c).loop.p (bytes_of c)) at c.Call-length.ensures
+long : (c : tie.After-call_length invariant-loop decreases-loop) → c.Call-length.result ≡ call_length (drop (here c).loop-p.p (bytes_of c))
+long c = rw (part-rest (here c).loop-p.p (bytes_of c)) at c.Call-length.ensures
 
 fits : (c : tie.After-call_length invariant-loop decreases-loop)
-    → (0 < c.Call-length.result) × ((here c).loop.p + c.Call-length.result ≤ length (bytes_of c))
+    → (0 < c.Call-length.result) × ((here c).loop-p.p + c.Call-length.result ≤ length (bytes_of c))
 fits c =
     let l = bytes_of c in
-    let p = (here c).loop.p in
+    let p = (here c).loop-p.p in
     let d = length-drop p l in
-    let some = c.before.before.loop-p-test.true in
+    let some = c.loop-p-test.true in
     let f = call_fits (drop p l) (omega arith) in
     let k = long c in
     (omega (arith, f.0), omega (arith, f.1))
@@ -64,40 +64,40 @@ fits c =
 is-in-requires : tie.Need-is_in-requires invariant-loop decreases-loop
 is-in-requires c κs =
     let call = c.before in
-    let l = part_length (here call).loop.p call.Call-length.result (bytes_of call) (fits call).1 in
+    let l = part_length (here call).loop-p.p call.Call-length.result (bytes_of call) (fits call).1 in
     omega (arith, (fits call).0)
 
 noted-requires : tie.Need-noted-met-requires invariant-loop decreases-loop
 noted-requires c κs =
     let call = c.before.before in
-    let inv = (here call).loop.invariant in
+    let inv = (here call).loop-p.invariant in
     let few = inv.few in
     let number = inv.number in
-    let some = call.before.before.loop-p-test.true in
+    let some = call.loop-p-test.true in
     omega arith
 
 bytes-in-requires : tie.Need-bytes_in-bytes-requires invariant-loop decreases-loop
 bytes-in-requires c κs =
     let call = c.before.before.before.before in
-    let l = part_length (here call).loop.p call.Call-length.result (bytes_of call) (fits call).1 in
+    let l = part_length (here call).loop-p.p call.Call-length.result (bytes_of call) (fits call).1 in
     omega (arith, (fits call).0)
 
 -- the bytes so far
 summed : (c : tie.After-bytes_in-bytes invariant-loop decreases-loop)
     → let call = c.before.before.before.before.before in
-    (here call).loop.bytes + c.bytes_in-bytes.result ≤ (here call).loop.p + call.Call-length.result
+    (here call).loop-p.bytes + c.bytes_in-bytes.result ≤ (here call).loop-p.p + call.Call-length.result
 summed c =
     let call = c.before.before.before.before.before in
-    let l = part_length (here call).loop.p call.Call-length.result (bytes_of call) (fits call).1 in
-    let few = bytes-few (mid_of (here call).loop.p ((here call).loop.p + call.Call-length.result - (here call).loop.p) (bytes_of call)) (here call).before.before.before.before.args.share in
-    let sum = (here call).loop.invariant.sum in
+    let l = part_length (here call).loop-p.p call.Call-length.result (bytes_of call) (fits call).1 in
+    let few = bytes-few (mid_of (here call).loop-p.p ((here call).loop-p.p + call.Call-length.result - (here call).loop-p.p) (bytes_of call)) (here call).args.share in
+    let sum = (here call).loop-p.invariant.sum in
     omega (arith, c.bytes_in-bytes.ensures)
 
 add-i : tie.Need-overflow_add-i invariant-loop decreases-loop
 add-i c =
     let call = c.before.before.before.before.before in
-    let number = (here call).loop.invariant.number in
-    let some = call.before.before.loop-p-test.true in
+    let number = (here call).loop-p.invariant.number in
+    let some = call.loop-p-test.true in
     omega arith
 
 loop-again : tie.Need-loop-p-preserved invariant-loop decreases-loop
@@ -105,19 +105,19 @@ loop-again c =
     let noted = c.before.before in
     let tested = noted.before in
     let call = tested.before.before in
-    let loop = (here call).loop in
-    let share = (here call).before.before.before.before.args.share in
+    let loop = (here call).loop-p in
+    let share = (here call).args.share in
     let l = bytes_of call in
     let k = call.Call-length.result in
     let is = tested.is_in.ensures ∙ ap (is_in share) (part loop.p k l) in
-    passed-more loop.invariant call.before.before.loop-p-test.true {k = k} (long call)
+    passed-more loop.invariant call.loop-p-test.true {k = k} (long call)
     (noted.noted-met.ensures ∙ ap (λ (b : Bool). noted_at loop.met b loop.i) is)
     (c.bytes_in-bytes.ensures ∙ ap (bytes_in share) (part loop.p k l))
 
 returns : tie.Need-returns invariant-loop decreases-loop
 returns c =
-    let l = c.before.before.before.before.before.args.input.now in
-    rw (drop-taken (2 + 2 * size_of l) l) at (passed-end c.before.loop-p.invariant (omega arith))
+    let l = c.args.input.now in
+    rw (drop-taken (2 + 2 * size_of l) l) at (passed-end c.loop-p.invariant (omega arith))
 
 pub portion_of_spec : {M : Type 1} → statement M
 portion_of_spec =

@@ -11,42 +11,42 @@ use Rattle.fronts.proofs.fronts.Tie as tie
 returns : tie.Need-returns-then-shared-ne0
 returns c =
     let shared = c.before.before in
-    let a = shared.before.before.args in
+    let a = shared.args in
     refused-told a.table.now a.s a.b a.mask a.value
-    (refusal-shared a.table.now a.s a.b a.mask a.value _ (sym shared.shared_refusal-shared.ensures) c.before.if-shared-ne0.true)
-    c.before.if-shared-ne0.true c.refuse.ensures
+    (refusal-shared a.table.now a.s a.b a.mask a.value _ (sym shared.shared_refusal-shared.ensures) c.if-shared-ne0.true)
+    c.if-shared-ne0.true c.refuse.ensures
 
 -- a sound session under a good table
-ready : (c : tie.Else-shared-ne0) → let a = c.before.before.before.args in Ready a.table.now a.s
+ready : (c : tie.Else-shared-ne0) → let a = c.args in Ready a.table.now a.s
 ready c =
-    let a = c.before.before.before.args in
-    shared-ready a.table.now a.s (sym c.before.shared_refusal-shared.ensures ∙ c.if-shared-ne0.false)
+    let a = c.args in
+    shared-ready a.table.now a.s (sym c.shared_refusal-shared.ensures ∙ c.if-shared-ne0.false)
 
 known-refusal-requires : tie.Need-known_refusal-refusal-requires
-known-refusal-requires c κs = (ready c).well-formed
+known-refusal-requires c κs = (ready c).well_formed
 
 -- the refusal of its own checks
 own : (c : tie.After-known_refusal-refusal)
-    → let a = c.before.before.before.before.args in fronts_refusal a.table.now a.s a.b a.mask a.value ≡ c.known_refusal-refusal.result
+    → let a = c.args in fronts_refusal a.table.now a.s a.b a.mask a.value ≡ c.known_refusal-refusal.result
 own c =
-    let a = c.before.before.before.before.args in
+    let a = c.args in
     refusal-own a.table.now a.s a.b a.mask a.value (ready c.before) ∙ sym c.known_refusal-refusal.ensures
 
 returns-2 : tie.Need-returns-then-refusal-ne0
 returns-2 c =
     let known = c.before.before in
-    let a = known.before.before.before.before.args in
-    refused-told a.table.now a.s a.b a.mask a.value (own known) c.before.if-refusal-ne0.true c.refuse-then-refusal-ne0.ensures
+    let a = known.args in
+    refused-told a.table.now a.s a.b a.mask a.value (own known) c.if-refusal-ne0.true c.refuse-then-refusal-ne0.ensures
 
 set-of-requires : tie.Need-set_of-set-requires
-set-of-requires c κs = sym c.before.before.before.shared_refusal-shared.ensures ∙ c.before.before.if-shared-ne0.false
+set-of-requires c κs = sym c.shared_refusal-shared.ensures ∙ c.if-shared-ne0.false
 
 returns-3 : tie.Need-returns
 returns-3 c =
     let set = c.before in
     let else2 = set.before in
     let known = else2.before in
-    let a = known.before.before.before.before.args in
+    let a = known.args in
     set_told a.table.now a.s a.b a.mask a.value (own known ∙ else2.if-refusal-ne0.false)
     (rw (c.type_size.ensures, set.set_of-set.ensures))
 

@@ -20,16 +20,16 @@ invariant-loop s count sum₀ i₀ sum i =
 abbrev decreases-loop : tie.decreases-loop-i
 decreases-loop s count sum₀ i₀ sum i = count - i
 
-next : (c : tie.After-struct_known-1 invariant-loop decreases-loop) → Next c.before.before.before.before.args.self c.before.before.before.loop-i.i
+next : (c : tie.After-struct_known-1 invariant-loop decreases-loop) → Next c.args.s c.loop-i.i
 next c =
     let start = c.before.before.before.before in
-    body-next start.args.self (sized start.args.self _ start.well_formed.0) start.requires c.before.before.before.loop-i.i (omega arith)
+    body-next start.args.s (sized start.args.s _ start.well_formed.0) start.requires c.loop-i.i (omega arith)
 
 returns : tie.Need-returns invariant-loop decreases-loop
 returns c =
     let start = c.before.before in
-    let s = start.args.self in
-    let here = c.before.loop-i in
+    let s = start.args.s in
+    let here = c.loop-i in
     let k : here.i ≡ s.n = omega arith in
     let e = ap length (body-whole s (sized s _ start.well_formed.0) start.requires here.i k) in
     omega (arith, image-length (view s))
@@ -38,7 +38,7 @@ pub length_spec : {M : Type 1} → statement M
 length_spec =
     tie.close
     (tie.spec
-    invariant-loop decreases-loop (λ c. search rules) (λ c. let f = blank-few c.args.self c.requires in search rules)
+    invariant-loop decreases-loop (λ c. search rules) (λ c. let f = blank-few c.args.s c.requires in search rules)
     (λ c. search rules) (λ c. search rules) (λ c. search rules) (λ c. search rules) (λ c. omega (arith, (next c).low))
     (λ c. search rules) (λ c. search rules)
     (λ c. let k = (next c).low in let l = (next c).long in (omega arith, (omega arith, (omega arith, omega arith))))

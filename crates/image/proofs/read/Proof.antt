@@ -14,19 +14,19 @@ six c = shaped-six c.args.image.now c.requires
 
 returns : tie.Need-returns-then-wide-gt-TASKS
 returns c =
-    let a = c.before.before.before.before.before.before.before.before.args in
-    c.unreadable.ensures ∙ read-many a.image.now (omega (arith, c.before.before.wide.ensures.0))
+    let a = c.args in
+    c.unreadable.ensures ∙ read-many a.image.now (omega (arith, c.wide.ensures.0))
 
 slice-aggregate-read-tasks : tie.Need-slice_bounds-read_tasks-end
 slice-aggregate-read-tasks c =
-    let image = c.before.before.before.before.before.before.before.before.args.image.now in
+    let image = c.args.image.now in
     let l : length image - 6 ≤ length image = omega arith in
     sym (length-take-le _ _ l)
 
 returns-2 : tie.Need-returns
 returns-2 c =
-    let a = c.before.before.before.before.before.before.before.before.before.args in
-    c.read_tasks.ensures ∙ read-few a.image.now (omega (arith, c.before.before.before.wide.ensures.0))
+    let a = c.args in
+    c.read_tasks.ensures ∙ read-few a.image.now (omega (arith, c.wide.ensures.0))
 
 pub read_spec : {M : Type 1} → statement M
 read_spec =

@@ -21,39 +21,39 @@ decreases-loop out₀ at t h i₀ out i = i
 loop-holds : tie.Need-loop-i-init invariant-loop decreases-loop
 loop-holds c =
     let a = c.args in
-    let none : a.t3.height - a.t3.height ≡ 0 = omega arith in
-    let place : a.at + a.t3.height - a.t3.height ≡ a.at = omega arith in
-    (omega arith, rw (none, place) (wrote-nil a.out-1.now a.at))
+    let none : a.t.height - a.t.height ≡ 0 = omega arith in
+    let place : a.at + a.t.height - a.t.height ≡ a.at = omega arith in
+    (omega arith, rw (none, place) (wrote-nil a.out.now a.at))
 
 -- what is written fits, and the buffer keeps its length
-fits : (c : tie.At-loop-i invariant-loop decreases-loop) → c.before.args.at + c.before.args.t3.height - c.loop-i.i ≤ length c.before.args.out.now
+fits : (c : tie.At-loop-i invariant-loop decreases-loop) → c.args.at + c.args.t.height - c.loop-i.i ≤ length c.args.out.now
 fits c = omega arith
 
-kept : (c : tie.At-loop-i invariant-loop decreases-loop) → length c.loop-i.out ≡ length c.before.args.out.now
+kept : (c : tie.At-loop-i invariant-loop decreases-loop) → length c.loop-i.out ≡ length c.args.out.now
 kept c = wrote-length c.loop-i.invariant.1 (fits c)
 
 loop-again : tie.Need-loop-i-preserved invariant-loop decreases-loop
 loop-again c =
     let here = c.before.before in
-    let a = here.before.args in
+    let a = here.args in
     let i = here.loop-i.i in
-    let j = a.t3.height - i in
-    let x = get_or a.t3.screens (i - 1) 0 in
-    let l : length a.t3.screens ≡ 32 = search rules in
-    let h = view-height a.t3 (omega arith) in
-    let n : a.t3.height - (i - 1) ≡ suc j = omega arith in
-    let place : a.at + a.t3.height - (i - 1) ≡ a.at + a.t3.height - i + 1 = omega arith in
-    let e : take (a.t3.height - (i - 1)) (view_task a.t3).screens ≡ take j (view_task a.t3).screens ++ (x ∷ []) =
-    rw (n, take-suc (view_task a.t3).screens j 0 (omega arith), view-screen a.t3 (omega arith) (i - 1) j (omega arith)) in
-    let w = wrote_one here.loop-i.out (a.at + a.t3.height - i) x (omega (arith, kept here)) in
+    let j = a.t.height - i in
+    let x = get_or a.t.screens (i - 1) 0 in
+    let l : length a.t.screens ≡ 32 = search rules in
+    let h = view-height a.t (omega arith) in
+    let n : a.t.height - (i - 1) ≡ suc j = omega arith in
+    let place : a.at + a.t.height - (i - 1) ≡ a.at + a.t.height - i + 1 = omega arith in
+    let e : take (a.t.height - (i - 1)) (view_task a.t).screens ≡ take j (view_task a.t).screens ++ (x ∷ []) =
+    rw (n, take-suc (view_task a.t).screens j 0 (omega arith), view-screen a.t (omega arith) (i - 1) j (omega arith)) in
+    let w = wrote_one here.loop-i.out (a.at + a.t.height - i) x (omega (arith, kept here)) in
     (omega arith, rw (e, place) (wrote-append here.loop-i.invariant.1 (fits here) w))
 
 returns : tie.Need-returns invariant-loop decreases-loop
 returns c =
-    let a = c.before.before.args in
-    let l : length a.t3.screens ≡ 32 = search rules in
-    let h = view-height a.t3 (omega arith) in
-    let w = rw (take_all (a.t3.height - c.before.loop-i.i) (view_task a.t3).screens (omega arith)) at c.before.loop-i.invariant.1 in
+    let a = c.args in
+    let l : length a.t.screens ≡ 32 = search rules in
+    let h = view-height a.t (omega arith) in
+    let w = rw (take_all (a.t.height - c.loop-i.i) (view_task a.t).screens (omega arith)) at c.loop-i.invariant.1 in
     (omega arith, (w.text, omega arith))
 
 pub write_screens_spec : {M : Type 1} → statement M

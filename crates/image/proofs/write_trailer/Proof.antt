@@ -15,7 +15,7 @@ use Rattle.image.proofs.write_trailer.Tie as tie
 -- the edition, as it was read
 known : (c : tie.After-wide) → (6 ≤ c.wide.result) × (c.wide.result ≤ 8)
 known c =
-    let b = edition-between c.before.before.args.edition c.before.before.requires.1.1 in
+    let b = edition-between c.args.edition c.requires.1.1 in
     let e = c.wide.ensures.0 in
     (omega arith, omega arith)
 
@@ -24,7 +24,7 @@ returns c =
     let start = c.before.before in
     let a = start.args in
     let p = pair-at a.edition start.requires.1.1 c.wide.result c.wide.ensures.0 in
-    let w = written-sets a.out-1.now a.at (trailer a.at a.n a.main a.edition) (omega arith) in
+    let w = written-sets a.out.now a.at (trailer a.at a.n a.main a.edition) (omega arith) in
     (refl, rw (p.0, p.1) (simp towards_suc w))
 
 pub write_trailer_spec : {M : Type 1} → statement M

@@ -19,43 +19,43 @@ use Rattle.input.proofs.player_text.Statement.{statement}
 use Rattle.input.proofs.player_text.Tie as tie
 
 -- no table stands in the input
-otherwise : (c : tie.In_default) → starts_with_table c.before.before.before.before.args.input.now ≡ false
+otherwise : (c : tie.In_default) → starts_with_table c.args.input.now ≡ false
 otherwise c =
-    let told = c.before.beginning_of in
-    starts-otherwise c.before.before.before.before.args.input.now told.result told.ensures c.in_default.keys2
+    let told = c.beginning_of in
+    starts-otherwise c.args.input.now told.result told.ensures c.in_default.keys2
 
 returns : tie.Need-returns-in_default
 returns c =
     let told = c.before.before.before.before in
-    let a = told.before.before.before.before.args in
-    let w = c.before.before.stop.ensures in
-    let t = text-stop a.input.now a.out-1.now (otherwise told) in
-    (rw t w.0, (rw t w.1, text-whole a.input.now a.out-1.now))
+    let a = told.args in
+    let w = c.stop.ensures in
+    let t = text-stop a.input.now a.out.now (otherwise told) in
+    (rw t w.0, (rw t w.1, text-whole a.input.now a.out.now))
 
 -- the table stands in the input
 begun : (c : tie.In-Table-2)
-    → let l = c.before.before.before.before.before.args.input.now in
+    → let l = c.args.input.now in
     let n = c.long-1.given.0.0 in
     (starts_with_table l ≡ true) × (n ≡ 2 + 2 * size_of l)
-begun c = starts_with c.before.before.before.before.before.args.input.now c.before.before.beginning_of.ensures c.long-1.given.1
+begun c = starts_with c.args.input.now c.beginning_of.ensures c.long-1.given.1
 
-within : (c : tie.In-Table-2) → c.long-1.given.0.0 ≤ length c.before.before.before.before.before.args.input.now
+within : (c : tie.In-Table-2) → c.long-1.given.0.0 ≤ length c.args.input.now
 within c =
     let n = c.long-1.given.0.0 in
-    let k = told c.before.before.before.before.before.args.input.now (Beginning.Table n) c.before.before.beginning_of.ensures c.long-1.given.1 in
+    let k = told c.args.input.now (Beginning.Table n) c.beginning_of.ensures c.long-1.given.1 in
     omega arith
 
 returns-2 : tie.Need-returns
 returns-2 c =
     let long = c.before.before.before.before.before.before.before.before in
-    let a = long.before.before.before.before.before.args in
+    let a = long.args in
     let b = begun long in
     let n = long.long-1.given.0.0 in
-    let p = c.before.before.play.ensures in
-    let v : view c.before.before.before.before.before.fresh.result ≡ fresh = ap view c.before.before.before.before.before.fresh.ensures ∙ view-fresh in
-    let t = text-table a.input.now a.out-1.now b.0 in
+    let p = c.play.ensures in
+    let v : view c.fresh.result ≡ fresh = ap view c.fresh.ensures ∙ view-fresh in
+    let t = text-table a.input.now a.out.now b.0 in
     let q = rw (table-part a.input.now n b.1, records-part a.input.now n b.1, v) at p.1.1 in
-    (rw t q.0, (rw t q.1.0, text-whole a.input.now a.out-1.now))
+    (rw t q.0, (rw t q.1.0, text-whole a.input.now a.out.now))
 
 pub player_text_spec : {M : Type 1} → statement M
 player_text_spec =
@@ -64,4 +64,4 @@ player_text_spec =
     (λ c κs. search rules) (λ c. search rules) (λ c κs. search rules) (λ c. search rules) returns
     (λ c. sym (length-take-le _ _ (within c.before.before))) (λ c κs. search rules)
     (λ c. within c.before.before.before) (λ c. within c.before.before.before) (λ c. search rules)
-    (λ c κs. rw c.before.before.fresh.ensures (fresh-playable _)) (λ c. search rules) returns-2)
+    (λ c κs. rw c.fresh.ensures (fresh-playable _)) (λ c. search rules) returns-2)

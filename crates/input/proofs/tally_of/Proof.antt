@@ -23,21 +23,21 @@ use Rattle.input.proofs.tally_of.Tie as tie
 returns : tie.Need-returns-in_default
 returns c =
     let keys = c.before in
-    let told = keys.before.beginning_of in
-    let l = keys.before.before.before.args.input.now in
+    let told = keys.beginning_of in
+    let l = keys.args.input.now in
     c.none.ensures ∙ ap tally_of (sym (answers-none l (starts-otherwise l told.result-1 told.ensures keys.in_default.keys2)))
 
 -- the table stands in the input
 begun : (c : tie.In-Table-2)
-    → let l = c.before.before.before.before.args.input.now in
+    → let l = c.args.input.now in
     let n = c.long-1.given.0.0 in
     (starts_with_table l ≡ true) × (n ≡ 2 + 2 * size_of l)
-begun c = starts_with c.before.before.before.before.args.input.now c.before.before.beginning_of.ensures c.long-1.given.1
+begun c = starts_with c.args.input.now c.beginning_of.ensures c.long-1.given.1
 
-within : (c : tie.In-Table-2) → c.long-1.given.0.0 ≤ length c.before.before.before.before.args.input.now
+within : (c : tie.In-Table-2) → c.long-1.given.0.0 ≤ length c.args.input.now
 within c =
     let n = c.long-1.given.0.0 in
-    let k = told c.before.before.before.before.args.input.now (Beginning.Table n) c.before.before.beginning_of.ensures c.long-1.given.1 in
+    let k = told c.args.input.now (Beginning.Table n) c.beginning_of.ensures c.long-1.given.1 in
     omega arith
 
 returns-2 : tie.Need-returns
@@ -46,7 +46,7 @@ returns-2 c =
     let none = tally.before.before in
     let fresh' = none.before in
     let long = fresh'.before.before.before in
-    let l = long.before.before.before.before.args.input.now in
+    let l = long.args.input.now in
     let b = begun long in
     let n = long.long-1.given.0.0 in
     let v : view fresh'.fresh.result ≡ fresh = ap view fresh'.fresh.ensures ∙ view-fresh in
@@ -60,4 +60,4 @@ tally_of_spec =
     (λ c κs. search rules) (λ c. search rules) (λ c κs. search rules) returns
     (λ c. sym (length-take-le _ _ (within c.before.before))) (λ c κs. search rules) (λ c κs. search rules)
     (λ c. within c.before.before.before.before) (λ c. within c.before.before.before.before)
-    (λ c. search rules) (λ c κs. rw c.before.before.fresh.ensures (fresh-playable _)) returns-2)
+    (λ c. search rules) (λ c κs. rw c.fresh.ensures (fresh-playable _)) returns-2)

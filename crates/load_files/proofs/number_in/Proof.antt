@@ -19,15 +19,15 @@ abbrev decreases-loop : tie.decreases-loop-i
 decreases-loop text value₀ i₀ value i = length text - i
 
 returns : tie.Need-returns-then-text-eq0 invariant-loop decreases-loop
-returns c = number-none c.before.before.args.text.now c.if-text-eq0.true
+returns c = number-none c.args.text.now c.if-text-eq0.true
 
 loop-holds : tie.Need-loop-i-init invariant-loop decreases-loop
-loop-holds c = (omega arith, (omega arith, number-begins c.before.before.args.text.now c.if-text-eq0.false))
+loop-holds c = (omega arith, (omega arith, number-begins c.args.text.now c.if-text-eq0.false))
 
 -- what a law of the digit at the place gives for the whole text
 module _ (c : tie.At-loop-i invariant-loop decreases-loop) where
   abbrev text : List ℕ
-  text = c.before.before.before.args.text.now
+  text = c.args.text.now
 
   so : {r : Number} → number_from c.loop-i.value (drop c.loop-i.i text) ≡ r → r ≡ number_in text
   so e = sym (c.loop-i.invariant.1.1 ∙ e)
@@ -48,18 +48,18 @@ add-value c = let e = c.wide.ensures in omega arith
 returns-4 : tie.Need-returns-then-value-gt-MOST invariant-loop decreases-loop
 returns-4 c =
     let at = c.before.before.before.before.before.before in
-    let e = c.before.wide.ensures in
+    let e = c.wide.ensures in
     so at (digit-most (text at) at.loop-i.value at.loop-i.i (omega arith) (omega arith) (omega arith) (omega arith))
 
 loop-again : tie.Need-loop-i-preserved invariant-loop decreases-loop
 loop-again c =
     let at = c.before.before.before.before.before.before in
-    let e = c.before.wide.ensures in
+    let e = c.wide.ensures in
     let r = digit-read (text at) at.loop-i.value at.loop-i.i (omega arith) (omega arith) (omega arith) (omega arith) in
     (omega arith, (omega arith, rw e (sym (so at r))))
 
 returns-5 : tie.Need-returns invariant-loop decreases-loop
-returns-5 c = so c.before (number-ends (text c.before) c.before.loop-i.value c.before.loop-i.i (omega arith))
+returns-5 c = so c.before (number-ends (text c.before) c.loop-i.value c.loop-i.i (omega arith))
 
 pub number_in_spec : {M : Type 1} → statement M
 number_in_spec =

@@ -31,20 +31,20 @@ loop-holds c =
     (omega arith, (rw none, (start.requires, length-replicate {A = ℕ} (6 * most_records) 0)))
 
 slice-aggregate-make-block : tie.Need-slice_bounds-make_block-end invariant-loop decreases-loop
-slice-aggregate-make-block c = sym c.before.before.loop-left.invariant.1.1.1
+slice-aggregate-make-block c = sym c.loop-left.invariant.1.1.1
 
 make-block-requires : tie.Need-make_block-made-requires invariant-loop decreases-loop
-make-block-requires c κs = let inv = c.before.before.loop-left.invariant in (inv.1.1.0, inv.1.1.1)
+make-block-requires c κs = let inv = c.loop-left.invariant in (inv.1.1.0, inv.1.1.1)
 
 -- a block has records, not more than are left, and fits the buffer
 block : (c : tie.After-make_block-made invariant-loop decreases-loop)
-    → let l = c.before.before.before.loop-left in
+    → let l = c.loop-left in
     let n = c.make_block-made.result.count in
     (n ≡ block_of l.false) × ((0 < n) × (length c.make_block-made.new.1.1.1.0 ≡ 6 * most_records))
 block c =
     let e = c.make_block-made.ensures.count in
-    let l = c.before.before.before.loop-left in
-    (e, (omega (arith, c.before.before.loop-left-test.true), c.make_block-made.auto.1.1.1.0 ∙ l.invariant.1.1.1))
+    let l = c.loop-left in
+    (e, (omega (arith, c.loop-left-test.true), c.make_block-made.auto.1.1.1.0 ∙ l.invariant.1.1.1))
 
 mul-end : tie.Need-overflow_mul-end invariant-loop decreases-loop
 mul-end c = let b = (block c.before).0 in omega arith
@@ -56,7 +56,7 @@ slice-aggregate-give : tie.Need-slice_bounds-give-end invariant-loop decreases-l
 slice-aggregate-give c = sym (length-take-le _ _ (array-share-prefix-buffer c.before))
 
 returns : tie.Need-returns-then-not-give invariant-loop decreases-loop
-returns c = (λ e. sym (ap not (c.before.give.ensures e)) ∙ c.if-not-give.true, λ e. absurd (true≢false (sym e)))
+returns c = (λ e. sym (ap not (c.give.ensures e)) ∙ c.if-not-give.true, λ e. absurd (true≢false (sym e)))
 
 sub-left : tie.Need-overflow_sub-left invariant-loop decreases-loop
 sub-left c = let b = (block c.before.before.before.before).0 in omega arith
@@ -67,8 +67,8 @@ loop-less c = let b = block c.before.before.before.before in omega arith
 loop-again : tie.Need-loop-left-preserved invariant-loop decreases-loop
 loop-again c =
     let here = c.before.before.before.before in
-    let l = here.before.before.before.loop-left in
-    let a = here.before.before.before.before.before.args in
+    let l = here.loop-left in
+    let a = here.args in
     let made = here.make_block-made.ensures in
     let b = block here in
     let done = a.records - l.false in
@@ -79,8 +79,8 @@ loop-again c =
 
 returns-2 : tie.Need-returns invariant-loop decreases-loop
 returns-2 c =
-    let l = c.before.loop-left in
-    let a = c.before.before.before.args in
+    let l = c.loop-left in
+    let a = c.args in
     let all : a.records - l.false ≡ a.records = omega arith in
     (λ e. refl, λ e. l.invariant.1.0 ∙ ap (state_after a.seed) all)
 

@@ -19,22 +19,22 @@ decreases-loop out₀ count n seed state₀ i₀ out state i = count - i
 
 loop-holds : tie.Need-loop-i-init invariant-loop decreases-loop
 unfolding records_from state_after
-loop-holds c = (omega arith, (refl, wrote-nil c.before.args.out.now 0))
+loop-holds c = (omega arith, (refl, wrote-nil c.args.out.now 0))
 
 -- what is written fits, and the buffer keeps its length
-kept : (c : tie.At-loop-i invariant-loop decreases-loop) → length c.loop-i.out ≡ length c.before.before.args.out.now
+kept : (c : tie.At-loop-i invariant-loop decreases-loop) → length c.loop-i.out ≡ length c.args.out.now
 kept c = wrote-length c.loop-i.invariant.1.1 (omega arith)
 
 write-record-requires : tie.Need-write_record-state-requires invariant-loop decreases-loop
-write-record-requires c κs = let here = c.before.before in let k = kept here in (here.before.before.requires.0, omega arith)
+write-record-requires c κs = let here = c.before.before in let k = kept here in (here.requires.0, omega arith)
 
 loop-again : tie.Need-loop-i-preserved invariant-loop decreases-loop
 loop-again c =
     let here = c.before.before.before.before.before in
-    let a = here.before.before.args in
+    let a = here.args in
     let i = here.loop-i.i in
     let v = here.loop-i.invariant.1 in
-    let w = c.before.before.write_record-state.ensures in
+    let w = c.write_record-state.ensures in
     let long = record-length a.n here.loop-i.state in
     let p : 6 * (i + 1) ≡ 6 * i + length (record_from a.n here.loop-i.state) = omega arith in
     let r = wrote-append v.1 (omega arith) (record { place = p; text = w.1 }) in
@@ -45,9 +45,9 @@ same_length c = kept c.before
 
 returns : tie.Need-returns invariant-loop decreases-loop
 returns c =
-    let a = c.before.before.before.args in
-    let e : c.before.loop-i.i ≡ a.count = omega arith in
-    let v = c.before.loop-i.invariant.1 in
+    let a = c.args in
+    let e : c.loop-i.i ≡ a.count = omega arith in
+    let v = c.loop-i.invariant.1 in
     (v.0 ∙ ap (state_after a.seed) e, rw e at v.1.text)
 
 pub fill_spec : {M : Type 1} → statement M

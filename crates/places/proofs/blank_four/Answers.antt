@@ -18,18 +18,18 @@ pub loop-i-preserved : goal.loop-i-preserved
 loop-i-preserved c =
     let o = c.loop-i in
     let a = c.args in
-    let la : length a.t1.screens ≡ 32 = search rules in
-    let lb : length a.t2.screens ≡ 32 = search rules in
-    let lc : length a.t3.screens ≡ 32 = search rules in
-    let ld : length a.t4.screens ≡ 32 = search rules in
-    (omega arith, o.invariant.1 ∙ fours-step a.t1 a.t2 a.t3 a.t4 o.i la lb lc ld (omega arith) o.zero)
+    let la : length a.a.screens ≡ 32 = search rules in
+    let lb : length a.b.screens ≡ 32 = search rules in
+    let lc : length a.c.screens ≡ 32 = search rules in
+    let ld : length a.d.screens ≡ 32 = search rules in
+    (omega arith, o.invariant.1 ∙ fours-step a.a a.b a.c a.d o.i la lb lc ld (omega arith) o.zero)
 
 pub returns : goal.returns
 returns c =
     let o = c.loop-i in
     let a = c.args in
-    let la : length a.t1.screens ≡ 32 = search rules in
-    let lb : length a.t2.screens ≡ 32 = search rules in
-    let lc : length a.t3.screens ≡ 32 = search rules in
-    let ld : length a.t4.screens ≡ 32 = search rules in
-    sym (o.invariant.1 ∙ fours-end a.t1 a.t2 a.t3 a.t4 o.i la lb lc ld (omega arith) o.zero)
+    let la : length a.a.screens ≡ 32 = search rules in
+    let lb : length a.b.screens ≡ 32 = search rules in
+    let lc : length a.c.screens ≡ 32 = search rules in
+    let ld : length a.d.screens ≡ 32 = search rules in
+    sym (o.invariant.1 ∙ fours-end a.a a.b a.c a.d o.i la lb lc ld (omega arith) o.zero)

@@ -15,22 +15,22 @@ loop-i-init c = (search rules, (search rules, omega arith))
 
 pub overflow_add-sum : goal.overflow_add-sum
 overflow_add-sum c =
-    let x : Fits w8 (get_or c.args.self.screens c.loop-i.i 0) = search rules in
+    let x : Fits w8 (get_or c.args.t.screens c.loop-i.i 0) = search rules in
     omega arith
 
 pub loop-i-preserved : goal.loop-i-preserved
 loop-i-preserved c =
     let a = c.args in
-    let l : length a.t1.screens ≡ 32 = search rules in
+    let l : length a.t.screens ≡ 32 = search rules in
     let o = c.loop-i in
-    let b : Fits w8 (get_or a.t1.screens o.i 0) = search rules in
-    let e = total-step a.t1.screens o.i (omega arith) in
+    let b : Fits w8 (get_or a.t.screens o.i 0) = search rules in
+    let e = total-step a.t.screens o.i (omega arith) in
     (omega arith, (omega arith, omega arith))
 
 pub returns : goal.returns
 returns c =
     let a = c.args in
-    let l : length a.t1.screens ≡ 32 = search rules in
+    let l : length a.t.screens ≡ 32 = search rules in
     let o = c.loop-i in
-    let e = total-end a.t1.screens o.i (omega arith) in
+    let e = total-end a.t.screens o.i (omega arith) in
     omega arith

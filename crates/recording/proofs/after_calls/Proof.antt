@@ -44,15 +44,15 @@ returns : tie.Need-returns-then-n-calls invariant-loop decreases-loop
 returns c =
     let l = c.before.before.before.before.before.before in
     let start = l.before.before.before in
-    let word = c.before.before.word_at-word in
-    let n = c.before.image_length-n in
+    let word = c.word_at-word in
+    let n = c.image_length-n in
     reached-cut l.loop-p.invariant (good start) (stored start) (sound start) (omega arith) word.result n.result word.ensures n.ensures (omega arith)
 
 -- it is whole, and the place behind it is a number of 64 bits
 whole : (c : tie.Else-n-calls invariant-loop decreases-loop)
     → let l = c.before.before.before.before.before.before in
-    let long = length l.before.before.before.args.calls.now in
-    (l.loop-p.p + 6 ≤ long) × (c.before.image_length-n.result ≤ long - (l.loop-p.p + 6))
+    let long = length l.args.calls.now in
+    (l.loop-p.p + 6 ≤ long) × (c.image_length-n.result ≤ long - (l.loop-p.p + 6))
 whole c = (omega arith, omega arith)
 
 add-p : tie.Need-overflow_add-p invariant-loop decreases-loop
@@ -71,18 +71,18 @@ module _ (c : tie.After-make_with_image-made invariant-loop decreases-loop) wher
   abbrev turn : tie.At-loop-p invariant-loop decreases-loop
   turn = passed.before.before.before.before.before.before
 
-  created-few : turn.loop-p.created + c.make_with_image-made.result.created ≤ turn.loop-p.p + 6 + passed.before.image_length-n.result
+  created-few : turn.loop-p.created + c.make_with_image-made.result.created ≤ turn.loop-p.p + 6 + passed.image_length-n.result
   created-few =
-      let word = passed.before.before.word_at-word in
-      let n = passed.before.image_length-n in
+      let word = passed.word_at-word in
+      let n = passed.image_length-n in
       let made = c.make_with_image-made in
       reached-created turn.loop-p.invariant (good turn.before.before.before) (whole passed).0 word.result n.result word.ensures n.ensures
       (whole passed).1 made.result.reply made.ensures.0 made.result.created made.ensures.1
 
-  closed-low : turn.loop-p.closed + c.make_with_image-made.result.reply.answer.closed ≤ turn.loop-p.p + 6 + passed.before.image_length-n.result
+  closed-low : turn.loop-p.closed + c.make_with_image-made.result.reply.answer.closed ≤ turn.loop-p.p + 6 + passed.image_length-n.result
   closed-low =
-      let word = passed.before.before.word_at-word in
-      let n = passed.before.image_length-n in
+      let word = passed.word_at-word in
+      let n = passed.image_length-n in
       let made = c.make_with_image-made in
       reached-closed turn.loop-p.invariant (good turn.before.before.before) (whole passed).0 word.result n.result word.ensures n.ensures
       (whole passed).1 made.result.reply made.ensures.0
@@ -99,17 +99,17 @@ loop-again : tie.Need-loop-p-preserved invariant-loop decreases-loop
 loop-again c =
     let made = c.before.before.before.before.before in
     let l = turn made in
-    let word = (passed made).before.before.word_at in
-    let n = (passed made).before.image-length in
+    let word = (passed made).word_at-word in
+    let n = (passed made).image_length-n in
     let m = made.make_with_image-made in
-    rw (c.before.before.before.before.wide-created.ensures, c.before.wide-closed.ensures)
+    rw (c.wide-created.ensures, c.wide-closed.ensures)
     (reached-more l.loop-p.invariant (good l.before.before.before) (whole (passed made)).0 word.result n.result word.ensures n.ensures
     (whole (passed made)).1 m.result.reply m.ensures.0 m.result.created m.ensures.1)
 
 returns-2 : tie.Need-returns invariant-loop decreases-loop
 returns-2 c =
     let start = c.before.before.before.before in
-    reached-few c.before.loop-p.invariant (good start) (stored start) (sound start) (omega arith)
+    reached-few c.loop-p.invariant (good start) (stored start) (sound start) (omega arith)
 
 pub after_calls_spec : {M : Type 1} → statement M
 after_calls_spec =

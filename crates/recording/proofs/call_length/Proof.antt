@@ -11,26 +11,26 @@ use Rattle.recording.proofs.call_length.Statement.{statement}
 use Rattle.recording.proofs.call_length.Tie as tie
 
 returns : tie.Need-returns-then-calls-lt6
-returns c = let l = c.before.before.args.calls.now in length_cut l (few-cut l c.if-calls-lt6.true)
+returns c = let l = c.args.calls.now in length_cut l (few-cut l c.if-calls-lt6.true)
 
 -- the bytes of an image that follow
 image : (c : tie.After-image_length-n)
-    → let l = c.before.before.before.before.before.args.calls.now in
+    → let l = c.args.calls.now in
     (6 ≤ length l) × (c.image_length-n.result ≡ image_length (get_or l 0 0) (word_at l 0))
-image c = (c.before.before.before.if-calls-lt6.false, rw c.before.word_at.ensures at c.image_length-n.ensures)
+image c = (c.if-calls-lt6.false, rw c.word_at.ensures at c.image_length-n.ensures)
 
 word-at-requires : tie.Need-word_at-requires
-word-at-requires c κs = c.before.if-calls-lt6.false
+word-at-requires c κs = c.if-calls-lt6.false
 
 returns-2 : tie.Need-returns-then-n-calls
 returns-2 c =
-    let l = c.before.before.before.before.before.before.args.calls.now in
+    let l = c.args.calls.now in
     let i = image c.before in
     length_cut l (image-cut l i.0 _ i.1 (omega (arith, c.if-n-calls.true)))
 
 returns-3 : tie.Need-returns
 returns-3 c =
-    let l = c.before.before.before.before.before.before.args.calls.now in
+    let l = c.args.calls.now in
     let i = image c.before in
     length_whole l (image-whole l i.0 _ i.1 (omega (arith, c.if-n-calls.false))) i.1
 

@@ -15,30 +15,30 @@ use Rattle.recording.proofs.count_screens.Tie as tie
 
 returns : tie.Need-returns-then-refusal-ne0
 returns c =
-    let a = c.before.before.before.before.args in
-    let number = c.before.refusal-refusal.ensures in
+    let a = c.args in
+    let number = c.refusal-refusal.ensures in
     let bad : table_refusal a.table.now ≡ 0 → ⊥ = λ z. c.if-refusal-ne0.true (number ∙ z) in
     let tb = a.table.now in
     (number, (λ z. absurd (bad z), (λ b. (refl, refl, refl), (λ made. (omega arith, refl), (screens-balance tb, promise3 tb)))))
 
 after-calls-requires : tie.Need-after_calls-done-requires
 after-calls-requires c κs =
-    let a = c.before.before.before.before.before.args in (
+    let a = c.args in (
       record {
-        good = sym c.before.before.refusal-refusal.ensures ∙ c.before.if-refusal-ne0.false;
+        good = sym c.refusal-refusal.ensures ∙ c.if-refusal-ne0.false;
         sound = rw c.fresh.ensures (fresh-stored a.table.now);
       },
       rw c.fresh.ensures fresh-screens,
     )
 
 -- the table is good, and this was counted
-ok : (c : tie.After-after_calls-done) → let a = c.before.before.before.before.before.before.args in table_refusal a.table.now ≡ 0
-ok c = sym c.before.before.before.refusal-refusal.ensures ∙ c.before.before.if-refusal-ne0.false
+ok : (c : tie.After-after_calls-done) → let a = c.args in table_refusal a.table.now ≡ 0
+ok c = sym c.refusal-refusal.ensures ∙ c.if-refusal-ne0.false
 
 counts : (c : tie.After-after_calls-done)
-    → let a = c.before.before.before.before.before.before.args in
+    → let a = c.args in
     Counts a.table.now fresh_session (calls_in a.calls.now) c.after_calls-done.result
-counts c = rw c.before.fresh.ensures at c.after_calls-done.ensures
+counts c = rw c.fresh.ensures at c.after_calls-done.ensures
 
 standing-requires : tie.Need-standing-requires
 standing-requires c κs = let done = c.before in counted-blank _ (ok done) _ done.after_calls-done.result (counts done)
@@ -46,7 +46,7 @@ standing-requires c κs = let done = c.before in counted-blank _ (ok done) _ don
 returns-2 : tie.Need-returns
 returns-2 c =
     let done = c.before.before in
-    let a = done.before.before.before.before.before.before.args in
+    let a = done.args in
     let tb = a.table.now in
     let ks = calls_in a.calls.now in
     let counted = counted-screens tb (ok done) ks done.after_calls-done.result (counts done) c.standing.result c.standing.ensures in (

@@ -26,7 +26,7 @@ unfolding call_of
 returns c =
     let start = c.before.before.before.before in
     let a = start.args in
-    rw c.before.if-kind-eq6.true (c.restore-reply.ensures, restore-creates a.table.now a.s start.requires a.image.now)
+    rw c.if-kind-eq6.true (c.restore-reply.ensures, restore-creates a.table.now a.s start.requires a.image.now)
 
 make-requires : tie.Need-make-requires
 make-requires c κs = passed c.before.before.before.before
@@ -36,9 +36,9 @@ unfolding call_of
 returns-2 c =
     let start = c.before.before.before.before.before in
     let a = start.args in
-    let request = ap (λ (x : Asked). request_by x a.b a.word) c.before.asked_by.ensures ∙ asked-request a.b a.word a.kind in
+    let request = ap (λ (x : Asked). request_by x a.b a.word) c.asked_by.ensures ∙ asked-request a.b a.word a.kind in
     let q = request_of a.kind a.b a.word in
-    rw (ne_eqb a.kind 6 c.before.before.if-kind-eq6.false) (
+    rw (ne_eqb a.kind 6 c.if-kind-eq6.false) (
       c.make.ensures.reply ∙ ap (reply_stored a.table.now a.s) request ∙ asked-reply a.table.now a.s q,
       c.make.ensures.created ∙ ap (created_stored a.table.now a.s) request ∙ asked-created a.table.now a.s start.requires q,
     )

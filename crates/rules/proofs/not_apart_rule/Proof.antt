@@ -17,27 +17,27 @@ either false true h = (refl, refl)
 either false false h = (refl, refl)
 
 returns : tie.Need-returns-then-b-top
-returns c = rw (← c.before.before.before.top.ensures, c.if-b-top.true)
+returns c = rw (← c.top.ensures, c.if-b-top.true)
 
 -- the tests of R8 and R9 by whether b was looked for and stands there
 held : (c : tie.After-holds_where-held)
-    → let a = c.before.before.before.before.before.before.args in
+    → let a = c.args in
     not_apart_rule a.asks (view_task a.t) a.b
     ≡ (if a.asks.ctp && c.holds_where-held.result then Rule.R8 else if a.asks.rtf && c.holds_where-held.result then Rule.R9 else Rule.R10)
 held c =
     let top = c.before.before.before.before.before in
-    let a = top.before.args in
+    let a = top.args in
     let e = either a.asks.ctp a.asks.rtf (holds a.b (view_task a.t).screens) in
-    rw (← top.top.ensures, c.before.before.if-b-top.false, c.holds_where-held.ensures, e.0, e.1)
+    rw (← top.top.ensures, c.if-b-top.false, c.holds_where-held.ensures, e.0, e.1)
 
 returns-2 : tie.Need-returns-then-asks-held
 returns-2 c = sym (held c.before.before ∙ rw c.if-asks-held.true)
 
 returns-3 : tie.Need-returns-then-asks-held-2
-returns-3 c = sym (held c.before.before.before.before ∙ rw (c.before.before.if-asks-held.false, c.if-asks-held-2.true))
+returns-3 c = sym (held c.before.before.before.before ∙ rw (c.if-asks-held.false, c.if-asks-held-2.true))
 
 returns-4 : tie.Need-returns
-returns-4 c = sym (held c.before.before.before.before ∙ rw (c.before.before.if-asks-held.false, c.if-asks-held-2.false))
+returns-4 c = sym (held c.before.before.before.before ∙ rw (c.if-asks-held.false, c.if-asks-held-2.false))
 
 pub not_apart_rule_spec : {M : Type 1} → statement M
 not_apart_rule_spec =

@@ -24,46 +24,46 @@ decreases-loop table n b roots affinity i₀ i = n - i
 
 affinity-requires : tie.Need-affinity-affinity-requires invariant-loop decreases-loop
 affinity-requires c κs =
-    let g = good-shaped c.before.args.table.now c.before.requires.good in
-    let k = c.before.requires.known in
+    let g = good-shaped c.args.table.now c.requires.good in
+    let k = c.requires.known in
     omega arith
 
 loop-holds : tie.Need-loop-i-init invariant-loop decreases-loop
 loop-holds c =
-    let a = c.before.before.args in
-    (search rules, find-begin (akin a.table.now a.b) (take a.n a.t2))
+    let a = c.args in
+    (search rules, find-begin (akin a.table.now a.b) (take a.n a.roots))
 
 -- the table has the row of the root at i
 row : (c : tie.Else-i-n invariant-loop decreases-loop)
-    → 3 + 2 * (get_or c.before.before.before.before.args.t2 c.before.loop-i.i 0) < length c.before.before.before.before.args.table.now
+    → 3 + 2 * (get_or c.args.roots c.loop-i.i 0) < length c.args.table.now
 row c =
     let start = c.before.before.before.before in
     let a = start.args in
-    let l : length a.t2 ≡ 16 = search rules in
+    let l : length a.roots ≡ 16 = search rules in
     let few = start.requires.few in
     let g = good-shaped a.table.now start.requires.good in
-    let k = root-known a.table.now a.t2 a.n (omega arith) start.requires.each c.before.loop-i.i (omega arith) in
+    let k = root-known a.table.now a.roots a.n (omega arith) start.requires.each c.loop-i.i (omega arith) in
     omega arith
 
 -- the test of the root at i is the code's
 tested : (c : tie.After-affinity invariant-loop decreases-loop)
-    → akin c.before.before.before.before.before.before.args.table.now c.before.before.before.before.before.before.args.b
-    (get_or c.before.before.before.before.before.before.args.t2 c.before.before.before.loop-i.i 0)
-    ≡ ((not (eqb c.before.mode.result 3) && eqb c.affinity.result c.before.before.before.before.affinity-affinity.result)
-    && not (eqb c.before.before.before.before.affinity-affinity.result 0))
+    → akin c.args.table.now c.args.b
+    (get_or c.args.roots c.loop-i.i 0)
+    ≡ ((not (eqb c.mode.result 3) && eqb c.affinity.result c.affinity-affinity.result)
+    && not (eqb c.affinity-affinity.result 0))
 tested c =
-    let a = c.before.before.before.before.before.before.args in
-    akin-test a.table.now a.b _ c.before.mode.ensures c.affinity.ensures c.before.before.before.before.affinity-affinity.ensures
+    let a = c.args in
+    akin-test a.table.now a.b _ c.mode.ensures c.affinity.ensures c.affinity-affinity.ensures
 
 loop-again : tie.Need-loop-i-preserved invariant-loop decreases-loop
 loop-again c =
     let here = c.before.before.before.before in
     let start = here.before.before.before in
     let a = start.args in
-    let l : length a.t2 ≡ 16 = search rules in
+    let l : length a.roots ≡ 16 = search rules in
     let few = start.requires.few in (
       omega arith,
-      here.loop-i.invariant.1 ∙ find-take-next (akin a.table.now a.b) a.t2 a.n (omega arith) here.loop-i.i 0 (omega arith)
+      here.loop-i.invariant.1 ∙ find-take-next (akin a.table.now a.b) a.roots a.n (omega arith) here.loop-i.i 0 (omega arith)
           (tested c.before ∙ c.if-mode-affinity.false),
     )
 
@@ -72,18 +72,18 @@ returns c =
     let here = c.before in
     let start = here.before.before.before in
     let a = start.args in
-    let l : length a.t2 ≡ 16 = search rules in
+    let l : length a.roots ≡ 16 = search rules in
     let few = start.requires.few in
-    sym (here.loop-i.invariant.1 ∙ find-take-end (akin a.table.now a.b) a.t2 a.n (omega arith) here.loop-i.i (omega arith))
+    sym (here.loop-i.invariant.1 ∙ find-take-end (akin a.table.now a.b) a.roots a.n (omega arith) here.loop-i.i (omega arith))
 
 returns-2 : tie.Need-returns-then-mode-affinity invariant-loop decreases-loop
 returns-2 c =
     let here = c.before.before.before.before in
     let start = here.before.before.before in
     let a = start.args in
-    let l : length a.t2 ≡ 16 = search rules in
+    let l : length a.roots ≡ 16 = search rules in
     let few = start.requires.few in
-    sym (here.loop-i.invariant.1 ∙ find-take-here (akin a.table.now a.b) a.t2 a.n (omega arith) here.loop-i.i 0 (omega arith)
+    sym (here.loop-i.invariant.1 ∙ find-take-here (akin a.table.now a.b) a.roots a.n (omega arith) here.loop-i.i 0 (omega arith)
     (tested c.before ∙ c.if-mode-affinity.true))
 
 pub by_affinity_spec : {M : Type 1} → statement M

@@ -10,28 +10,26 @@ use lib.ListN.{length, take, drop}
 use lib.Dec.{eqb}
 use Rattle.model.specs.Lists.{find}
 use Rattle.search.proofs.Steps.{behind, find-begin, find-take-end, find-take-here, find-take-next}
+use Rattle.search.proofs.by_root.Invariants.{root_is}
 use Rattle.search.proofs.by_root.Goals as goal
 
-abbrev root_is : ℕ → ℕ → Bool
-root_is b x = eqb x b
-
 pub loop-i-init : goal.loop-i-init
-loop-i-init c = (search rules, find-begin (root_is c.args.b) (take c.args.n c.args.self))
+loop-i-init c = (search rules, find-begin (root_is c.args.b) (take c.args.n c.args.roots))
 
 pub loop-i-preserved : goal.loop-i-preserved
 loop-i-preserved c =
     let a = c.args in
-    let l : length a.t1 ≡ 16 = search rules in
-    (omega arith, c.loop-i.invariant.1 ∙ find-take-next (root_is a.b) a.t1 a.n (omega arith) c.loop-i.i 0 (omega arith) (ne_eqb _ _ c.if-roots-k.false))
+    let l : length a.roots ≡ 16 = search rules in
+    (omega arith, c.loop-i.invariant.1 ∙ find-take-next (root_is a.b) a.roots a.n (omega arith) c.loop-i.i 0 (omega arith) (ne_eqb _ _ c.if-roots-k.false))
 
 pub returns-then-i-n : goal.returns-then-i-n
 returns-then-i-n c =
     let a = c.args in
-    let l : length a.t1 ≡ 16 = search rules in
-    sym (c.loop-i.invariant.1 ∙ find-take-end (root_is a.b) a.t1 a.n (omega arith) c.loop-i.i (omega arith))
+    let l : length a.roots ≡ 16 = search rules in
+    sym (c.loop-i.invariant.1 ∙ find-take-end (root_is a.b) a.roots a.n (omega arith) c.loop-i.i (omega arith))
 
 pub returns-then-roots-k : goal.returns-then-roots-k
 returns-then-roots-k c =
     let a = c.args in
-    let l : length a.t1 ≡ 16 = search rules in
-    sym (c.loop-i.invariant.1 ∙ find-take-here (root_is a.b) a.t1 a.n (omega arith) c.loop-i.i 0 (omega arith) (eq-eqb _ _ c.if-roots-k.true))
+    let l : length a.roots ≡ 16 = search rules in
+    sym (c.loop-i.invariant.1 ∙ find-take-here (root_is a.b) a.roots a.n (omega arith) c.loop-i.i 0 (omega arith) (eq-eqb _ _ c.if-roots-k.true))

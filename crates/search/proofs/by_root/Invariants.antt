@@ -12,6 +12,9 @@ use Rattle.model.specs.Lists.{find}
 use Rattle.search.proofs.Steps.{behind, find-begin, find-take-end, find-take-here, find-take-next}
 use Rattle.search.proofs.by_root.Given as goal
 
+abbrev pub root_is : ℕ → ℕ → Bool
+root_is b x = eqb x b
+
 abbrev pub invariant-loop-i : goal.invariant-loop-i
 invariant-loop-i l = (l.i ≤ l.n) × (find (root_is l.b) (take l.n l.roots) ≡ behind l.i (find (root_is l.b) (drop l.i (take l.n l.roots))))
 

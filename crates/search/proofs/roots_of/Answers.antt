@@ -19,13 +19,13 @@ bounds-s-i c = search (rules, long)
 pub loop-i-preserved : goal.loop-i-preserved
 loop-i-preserved c =
     let o = c.loop-i in
-    let ts = c.args.self.tasks in
+    let ts = c.args.s.tasks in
     let l : length ts ≡ 16 = search (rules, long) in
     (omega arith, (length-set o.roots o.i _ ∙ o.invariant.1.0, next-root ts o.roots o.i (omega arith) (omega arith) o.invariant.1.1))
 
 pub returns : goal.returns
 returns c =
     let o = c.loop-i in
-    let ts = c.args.self.tasks in
+    let ts = c.args.s.tasks in
     let l : length ts ≡ 16 = search (rules, long) in
     sym (take_all o.i o.roots (omega arith)) ∙ o.invariant.1.1 ∙ take_all o.i (roots_of ts) (omega (arith, length-map ts root))

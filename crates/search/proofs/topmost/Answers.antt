@@ -14,11 +14,11 @@ use Rattle.search.proofs.Steps.{behind, find-begin, find-end, find-here, find-ne
 use Rattle.search.proofs.topmost.Goals as goal
 
 pub loop-i-init : goal.loop-i-init
-loop-i-init c = (search rules, find-begin (eqb c.args.b) (view_task c.args.self).screens)
+loop-i-init c = (search rules, find-begin (eqb c.args.b) (view_task c.args.t).screens)
 
 pub loop-i-preserved : goal.loop-i-preserved
 loop-i-preserved c =
-    let t = c.args.self in
+    let t = c.args.t in
     let i = c.loop-i.i in
     let l : length t.screens ≡ 32 = search rules in
     let h = view-height t (omega arith) in
@@ -30,14 +30,14 @@ loop-i-preserved c =
 
 pub returns-then-i-t : goal.returns-then-i-t
 returns-then-i-t c =
-    let t = c.args.self in
+    let t = c.args.t in
     let l : length t.screens ≡ 32 = search rules in
     let h = view-height t (omega arith) in
     sym (c.loop-i.invariant.1 ∙ find-end (eqb c.args.b) (view_task t).screens c.loop-i.i (omega arith))
 
 pub returns-then-b-t : goal.returns-then-b-t
 returns-then-b-t c =
-    let t = c.args.self in
+    let t = c.args.t in
     let i = c.loop-i.i in
     let l : length t.screens ≡ 32 = search rules in
     let h = view-height t (omega arith) in

@@ -16,7 +16,7 @@ loop-i-init c = (search rules, refl)
 pub loop-i-preserved : goal.loop-i-preserved
 unfolding is_root
 loop-i-preserved c =
-    let roots = c.args.self in
+    let roots = c.args.roots in
     let l : length roots ≡ 16 = search rules in
     let o = c.loop-i in
     let e = o.invariant.1 ∙ ap (λ (z : Bool). o.all && z) (all-step is_root roots o.i 0 (omega arith))
@@ -25,7 +25,7 @@ loop-i-preserved c =
 
 pub returns : goal.returns
 returns c =
-    let roots = c.args.self in
+    let roots = c.args.roots in
     let l : length roots ≡ 16 = search rules in
     let o = c.loop-i in
     sym ((rw (all_end is_root roots o.i (omega arith)) at o.invariant.1) ∙ and-true o.all)

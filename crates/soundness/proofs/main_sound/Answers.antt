@@ -15,15 +15,15 @@ pub returns-then-m-n : goal.returns-then-m-n
 unfolding main_root_sound
 returns-then-m-n c =
     let a = c.args in
-    let l : length a.t2 ≡ 16 = search rules in
-    rw (length-take-le a.n a.t2 (omega arith), lt-leb a.m a.n (omega arith))
+    let l : length a.roots ≡ 16 = search rules in
+    rw (length-take-le a.n a.roots (omega arith), lt-leb a.m a.n (omega arith))
 
 pub returns-then-m-eq0 : goal.returns-then-m-eq0
 unfolding main_root_sound
 returns-then-m-eq0 c =
     let a = c.args in
-    let l : length a.t2 ≡ 16 = search rules in
-    rw (length-take-le a.n a.t2 (omega arith), le-leb a.m a.n (omega arith), eq-eqb a.m 0 (omega arith))
+    let l : length a.roots ≡ 16 = search rules in
+    rw (length-take-le a.n a.roots (omega arith), le-leb a.m a.n (omega arith), eq-eqb a.m 0 (omega arith))
 
 pub main_screen-requires : goal.main_screen-requires
 main_screen-requires c = let g = good-shaped c.args.table.now c.requires.0 in omega arith
@@ -32,12 +32,12 @@ pub returns : goal.returns
 unfolding main_root_sound
 returns c =
     let a = c.args in
-    let l : length a.t2 ≡ 16 = search rules in
+    let l : length a.roots ≡ 16 = search rules in
     rw (
-      length-take-le a.n a.t2 (omega arith),
+      length-take-le a.n a.roots (omega arith),
       le-leb a.m a.n (omega arith),
       ne_eqb a.m 0 c.if-m-eq0.false,
       ← sub-one a.m,
-      get_or-take a.n a.t2 (a.m - 1) 0 (omega arith),
+      get_or-take a.n a.roots (a.m - 1) 0 (omega arith),
       c.main_screen.ensures,
     )

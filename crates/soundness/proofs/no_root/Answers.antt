@@ -18,23 +18,23 @@ pub returns-then-b-roots : goal.returns-then-b-roots
 unfolding other_root
 returns-then-b-roots c =
     let a = c.args in
-    let l : length a.t1 ≡ 16 = search rules in
+    let l : length a.roots ≡ 16 = search rules in
     let o = c.loop-i in
     let e = ap not (eq-eqb a.b _ c.if-b-roots.true) in
-    sym (o.invariant.1 ∙ all-take-fail (other_root a.b) a.t1 a.n (omega arith) o.i 0 (omega arith) e)
+    sym (o.invariant.1 ∙ all-take-fail (other_root a.b) a.roots a.n (omega arith) o.i 0 (omega arith) e)
 
 pub loop-i-preserved : goal.loop-i-preserved
 unfolding other_root
 loop-i-preserved c =
     let a = c.args in
-    let l : length a.t1 ≡ 16 = search rules in
+    let l : length a.roots ≡ 16 = search rules in
     let o = c.loop-i in
     let e = ap not (ne_eqb a.b _ c.if-b-roots.false) in
-    (omega arith, o.invariant.1 ∙ all-take-next (other_root a.b) a.t1 a.n (omega arith) o.i 0 (omega arith) e)
+    (omega arith, o.invariant.1 ∙ all-take-next (other_root a.b) a.roots a.n (omega arith) o.i 0 (omega arith) e)
 
 pub returns : goal.returns
 returns c =
     let a = c.args in
-    let l : length a.t1 ≡ 16 = search rules in
+    let l : length a.roots ≡ 16 = search rules in
     let o = c.loop-i in
-    sym (o.invariant.1 ∙ all-take-end (other_root a.b) a.t1 a.n (omega arith) o.i (omega arith))
+    sym (o.invariant.1 ∙ all-take-end (other_root a.b) a.roots a.n (omega arith) o.i (omega arith))

@@ -22,52 +22,52 @@ pub mode-mode-requires : goal.mode-mode-requires
 unfolding roots_known
 mode-mode-requires c =
     let a = c.args in
-    let l : length a.t2 ≡ 16 = search rules in
+    let l : length a.roots ≡ 16 = search rules in
     let tb = a.table.now in
     let i = c.loop-i.i in
     let g = good-shaped tb c.requires.0 in
-    let k : get_or a.t2 i 0 < size_of tb = ltb-true _ _
-    (all-take-at (λ x. ltb x (size_of tb)) a.t2 a.n (omega arith) i 0 (omega arith) c.requires.1.1) in
+    let k : get_or a.roots i 0 < size_of tb = ltb-true _ _
+    (all-take-at (λ x. ltb x (size_of tb)) a.roots a.n (omega arith) i 0 (omega arith) c.requires.1.1) in
     omega arith
 
 pub returns-then-not-no_root : goal.returns-then-not-no_root
 unfolding roots_once is_single_task is_single_instance
 returns-then-not-no_root c =
     let a = c.args in
-    let l : length a.t2 ≡ 16 = search rules in
+    let l : length a.roots ≡ 16 = search rules in
     let tb = a.table.now in
     let o = c.loop-i in
     let once = rw c.mode-mode.ensures at c.if-mode.true in
-    let e = differ-once tb (get_or a.t2 o.i 0) (drop (o.i + 1) (take a.n a.t2)) once
+    let e = differ-once tb (get_or a.roots o.i 0) (drop (o.i + 1) (take a.n a.roots)) once
     ∙ said-no c.no_root.ensures (ap not c.if-not-no_root.true) in
-    sym (o.invariant.1 ∙ pairwise-take-step (may_be_roots tb) a.t2 a.n (omega arith) o.i 0 (omega arith) ∙ rw e)
+    sym (o.invariant.1 ∙ pairwise-take-step (may_be_roots tb) a.roots a.n (omega arith) o.i 0 (omega arith) ∙ rw e)
 
 pub loop-i-preserved-else-not-no_root : goal.loop-i-preserved-else-not-no_root
 unfolding roots_once is_single_task is_single_instance
 loop-i-preserved-else-not-no_root c =
     let a = c.args in
-    let l : length a.t2 ≡ 16 = search rules in
+    let l : length a.roots ≡ 16 = search rules in
     let tb = a.table.now in
     let o = c.loop-i in
     let once = rw c.mode-mode.ensures at c.if-mode.true in
-    let e = differ-once tb (get_or a.t2 o.i 0) (drop (o.i + 1) (take a.n a.t2)) once
+    let e = differ-once tb (get_or a.roots o.i 0) (drop (o.i + 1) (take a.n a.roots)) once
     ∙ said-yes c.no_root.ensures (ap not c.if-not-no_root.false) in
-    (omega arith, o.invariant.1 ∙ pairwise-take-step (may_be_roots tb) a.t2 a.n (omega arith) o.i 0 (omega arith) ∙ rw e)
+    (omega arith, o.invariant.1 ∙ pairwise-take-step (may_be_roots tb) a.roots a.n (omega arith) o.i 0 (omega arith) ∙ rw e)
 
 pub loop-i-preserved : goal.loop-i-preserved
 unfolding roots_once is_single_task is_single_instance
 loop-i-preserved c =
     let a = c.args in
-    let l : length a.t2 ≡ 16 = search rules in
+    let l : length a.roots ≡ 16 = search rules in
     let tb = a.table.now in
     let o = c.loop-i in
     let often = rw c.mode-mode.ensures at c.if-mode.false in
-    let e = differ-often tb (get_or a.t2 o.i 0) (drop (o.i + 1) (take a.n a.t2)) often in
-    (omega arith, o.invariant.1 ∙ pairwise-take-step (may_be_roots tb) a.t2 a.n (omega arith) o.i 0 (omega arith) ∙ rw e)
+    let e = differ-often tb (get_or a.roots o.i 0) (drop (o.i + 1) (take a.n a.roots)) often in
+    (omega arith, o.invariant.1 ∙ pairwise-take-step (may_be_roots tb) a.roots a.n (omega arith) o.i 0 (omega arith) ∙ rw e)
 
 pub returns : goal.returns
 returns c =
     let a = c.args in
-    let l : length a.t2 ≡ 16 = search rules in
+    let l : length a.roots ≡ 16 = search rules in
     let o = c.loop-i in
-    sym (o.invariant.1 ∙ pairwise-take-end (may_be_roots a.table.now) a.t2 a.n (omega arith) o.i (omega arith))
+    sym (o.invariant.1 ∙ pairwise-take-end (may_be_roots a.table.now) a.roots a.n (omega arith) o.i (omega arith))

@@ -18,8 +18,8 @@ use Rattle.starts.proofs.Planning.{room, picks, closing-requires, plan-is}
 use Rattle.starts.proofs.accepted.Statement.{statement}
 use Rattle.starts.proofs.accepted.Tie as tie
 
-sizes : (c : tie.Start) → Sized c.args.self
-sizes c = sized c.args.self _ c.well_formed.0
+sizes : (c : tie.Start) → Sized c.args.s
+sizes c = sized c.args.s _ c.well_formed.0
 
 -- ---- what was chosen, under which table and with which flags
 
@@ -29,13 +29,13 @@ table c = c.requires.0
 abbrev flags : tie.Start → Flags
 flags c = c.requires.1.0
 
-startable : (c : tie.Start) → Startable (table c) c.args.self c.args.b
+startable : (c : tie.Start) → Startable (table c) c.args.s c.args.b
 startable c = c.requires.1.1.0
 
-plannable : (c : tie.Start) → Plannable (table c) c.args.self c.args.b (flags c) c.args.t c.args.chosen
+plannable : (c : tie.Start) → Plannable (table c) c.args.s c.args.b (flags c) c.args.t c.args.chosen
 plannable c = c.requires.1.1.1
 
-carriable : (c : tie.Start) → Carriable c.args.self c.args.chosen.effect c.args.chosen.place
+carriable : (c : tie.Start) → Carriable c.args.s c.args.chosen.effect c.args.chosen.place
 carriable c =
     let z = sizes c in
     let h = startable c in
@@ -44,23 +44,23 @@ carriable c =
 
 shift-of-requires : tie.Need-shift_of-shift-requires
 shift-of-requires c κs =
-    let start = c.before.before in placed start.args.self (sizes start) start.args.chosen.place start.args.chosen.effect (carriable start)
+    let start = c.before.before in placed start.args.s (sizes start) start.args.chosen.place start.args.chosen.effect (carriable start)
 
 count-after-requires : tie.Need-count_after-n-requires
 count-after-requires c κs =
     let start = c.before.before.before in
-    blank-few start.args.self (sound-blank (table start) start.args.self (startable start).ready.sound)
+    blank-few start.args.s (sound-blank (table start) start.args.s (startable start).ready.sound)
 
 main-after-requires : tie.Need-main_after-main-requires
 main-after-requires c κs =
     let start = c.before.before.before.before in
-    main-low start.args.self (sizes start) start.args.chosen.place start.args.chosen.effect (carriable start)
+    main-low start.args.s (sizes start) start.args.chosen.place start.args.chosen.effect (carriable start)
 
 top-requires : tie.Need-top-requires
 top-requires c κs =
     let start = c.before.before.before.before.before in
     let a = start.args in
-    task-filled (table start) a.t1 a.b (sizes start) (startable start) 0 (startable start).some
+    task-filled (table start) a.s a.b (sizes start) (startable start) 0 (startable start).some
 
 -- the task that the effect changes
 changeable : (c : tie.Start) → Changeable c.args.chosen.effect c.args.t
@@ -83,9 +83,9 @@ closing-plan-requires c κs =
     let count = marked.before.before.before in
     let closes = count.before.before in
     let start = closes.before.before in
-    closing-requires (sizes start) (startable start) (plannable start) closes.caller_closes-closes.result marked.before.top.ensures
+    closing-requires (sizes start) (startable start) (plannable start) closes.caller_closes-closes.result marked.top.ensures
     marked.mark_if-mark.ensures made.front_after-next.ensures count.count_after-n.ensures
-    made.before.place_for-topmost.ensures c.closed_by-closed.ensures
+    made.place_for-topmost.ensures c.closed_by-closed.ensures
 
 returns : tie.Need-returns
 returns c =
@@ -96,11 +96,11 @@ returns c =
     let closes = count.before.before in
     let start = closes.before.before in
     let is = plan.closing_plan-plan.ensures
-    ∙ plan-is (sizes start) (startable start) (plannable start) closes.caller_closes-closes.result marked.before.top.ensures
+    ∙ plan-is (sizes start) (startable start) (plannable start) closes.caller_closes-closes.result marked.top.ensures
     marked.mark_if-mark.ensures made.front_after-next.ensures count.count_after-n.ensures
-    made.before.place_for-topmost.ensures plan.before.closed_by-closed.ensures
-    count.before.Shift-of.ensures marked.before.before.main_after-main.ensures in
-    rw (c.created_by.ensures, c.before.no_history_after.ensures, is, closes.caller_closes-closes.ensures, plan.before.closed_by-closed.ensures, made.before.place_for-topmost.ensures)
+    made.place_for-topmost.ensures plan.closed_by-closed.ensures
+    count.Shift-of.ensures marked.main_after-main.ensures in
+    rw (c.created_by.ensures, c.no_history_after.ensures, is, closes.caller_closes-closes.ensures, plan.closed_by-closed.ensures, made.place_for-topmost.ensures)
 
 pub accepted_spec : {M : Type 1} → statement M
 accepted_spec =

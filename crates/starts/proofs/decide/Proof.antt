@@ -10,8 +10,8 @@ use Rattle.starts.proofs.decide.Tie as tie
 
 returns : tie.Need-returns-then-sought-ne0
 returns c =
-    let a = c.before.before.before.before.args in
-    c.without_rule.ensures ∙ ap (λ (p : Plan). without_rule p 0) c.before.still.ensures ∙ decided-refused a.sought.refusal a.s _ c.before.before.if-sought-ne0.true
+    let a = c.args in
+    c.without_rule.ensures ∙ ap (λ (p : Plan). without_rule p 0) c.still.ensures ∙ decided-refused a.sought.refusal a.s _ c.if-sought-ne0.true
 
 sizes : (c : tie.Start) → Sized c.args.s
 sizes c = sized c.args.s _ c.well_formed.0
@@ -25,26 +25,26 @@ choose-requires c κs =
 returns-2 : tie.Need-returns-then-chosen-ne0
 returns-2 c =
     let chose = c.before.before.before.before in
-    let a = chose.before.before.before.args in
-    rw chose.before.if-sought-ne0.false
-    (c.without_rule-then-chosen-ne0.ensures ∙ ap (λ (p : Plan). without_rule p 0) c.before.still-then-chosen-ne0.ensures
-    ∙ rw chose.choose-chosen.ensures (decided-refused (chosen_by a.b a.s a.t a.sought).refusal a.s _ (rw chose.choose-chosen.ensures at c.before.before.if-chosen-ne0.true)))
+    let a = chose.args in
+    rw chose.if-sought-ne0.false
+    (c.without_rule-then-chosen-ne0.ensures ∙ ap (λ (p : Plan). without_rule p 0) c.still-then-chosen-ne0.ensures
+    ∙ rw chose.choose-chosen.ensures (decided-refused (chosen_by a.b a.s a.t a.sought).refusal a.s _ (rw chose.choose-chosen.ensures at c.if-chosen-ne0.true)))
 
 accepted-requires : tie.Need-accepted-requires
 accepted-requires c κs =
     let chose = c.before.before in
     let start = chose.before.before.before in
-    let (tb, (f, (h, (s, task)))) = start.requires chose.before.if-sought-ne0.false in
+    let (tb, (f, (h, (s, task)))) = start.requires chose.if-sought-ne0.false in
     (tb, (f, (h, rw chose.choose-chosen.ensures (sought-plannable (sizes start) h s task (rw chose.choose-chosen.ensures at c.if-chosen-ne0.false)))))
 
 returns-3 : tie.Need-returns
 returns-3 c =
     let chose = c.before.before.before in
-    let a = chose.before.before.before.args in
+    let a = chose.args in
     let x = a.sought in
     c.accepted.ensures ∙ ap (accepted_by a.finishing x.noh x.found a.b a.s a.t) chose.choose-chosen.ensures
-    ∙ decided-passed (chosen_by a.b a.s a.t x).refusal a.s _ (rw chose.choose-chosen.ensures at c.before.if-chosen-ne0.false)
-    ∙ decided-passed x.refusal a.s _ chose.before.if-sought-ne0.false
+    ∙ decided-passed (chosen_by a.b a.s a.t x).refusal a.s _ (rw chose.choose-chosen.ensures at c.if-chosen-ne0.false)
+    ∙ decided-passed x.refusal a.s _ chose.if-sought-ne0.false
 
 pub decide_spec : {M : Type 1} → statement M
 decide_spec =

@@ -11,44 +11,44 @@ use Rattle.rules.proofs.Groups.{found-chosen, rule-chosen}
 use Rattle.starts.proofs.seek_task.Statement.{statement}
 use Rattle.starts.proofs.seek_task.Tie as tie
 
-sizes : (c : tie.Start) → Sized c.args.t2
-sizes c = sized c.args.t2 _ c.well_formed.1.0
+sizes : (c : tie.Start) → Sized c.args.s
+sizes c = sized c.args.s _ c.well_formed.1.0
 
 top-requires : tie.Need-top-requires
 top-requires c κs =
     let start = c.before.before in
     let a = start.args in
-    task-filled a.table.now a.t2 a.b (sizes start) start.requires 0 start.requires.some
+    task-filled a.table.now a.s a.b (sizes start) start.requires 0 start.requires.some
 
 group-of-requires : tie.Need-group_of-group-requires
 group-of-requires c κs =
     let start = c.before.before.before in
     let a = start.args in
-    (rw c.top.ensures (top-row a.table.now a.t2 a.b (sizes start) start.requires 0 start.requires.some), own_row a.table.now a.t2 a.b (sizes start) start.requires)
+    (rw c.top.ensures (top-row a.table.now a.s a.b (sizes start) start.requires 0 start.requires.some), own_row a.table.now a.s a.b (sizes start) start.requires)
 
 asks-of-requires : tie.Need-asks_of-asks-requires
 asks-of-requires c κs =
     let start = c.before.before.before.before in
     let a = start.args in
-    own_row a.table.now a.t2 a.b (sizes start) start.requires
+    own_row a.table.now a.s a.b (sizes start) start.requires
 
 sought-by-requires : tie.Need-sought_by-found-requires
-sought-by-requires c κs = c.before.before.before.before.before.requires
+sought-by-requires c κs = c.requires
 
 -- the group and the task found are the definition's
 group : (c : tie.After-group_of-group)
-    → let a = c.before.before.before.before.args in c.Group-of.result ≡ group_of a.table.now (view a.t2) a.b a.f
+    → let a = c.args in c.Group-of.result ≡ group_of a.table.now (view a.s) a.b a.f
 group c =
     let start = c.before.before.before.before in
-    c.Group-of.ensures _ (front-screen start.args.t2 start.requires.some ∙ sym c.before.top.ensures)
+    c.Group-of.ensures _ (front-screen start.args.s start.requires.some ∙ sym c.top.ensures)
 
 found : (c : tie.After-sought_by-found)
     → let group = c.before.before in
-    let a = group.before.before.before.before.args in
-    c.sought_by-found.result ≡ sought_by a.table.now (view a.t2) a.b a.f group.Group-of.result
+    let a = group.args in
+    c.sought_by-found.result ≡ sought_by a.table.now (view a.s) a.b a.f group.Group-of.result
 found c =
-    let a = c.before.before.before.before.before.before.args in
-    c.sought_by-found.ensures a.f (sym (ap (λ (x : Asks). x.new_task) c.before.asks_of-asks.ensures))
+    let a = c.args in
+    c.sought_by-found.ensures a.f (sym (ap (λ (x : Asks). x.new_task) c.asks_of-asks.ensures))
 
 returns : tie.Need-returns
 returns c =
@@ -59,13 +59,13 @@ returns c =
     let g = group asks.before in
     let t = found c.before in
     let i = c.index_of.ensures in
-    let stands = index-stands tb a.t2 a.b (sizes start) start.requires a.f _ t i in
+    let stands = index-stands tb a.s a.b (sizes start) start.requires a.f _ t i in
     record {
       refusal = refl;
-      found = found-chosen tb (view a.t2) a.b a.f g t;
+      found = found-chosen tb (view a.s) a.b a.f g t;
       index = i;
-      rule = rule-chosen tb (view a.t2) a.b a.f g t (task_behind a.t2 c.index_of.result) (stored-shows a.t2 c.before.sought_by-found.result i stands)
-          (view-main a.t2) asks.asks_of-asks.ensures;
+      rule = rule-chosen tb (view a.s) a.b a.f g t (task_behind a.s c.index_of.result) (stored-shows a.s c.sought_by-found.result i stands)
+          (view-main a.s) asks.asks_of-asks.ensures;
       noh = refl;
     }
 

@@ -21,24 +21,24 @@ loop-i-init c =
 pub keep-out-requires : goal.keep-out-requires
 keep-out-requires c =
     let a = c.args in
-    let z = sized a.t1 _ c.well_formed.0 in
+    let z = sized a.self _ c.well_formed.0 in
     let t = c.loop-i-test.true in
     let few = c.requires.steps in
-    let n = view-count a.t1.kept c.loop-i.i (omega arith) in
-    record { steps = omega (arith, n, held_steps c.loop-i.out _ c.loop-i.invariant.1); found = fits-at a.t1.kept a.steps z few c.loop-i.i _ t c.requires.kept }
+    let n = view-count a.self.kept c.loop-i.i (omega arith) in
+    record { steps = omega (arith, n, held_steps c.loop-i.out _ c.loop-i.invariant.1); found = fits-at a.self.kept a.steps z few c.loop-i.i _ t c.requires.kept }
 
 pub loop-i-preserved : goal.loop-i-preserved
 loop-i-preserved c =
     let a = c.args in
-    let z = sized a.t1 _ c.well_formed.0 in
+    let z = sized a.self _ c.well_formed.0 in
     let t = c.loop-i-test.true in
     let few = c.requires.steps in
-    let n = view-count a.t1.kept c.loop-i.i (omega arith) in
+    let n = view-count a.self.kept c.loop-i.i (omega arith) in
     let x = view_panels c.cleaned-out.result in (
       omega arith,
       c.keep-out.ensures
           ∙ keep-held c.loop-i.out _ _ c.loop-i.invariant.1 (omega (arith, n))
-          ∙ ap (λ (k : List (List ℕ)). hold (state x k)) (sym (view-next a.t1.kept c.loop-i.i _ (omega arith))),
+          ∙ ap (λ (k : List (List ℕ)). hold (state x k)) (sym (view-next a.self.kept c.loop-i.i _ (omega arith))),
     )
 
 pub returns : goal.returns

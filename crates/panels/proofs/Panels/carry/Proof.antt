@@ -26,31 +26,31 @@ loop-holds c =
     (omega arith, held-clean c.cleaned-out.result (view_panels a.self) c.cleaned-out.ensures (view-low a.self start.requires), refl)
 
 -- what the panels that the loop begins with show
-begun : (c : tie.After-cleaned-out invariant-loop decreases-loop) → view_panels c.cleaned-out.result ≡ view_panels c.before.before.args.self
-begun c = ap view_panels c.cleaned-out.ensures ∙ view-held (view_panels c.before.before.args.self)
+begun : (c : tie.After-cleaned-out invariant-loop decreases-loop) → view_panels c.cleaned-out.result ≡ view_panels c.args.self
+begun c = ap view_panels c.cleaned-out.ensures ∙ view-held (view_panels c.args.self)
 
 returns : tie.Need-returns-then-kind-out invariant-loop decreases-loop
 returns c =
     let l = c.before.before.before.before.before.before in
-    let o = l.before.before.before.args.operations.now in
-    let t = c.before.before.before.before.before.loop-i-test.true in
-    stops o l.loop-i.i _ l.loop-i.out l.loop-i.invariant.1 l.loop-i.invariant.2 c.none-none.result c.none-none.ensures (omega arith) c.before.if-kind-out.true
+    let o = l.args.operations.now in
+    let t = c.loop-i-test.true in
+    stops o l.loop-i.i _ l.loop-i.out l.loop-i.invariant.1 l.loop-i.invariant.2 c.none-none.result c.none-none.ensures (omega arith) c.if-kind-out.true
     ∙ ap (carried_or37 (operations_in o)) (begun l.before)
 
 -- an add finds room
 finds-room : (c : tie.Else-kind-out invariant-loop decreases-loop)
     → let l = c.before.before.before.before.before in
-    get_or l.before.before.before.args.operations.now (2 * l.loop-i.i) 0 ≡ 1 → l.loop-i.out.count < 8
-finds-room c = let l = c.before.before.before.before.before.loop-i in room _ l.out.count l.invariant.1.0 c.if-kind-out.false
+    get_or l.args.operations.now (2 * l.loop-i.i) 0 ≡ 1 → l.loop-i.out.count < 8
+finds-room c = let l = c.loop-i in room _ l.out.count l.invariant.1.0 c.if-kind-out.false
 
 operate-requires : tie.Need-operate-out-requires invariant-loop decreases-loop
-operate-requires c κs = (c.before.before.before.before.before.loop-i.invariant.1, finds-room c)
+operate-requires c κs = (c.loop-i.invariant.1, finds-room c)
 
 loop-again : tie.Need-loop-i-preserved invariant-loop decreases-loop
 loop-again c =
     let l = c.before.before.before.before.before.before in
-    let o = l.before.before.before.args.operations.now in
-    let t = c.before.before.before.before.before.loop-i-test.true in
+    let o = l.args.operations.now in
+    let t = c.loop-i-test.true in
     let r = c.operate-out.result in
     let e = c.operate-out.ensures in
     let f = finds-room c.before in (
@@ -62,7 +62,7 @@ loop-again c =
 returns-2 : tie.Need-returns invariant-loop decreases-loop
 returns-2 c =
     let l = c.before in
-    let o = l.before.before.before.args.operations.now in
+    let o = l.args.operations.now in
     let t = c.loop-i-test.false in
     ends o l.loop-i.i _ l.loop-i.out l.loop-i.invariant.1 l.loop-i.invariant.2 (omega arith) ∙ ap (carried_or37 (operations_in o)) (begun l.before)
 

@@ -18,28 +18,28 @@ pub push-out-requires : goal.push-out-requires
 push-out-requires c =
     let l = c.loop-i in
     let a = c.args in
-    let e : length a.t1.panels ≡ 8 = search rules in
-    other-room a.t1.panels l.i e (omega (arith, c.loop-i-test.true, c.requires)) a.p l.out l.invariant.2
+    let e : length a.self.panels ≡ 8 = search rules in
+    other-room a.self.panels l.i e (omega (arith, c.loop-i-test.true, c.requires)) a.p l.out l.invariant.2
 
 pub push-all-requires : goal.push-all-requires
 push-all-requires c =
     let l = c.loop-i in
     let a = c.args in
-    let e : length a.t1.panels ≡ 8 = search rules in
-    push-room a.t1.panels l.i e (omega (arith, c.loop-i-test.true, c.requires)) l.all l.invariant.1
+    let e : length a.self.panels ≡ 8 = search rules in
+    push-room a.self.panels l.i e (omega (arith, c.loop-i-test.true, c.requires)) l.all l.invariant.1
 
 pub loop-i-preserved : goal.loop-i-preserved
 loop-i-preserved c =
     let l = c.loop-i in
     let a = c.args in
-    let e : length a.t1.panels ≡ 8 = search rules in
+    let e : length a.self.panels ≡ 8 = search rules in
     let t = c.loop-i-test.true in
     let b : l.i < 8 = omega (arith, c.requires) in (
       omega arith,
-      c.push-all.ensures ∙ push-next a.t1.panels l.i e b l.all l.invariant.1,
+      c.push-all.ensures ∙ push-next a.self.panels l.i e b l.all l.invariant.1,
       ⊎_elim
-          (λ w. w.1 ∙ push-same a.t1.panels l.i e b a.p l.all l.invariant.1 w.0.true)
-          (λ w. w.2 ∙ w.1.ensures ∙ push-other a.t1.panels l.i e b a.p l.out l.invariant.2 (ne_eqb _ _ w.0.false))
+          (λ w. w.1 ∙ push-same a.self.panels l.i e b a.p l.all l.invariant.1 w.0.true)
+          (λ w. w.2 ∙ w.1.ensures ∙ push-other a.self.panels l.i e b a.p l.out l.invariant.2 (ne_eqb _ _ w.0.false))
           c.if-x-p.branch,
     )
 
@@ -48,5 +48,5 @@ unfolding view_panels
 returns c =
     let a = c.args in
     let l = c.loop-i in
-    let e : l.i ≡ a.t1.count = omega (arith, l.invariant.0, c.loop-i-test.false) in
-    l.invariant.2 ∙ ap (λ (j : ℕ). hold_panels (remove_topmost a.p (take j a.t1.panels))) e
+    let e : l.i ≡ a.self.count = omega (arith, l.invariant.0, c.loop-i-test.false) in
+    l.invariant.2 ∙ ap (λ (j : ℕ). hold_panels (remove_topmost a.p (take j a.self.panels))) e

@@ -26,11 +26,11 @@ element-copy-out-t c = let start = c.before.before in let few = blank-few start.
 
 more : (c : tie.After-wide-total invariant-loop decreases-loop)
     → let l = c.before.before.before in
-    Summed l.before.args.self (l.loop-i.total + (task_behind l.before.args.self l.loop-i.i).height) (l.loop-i.i + 1)
+    Summed l.args.self (l.loop-i.total + (task_behind l.args.self l.loop-i.i).height) (l.loop-i.i + 1)
 more c =
     let l = c.before.before.before in
     let start = l.before in
-    summed-more start.args.self (sizes start) start.requires l.loop-i.total l.loop-i.i l.loop-i.invariant c.before.before.loop-i-test.true
+    summed-more start.args.self (sizes start) start.requires l.loop-i.total l.loop-i.i l.loop-i.invariant c.loop-i-test.true
 
 add_total : tie.Need-overflow_add-total invariant-loop decreases-loop
 add_total c =
@@ -41,7 +41,7 @@ add_total c =
 returns : tie.Need-returns invariant-loop decreases-loop
 returns c =
     let start = c.before.before in
-    summed-all start.args.self (sizes start) start.requires c.before.loop-i.total c.before.loop-i.i c.before.loop-i.invariant (omega arith)
+    summed-all start.args.self (sizes start) start.requires c.loop-i.total c.loop-i.i c.loop-i.invariant (omega arith)
 
 pub standing_spec : {M : Type 1} → statement M
 standing_spec =

@@ -18,7 +18,7 @@ add-t8 c =
     let s = tally-sum start.args.self h.tally in
     let l = seen_most h in
     let e = wide.wide.ensures in
-    let f = wide.before.before.before.height_seen-seen.ensures in
+    let f = wide.height_seen-seen.ensures in
     let n = h.room in
     search rules
 
@@ -34,7 +34,7 @@ add-t9 c =
 sub-t10 : tie.Need-overflow_sub-result
 sub-t10 c =
     let one = c.before.before.before.before in
-    omega (arith, one.accepted_by-accepted.ensures, accepted-most one.before.before.args.refusal)
+    omega (arith, one.accepted_by-accepted.ensures, accepted-most one.args.refusal)
 
 add-t11 : tie.Need-overflow_add-result-3
 add-t11 c =
@@ -48,8 +48,8 @@ returns c =
     let one = wide.before.before in
     let start = one.before.before in
     let a = start.args in
-    let e = one.before.height_seen-seen.ensures in
-    rw (wide.before.larger-greatest.ensures, wide.wide.ensures) (with-answer a.self a.refusal a.height e one.accepted_by-accepted.ensures)
+    let e = one.height_seen-seen.ensures in
+    rw (wide.larger-greatest.ensures, wide.wide.ensures) (with-answer a.self a.refusal a.height e one.accepted_by-accepted.ensures)
 
 pub with_answer_spec : {M : Type 1} → statement M
 with_answer_spec =
