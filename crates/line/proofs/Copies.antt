@@ -31,4 +31,4 @@ module _ (out text part : List ℕ) (at : ℕ) where
   -- a text that fills the part behind a place
   pub copied-whole : part ≡ text → put_mid at (at + length text - at) out part ≡ written out at text
   unfolding written
-  copied-whole f = let k : at + length text - at ≡ length text = omega arith in rw (f, k, drop-drop (length text) at out) refl
+  copied-whole f = let k : at + length text - at ≡ length text = omega arith in rw (f, k, drop-drop (length text) at out) (sym (append_assoc (take at out) text (drop (at + length text) out)))

@@ -1,6 +1,6 @@
 -- No byte of a record that is not in the share; else all behind what is no part of it, which is there.
-use mathlib.Core.Path.{◌≡◌, sym, ◌∙◌}
-use mathlib.Core.Bool.{true}
+use mathlib.Core.Path.{◌≡◌, sym, ◌∙◌, ap}
+use mathlib.Core.Bool.{true, not}
 use native.Mathlib.Omega.{arith}
 use borrow.Author.Rules.{rules}
 use borrow.Author.Tests.{not-true, not-false}
@@ -12,11 +12,11 @@ use Rattle.endings.proofs.bytes_in.Tie as tie
 returns : tie.Need-returns-then-not-is_in
 returns c =
     let a = c.args in
-    bytes-none a.bytes.now a.share (sym c.is_in.ensures ∙ not-true _ c.if-not-is_in.true)
+    bytes-none a.bytes.now a.share (sym c.is_in.ensures ∙ not-true _ (ap not c.if-not-is_in.true))
 
 -- the record is in the share
 inside : (c : tie.Else-not-is_in) → let a = c.args in is_in a.share a.bytes.now ≡ true
-inside c = sym c.is_in.ensures ∙ not-false _ c.if-not-is_in.false
+inside c = sym c.is_in.ensures ∙ not-false _ (ap not c.if-not-is_in.false)
 
 sub-result : tie.Need-overflow_sub-result
 sub-result c =

@@ -1,6 +1,7 @@
 -- `image::read_tasks` meets its contract. The loop's invariant: i tasks were read from the first `at` bytes, and are stored.
+use mathlib.Core.Bool.{not}
 use Prim.Native.Nat.{◌-◌, ◌≤◌}
-use mathlib.Core.Path.{sym, ◌∙◌}
+use mathlib.Core.Path.{sym, ◌∙◌, ap}
 use native.Mathlib.Omega.{arith}
 use lib.ListN.{length}
 use borrow.Author.Rules.{rules}
@@ -33,7 +34,7 @@ returns-2 c =
     let w = c.wide-h in
     c.unreadable-then-not-fits.ensures
     ∙ begun-unfit here.invariant.1.1 c.loop-i-test.true (omega arith) w.result (sym w.ensures.0)
-    (not-true _ c.if-not-fits.true) a.main a.edition a.no_history
+    (not-true _ (ap not c.if-not-fits.true)) a.main a.edition a.no_history
 
 -- the task fits into what is left
 fitting : (c : tie.Else-not-fits invariant-loop decreases-loop)
@@ -41,7 +42,7 @@ fitting : (c : tie.Else-not-fits invariant-loop decreases-loop)
     let body = c.args.body.now in
     let at = c.loop-i.at in
     (1 ≤ h) × ((h ≤ 32) × (h ≤ length body - at - 2))
-fitting c = height-fits c.wide-h.result _ (not-false _ c.if-not-fits.false)
+fitting c = height-fits c.wide-h.result _ (not-false _ (ap not c.if-not-fits.false))
 
 loop-again : tie.Need-loop-i-preserved invariant-loop decreases-loop
 loop-again c =
@@ -51,7 +52,7 @@ loop-again c =
     let f = fitting c.before in
     let more =
     begun_more here.invariant.1.1 c.loop-i-test.true (omega arith) w.result (sym w.ensures.0)
-    start.requires (not-false _ c.if-not-fits.false) c.read_task.result c.read_task.ensures in
+    start.requires (not-false _ (ap not c.if-not-fits.false)) c.read_task.result c.read_task.ensures in
     (omega arith, (omega arith, more))
 
 returns-3 : tie.Need-returns-then-at-body invariant-loop decreases-loop

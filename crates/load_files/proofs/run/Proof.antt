@@ -56,7 +56,7 @@ slice-aggregate-give : tie.Need-slice_bounds-give-end invariant-loop decreases-l
 slice-aggregate-give c = sym (length-take-le _ _ (array-share-prefix-buffer c.before))
 
 returns : tie.Need-returns-then-not-give invariant-loop decreases-loop
-returns c = (λ e. sym (ap not (c.give.ensures e)) ∙ c.if-not-give.true, λ e. absurd (true≢false (sym e)))
+returns c = (λ e. sym (ap not (c.give.ensures e)) ∙ (ap not c.if-not-give.true), λ e. absurd (true≢false (sym e)))
 
 sub-left : tie.Need-overflow_sub-left invariant-loop decreases-loop
 sub-left c = let b = (block c.before.before.before.before).0 in omega arith

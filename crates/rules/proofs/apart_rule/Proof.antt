@@ -1,5 +1,5 @@
 -- `rules::apart_rule` meets its contract: the tests of R11 to R17 over what was read of the task found.
-use mathlib.Core.Path.{◌≡◌, sym, ◌∙◌}
+use mathlib.Core.Path.{◌≡◌, sym, ◌∙◌, ap}
 use mathlib.Core.Bool.{not, ◌&&◌}
 use lib.Dec.{eqb}
 use borrow.Author.Rules.{rules}
@@ -16,7 +16,7 @@ returns : tie.Need-returns-then-asks
 returns c = rw c.if-asks.true
 
 returns-2 : tie.Need-returns-then-not-is_found
-returns-2 c = rw (c.if-asks.false, ← c.is_found.ensures, c.if-not-is_found.true)
+returns-2 c = rw (c.if-asks.false, ← c.is_found.ensures, (ap not c.if-not-is_found.true))
 
 -- a task was found, and no new one is asked for
 found : (c : tie.Else-not-is_found)
@@ -25,7 +25,7 @@ found : (c : tie.Else-not-is_found)
     ≡ (if a.asks.ctk then Rule.R12 else if a.asks.ctp && holds a.b (view_task a.t).screens then Rule.R13 else if a.asks.ctp then Rule.R14 else
     if is_found_by_root a.found && not (eqb (place_of a.found) a.main) then Rule.R15 else
     if a.asks.single && eqb (top (view_task a.t)) a.b then Rule.R16 else Rule.R17)
-found c = rw (c.if-asks.false, ← c.is_found.ensures, c.if-not-is_found.false)
+found c = rw (c.if-asks.false, ← c.is_found.ensures, (ap not c.if-not-is_found.false))
 
 returns-3 : tie.Need-returns-then-asks-2
 returns-3 c = sym (found c.before ∙ rw c.if-asks-2.true)

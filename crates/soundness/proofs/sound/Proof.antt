@@ -1,9 +1,9 @@
 -- The places are tested four by four, then the roots read there. Each test is a part of what the definition comes to: a
 -- failed one refutes it, and the last three decide.
 use Prim.Native.Nat.{ℕ}
-use mathlib.Core.Path.{◌≡◌, sym, ◌∙◌}
+use mathlib.Core.Path.{◌≡◌, sym, ◌∙◌, ap}
 use mathlib.Core.Logic.{⊎_elim}
-use mathlib.Core.Bool.{true, ◌&&◌}
+use mathlib.Core.Bool.{true, ◌&&◌, not}
 use mathlib.Core.List.{List}
 use native.Mathlib.Omega.{arith}
 use lib.ListN.{length}
@@ -50,7 +50,7 @@ fourth c =
     (λ w. after-blanks b (omega arith) (omega arith) (said-yes w.5.ensures w.6.false) w.7) c.if-n-gt12.branch
 
 are-roots : (c : tie.Else-not-all_roots) → all is_root c.if-n-gt12.roots ≡ true
-are-roots c = said-yes c.all_roots.ensures c.if-not-all_roots.false
+are-roots c = said-yes c.all_roots.ensures (ap not c.if-not-all_roots.false)
 
 returns : tie.Need-returns-then-n-gt-TASKS
 returns c = sym (refuted _ (session-fits _ _) (λ f. omega arith))
@@ -60,20 +60,20 @@ returns c = sym (refuted _ (session-fits _ _) (λ f. omega arith))
 returns-2 : tie.Need-returns-then-not-blank_four
 returns-2 c =
     let test = c.before.before.before.before.before.before.before in
-    sym (blanks-fail (first test) (omega arith) (omega arith) (said-no c.blank_four.ensures c.if-not-blank_four.true))
+    sym (blanks-fail (first test) (omega arith) (omega arith) (said-no c.blank_four.ensures (ap not c.if-not-blank_four.true)))
 
 returns-3 : tie.Need-returns-then-not-blank_four-2
 returns-3 c =
     let test = c.before.before.before.before.before.before.before in
-    sym (blanks-fail (second test) (omega arith) (omega arith) (said-no c.blank_four-else-n-gt8.ensures c.if-not-blank_four-2.true))
+    sym (blanks-fail (second test) (omega arith) (omega arith) (said-no c.blank_four-else-n-gt8.ensures (ap not c.if-not-blank_four-2.true)))
 
 returns-4 : tie.Need-returns-then-not-blank_four-3
 returns-4 c =
     let test = c.before.before.before.before.before.before.before in
-    sym (blanks-fail (third test) (omega arith) (omega arith) (said-no c.blank_four-else-n-gt12.ensures c.if-not-blank_four-3.true))
+    sym (blanks-fail (third test) (omega arith) (omega arith) (said-no c.blank_four-else-n-gt12.ensures (ap not c.if-not-blank_four-3.true)))
 
 returns-5 : tie.Need-returns-then-not-all_roots
-returns-5 c = sym (roots-fail (fourth c.before.before) (said-no c.all_roots.ensures c.if-not-all_roots.true))
+returns-5 c = sym (roots-fail (fourth c.before.before) (said-no c.all_roots.ensures (ap not c.if-not-all_roots.true)))
 
 roots-differ-requires : tie.Need-roots_differ-requires
 roots-differ-requires c κs = let b = fourth c.before.before in (b.good, (b.few, read_known b (are-roots c)))
@@ -81,7 +81,7 @@ roots-differ-requires c κs = let b = fourth c.before.before in (b.good, (b.few,
 returns-6 : tie.Need-returns-then-not-roots_differ
 returns-6 c =
     let test = c.before.before in
-    let e = rw (roots-read (fourth test.before.before) (are-roots test)) at (said-no c.roots_differ.ensures c.if-not-roots_differ.true) in
+    let e = rw (roots-read (fourth test.before.before) (are-roots test)) at (said-no c.roots_differ.ensures (ap not c.if-not-roots_differ.true)) in
     sym (refuted _ (session-fits _ _) (λ f. contradiction f.pairs e))
 
 returns-7 : tie.Need-returns
@@ -91,7 +91,7 @@ returns-7 c =
     let b = fourth test.before.before in
     let y = are-roots test in
     let r = roots-read b y in
-    let p = rw r at (said-yes left.roots_differ.ensures left.if-not-roots_differ.false) in
+    let p = rw r at (said-yes left.roots_differ.ensures (ap not left.if-not-roots_differ.false)) in
     let main = c.main_sound.result in
     let edition = c.edition_sound.result in
     let m = rw r at c.main_sound.ensures in

@@ -1,7 +1,7 @@
 -- The checks, and the last step's panels brought back.
 use Prim.Native.Nat.{◌-◌}
-use mathlib.Core.Path.{◌≡◌, sym, ◌∙◌}
-use mathlib.Core.Bool.{true}
+use mathlib.Core.Path.{◌≡◌, sym, ◌∙◌, ap}
+use mathlib.Core.Bool.{true, not}
 use native.Mathlib.Omega.{arith}
 use borrow.Author.Rules.{rules}
 use borrow.Author.Tests.{not-true, not-false}
@@ -14,10 +14,10 @@ use Rattle.container.proofs.Container.back.Statement.{statement}
 use Rattle.container.proofs.Container.back.Tie as tie
 
 good : (c : tie.Else-not-good) → good_container c.args.self ≡ true
-good c = sym c.good2.ensures ∙ not-false _ c.if-not-good.false
+good c = sym c.good2.ensures ∙ not-false _ (ap not c.if-not-good.false)
 
 returns : tie.Need-returns-then-not-good
-returns c = (back-36 c.args.self (sym c.good2.ensures ∙ not-true _ c.if-not-good.true), (back-restores, keeps-promise))
+returns c = (back-36 c.args.self (sym c.good2.ensures ∙ not-true _ (ap not c.if-not-good.true)), (back-restores, keeps-promise))
 
 returns-2 : tie.Need-returns-then-steps-eq0
 returns-2 c =

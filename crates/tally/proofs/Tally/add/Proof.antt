@@ -1,5 +1,6 @@
 -- The step, and what is promised of tallies.
-use mathlib.Core.Path.{sym, ◌∙◌}
+use mathlib.Core.Bool.{not}
+use mathlib.Core.Path.{sym, ◌∙◌, ap}
 use borrow.Author.Rules.{rules}
 use borrow.Author.Tests.{not-true, not-false}
 use Rattle.tally.proofs.Steps.{added-taken, added-not}
@@ -11,10 +12,10 @@ use Rattle.tally.proofs.Tally.add.Tie as tie
 returns : tie.Need-returns-then-not-takes
 returns c =
     let a = c.args in
-    (added-not a.self a.refusal a.height (sym c.takes.ensures ∙ not-true _ c.if-not-takes.true), (knows-tallies, tallies-join))
+    (added-not a.self a.refusal a.height (sym c.takes.ensures ∙ not-true _ (ap not c.if-not-takes.true)), (knows-tallies, tallies-join))
 
 with-answer-requires : tie.Need-with_answer-tally-requires
-with-answer-requires c κs = sym c.takes.ensures ∙ not-false _ c.if-not-takes.false
+with-answer-requires c κs = sym c.takes.ensures ∙ not-false _ (ap not c.if-not-takes.false)
 
 returns-2 : tie.Need-returns
 returns-2 c =

@@ -1,6 +1,6 @@
 -- The four numbers or 31, and what is promised of reports.
-use mathlib.Core.Path.{◌≡◌, sym, ◌∙◌}
-use mathlib.Core.Bool.{true}
+use mathlib.Core.Path.{◌≡◌, sym, ◌∙◌, ap}
+use mathlib.Core.Bool.{true, not}
 use borrow.Author.Rules.{rules}
 use borrow.Author.Tests.{not-true, not-false}
 use Rattle.tally.specs.Tallies.{is_tally}
@@ -14,12 +14,12 @@ use Rattle.tally.proofs.Tally.report.Tie as tie
 
 returns : tie.Need-returns-then-not-is_tally
 returns c = (
-  reported-not c.args.self (sym c.is_tally.ensures ∙ not-true _ c.if-not-is_tally.true),
+  reported-not c.args.self (sym c.is_tally.ensures ∙ not-true _ (ap not c.if-not-is_tally.true)),
   (knows-tallies, (reports-lists, rounds-half-to-even)),
 )
 
 passed : (c : tie.Else-not-is_tally) → is_tally c.args.self ≡ true
-passed c = sym c.is_tally.ensures ∙ not-false _ c.if-not-is_tally.false
+passed c = sym c.is_tally.ensures ∙ not-false _ (ap not c.if-not-is_tally.false)
 
 tenths-requires : tie.Need-tenths-mean-requires
 tenths-requires c κs =
