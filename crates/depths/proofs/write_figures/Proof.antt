@@ -30,8 +30,8 @@ returns-2 c =
     let e = figures-three x (omega (arith, if2.if-x-lt256.false)) if2.if-x-lt1000.true in
     let w = wrote 4 (rw digits.last_digit.ensures at p.write_decimal-last.ensures) in
     let b = p.write_decimal-last.ensures.bound in
-    let k = p.write_decimal-last.auto.0 in
-    let one = wrote_one p.write_decimal-last.new.0 p.write_decimal-last.result a.end (omega (arith, start.requires)) in
+    let k = p.write_decimal-last.auto.out in
+    let one = wrote_one p.write_decimal-last.new.out p.write_decimal-last.result a.end (omega (arith, start.requires)) in
     let all : Wrote a.out.now a.at ((decimal (x / 10) ++ digit (x % 10) ∷ []) ++ a.end ∷ []) _ _ =
     wrote-append w (omega (arith, start.requires)) one in
     (rw e all.place, (rw e all.text, omega arith))
@@ -45,10 +45,10 @@ Most = tie.After-write_decimal-tens
 abbrev begun : Most → tie.Start
 begun c = c.before.before.before.before.before.before
 
-room : (c : Most) → (c.write_decimal-tens.result + 3 ≤ length c.write_decimal-tens.new.0) × (c.write_decimal-tens.result ≤ length (begun c).args.out.now)
+room : (c : Most) → (c.write_decimal-tens.result + 3 ≤ length c.write_decimal-tens.new.out) × (c.write_decimal-tens.result ≤ length (begun c).args.out.now)
 room c =
     let b = c.write_decimal-tens.ensures.bound in
-    let k = c.write_decimal-tens.auto.0 in
+    let k = c.write_decimal-tens.auto.out in
     let h = (begun c).requires in
     (omega arith, omega arith)
 
@@ -70,7 +70,7 @@ returns-3 c =
     let r = room p in
     let b = p.write_decimal-tens.ensures.bound in
     let w = wrote 4 (rw digits.last_digit-2.ensures at p.write_decimal-tens.ensures) in
-    let three = wrote-three p.write_decimal-tens.new.0 p.write_decimal-tens.result (digit (x / 10 % 10)) (digit (x % 10)) a.end r.0 in
+    let three = wrote-three p.write_decimal-tens.new.out p.write_decimal-tens.result (digit (x / 10 % 10)) (digit (x % 10)) a.end r.0 in
     let all = wrote-append w r.1 three in
     (rw e all.place, (rw (e, tens.last_digit-3.ensures, c.last_digit-4.ensures) all.text, omega arith))
 

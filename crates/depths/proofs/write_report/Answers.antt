@@ -23,7 +23,7 @@ returns c =
     let second = figures r.refused ++ space ∷ third in
     let text : Wrote c.args.out.now 0 (figures r.accepted ++ space ∷ second) c.write_figures.new.out c.write_figures.result =
     figures-then r.accepted space second (wrote 7 (c.write_figures-refused.ensures.place, (c.write_figures-refused.ensures.text, c.write_figures-refused.ensures.bound))) (omega (arith, c.requires)) (
-    figures-then r.refused space third (wrote 7 (c.write_figures-greatest.ensures.place, (c.write_figures-greatest.ensures.text, c.write_figures-greatest.ensures.bound))) (omega (arith, c.requires, c.write_figures-refused.auto.0)) (
-    figures-then r.greatest space last (wrote 7 (c.write_figures-tenths.ensures.place, (c.write_figures-tenths.ensures.text, c.write_figures-tenths.ensures.bound))) (omega (arith, c.requires, c.write_figures-refused.auto.0, c.write_figures-greatest.auto.0))
+    figures-then r.refused space third (wrote 7 (c.write_figures-greatest.ensures.place, (c.write_figures-greatest.ensures.text, c.write_figures-greatest.ensures.bound))) (omega (arith, c.requires, c.write_figures-refused.auto.out)) (
+    figures-then r.greatest space last (wrote 7 (c.write_figures-tenths.ensures.place, (c.write_figures-tenths.ensures.text, c.write_figures-tenths.ensures.bound))) (omega (arith, c.requires, c.write_figures-refused.auto.out, c.write_figures-greatest.auto.out))
     (wrote 7 (c.write_figures.ensures.place, (c.write_figures.ensures.text, c.write_figures.ensures.bound))))) in
     record { length = text.place ∙ zero-add _; text = text.text; bound = omega arith }

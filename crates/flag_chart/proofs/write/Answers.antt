@@ -25,7 +25,7 @@ loop-i-preserved c =
     let bound = c.write_decimal-at.ensures.bound in (
       omega arith,
       omega arith,
-      c.write_decimal-at.auto.0 ∙ inv.2,
+      c.write_decimal-at.auto.out ∙ inv.2,
       lines_more c.loop-i.i inv.3 (omega (arith, c.requires))
           (rw c.entry.ensures.entry at (wrote 4 (c.write_decimal-at.ensures.place, (c.write_decimal-at.ensures.text, c.write_decimal-at.ensures.bound)))),
     )

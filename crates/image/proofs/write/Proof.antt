@@ -76,7 +76,7 @@ returns c =
     let d = start.args.out.now in
     let end = c.write_trailer in
     let all : here.loop-i.i ≡ s.n = omega arith in
-    let w : Wrote d 0 (image (view s)) end.new.0 end.result =
+    let w : Wrote d 0 (image (view s)) end.new.out end.result =
     image-wrote s (sized s _ start.well_formed.0) start.requires.0.blank here.loop-i.i all here.loop-i.invariant.1.1.1 (omega (arith, fits here))
     c.main_byte.ensures (record { place = end.ensures.0; text = end.ensures.1 }) in
     (w.place ∙ zero-add (length (image (view s))), w.text ∙ written_start d (image (view s)))
@@ -88,4 +88,4 @@ write_spec =
     invariant-loop decreases-loop (λ c. search rules) loop-holds (λ c. search rules) (λ c. search rules) write-task-requires
     (λ c. search rules) (λ c. search rules) loop-again
     (λ c κs. let w = c.requires.0 in (w.main, w.mark)) write-trailer-requires
-    (λ c. c.write_trailer.auto.0 ∙ kept c.before.before.before.before.before.before) returns)
+    (λ c. c.write_trailer.auto.out ∙ kept c.before.before.before.before.before.before) returns)

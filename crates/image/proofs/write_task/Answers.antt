@@ -14,7 +14,7 @@ pub bounds-out-at-2 : goal.bounds-out-at-2
 bounds-out-at-2 c = simp length-set (omega arith)
 
 pub shape_of-out : goal.shape_of-out
-shape_of-out c = c.write_screens.auto.0 ∙ simp length-set
+shape_of-out c = c.write_screens.auto.out ∙ simp length-set
 
 pub returns : goal.returns
 unfolding view_task
