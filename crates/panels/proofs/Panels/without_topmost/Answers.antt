@@ -10,6 +10,7 @@ use Rattle.panels.specs.Operations.{remove_topmost}
 use Rattle.panels.specs.Stored.{hold_panels, view_panels}
 use Rattle.panels.proofs.PanelLaws.{none-held, none-removed, push-room, push-next, push-same, other-room, push-other}
 use Rattle.panels.proofs.Panels.without_topmost.Goals as goal
+use Rattle.panels.proofs.Panels.without_topmost.Goals.{then-x-p, else-x-p}
 
 pub loop-i-init : goal.loop-i-init
 loop-i-init c = (omega arith, c.none-all.ensures ∙ none-held, c.none-out.ensures ∙ none-removed _)
@@ -37,10 +38,10 @@ loop-i-preserved c =
     let b : l.i < 8 = omega (arith, c.requires) in (
       omega arith,
       c.push-all.ensures ∙ push-next a.self.panels l.i e b l.all l.invariant.1,
-      ⊎_elim
-          (λ w. w.1 ∙ push-same a.self.panels l.i e b a.p l.all l.invariant.1 w.0.true)
-          (λ w. w.2 ∙ w.1.ensures ∙ push-other a.self.panels l.i e b a.p l.out l.invariant.2 (ne_eqb _ _ w.0.false))
-          c.if-x-p.branch,
+      elim c.if-x-p.branch [
+        then-x-p w ↦ w.out-is ∙ push-same a.self.panels l.i e b a.p l.all l.invariant.1 w.if-x-p.true
+        | else-x-p w ↦ w.out-is ∙ w.push-out.ensures ∙ push-other a.self.panels l.i e b a.p l.out l.invariant.2 (ne_eqb _ _ w.if-x-p.false)
+      ],
     )
 
 pub returns : goal.returns
