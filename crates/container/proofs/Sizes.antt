@@ -13,4 +13,4 @@ use Rattle.container.proofs.Container.TheLaws as C'
 pub sized : (c : Container) (vs : List Val) → Is C.the_row c vs → length c.kept ≡ 8
 sized c vs p =
     let f = (StructLaws.owed C.the_type C'.the_laws c vs p).1.1.0 in
-    sym (length-map c.kept (P.the_field).into) ∙ f.1.0.1
+    f.1.0.1

@@ -4,9 +4,6 @@ use mathlib.Core.Path.{◌≡◌, refl, sym}
 use mathlib.Core.Bool.{true}
 use mathlib.Core.List.{[], ◌∷◌}
 use native.Mathlib.Omega.{arith}
-use denote.Enum.Declared.{tag_of}
-use types.Run.{OneOf}
-use Rattle.model.specs.contracts.Change as C
 use Rattle.model.specs.declared.Change.{Change}
 use Rattle.model.specs.declared.Effect.{Effect}
 use Rattle.model.specs.Session.{most_height}
@@ -18,25 +15,25 @@ use Rattle.session.proofs.Known.{Screens32}
 use Rattle.session.proofs.TaskLaws.{hold-pushed}
 use Rattle.effects.specs.Carriable.{HasRoom, Alterable, Changeable}
 use Rattle.effects.specs.Fronted.{base_of, changed_task, change_of, root_after, front_after}
-use Rattle.effects.proofs.Tags.{of-change}
+use Rattle.effects.proofs.Tags.{OneOf, of-change}
 use Rattle.effects.proofs.Changes.{blank-height, push-is}
 
 module _ (t : Task) where
-  pub base_kept : (c : Change) → OneOf (0 ∷ 2 ∷ 3 ∷ 4 ∷ []) (tag_of C.the_type c) → t ≡ base_of c t
-  base_kept c = of-change (λ d. t ≡ base_of d t) c (0 ∷ 2 ∷ 3 ∷ 4 ∷ []) (refl, (refl, (refl, (refl, tt))))
+  pub base_kept : (c : Change) → OneOf (Change.Keep ∷ Change.Clear ∷ Change.Lift ∷ Change.Push ∷ []) c → t ≡ base_of c t
+  base_kept c = of-change (λ d. t ≡ base_of d t) c (Change.Keep ∷ Change.Clear ∷ Change.Lift ∷ Change.Push ∷ []) (refl, (refl, (refl, (refl, tt))))
 
   -- a renewal and a push
-  module _ (l : Screens32 t) (c : Change) (k : OneOf (1 ∷ 4 ∷ []) (tag_of C.the_type c)) where
+  module _ (l : Screens32 t) (c : Change) (k : OneOf (Change.Renew ∷ Change.Push ∷ []) c) where
     pub base-low : Alterable c t → (base_of c t).height < most_height
     unfolding hold_task
     base-low =
-        of-change (λ d. Alterable d t → (base_of d t).height < most_height) c (1 ∷ 4 ∷ [])
+        of-change (λ d. Alterable d t → (base_of d t).height < most_height) c (Change.Renew ∷ Change.Push ∷ [])
         (λ h. omega arith, (λ h. let e = blank-height t l h.0 in omega (arith, h.1), tt)) k
 
     pub base-pushed : (b : ℕ) → Alterable c t → pushed (base_of c t) b ≡ changed_task b c t
     unfolding changed
     base-pushed b =
-        of-change (λ d. Alterable d t → pushed (base_of d t) b ≡ changed_task b d t) c (1 ∷ 4 ∷ [])
+        of-change (λ d. Alterable d t → pushed (base_of d t) b ≡ changed_task b d t) c (Change.Renew ∷ Change.Push ∷ [])
         (λ h. sym (hold-pushed t.root b [] (omega arith)), (λ h. sym (push-is t l h.0 b h.1), tt)) k
 
   -- ---- effects

@@ -253,6 +253,7 @@ pub fn main_after(effect: Effect, place: u8, main: u8) -> u8
 // ---- screens created
 
 // How many screens a change creates: one by a push, also by that onto an emptied task.
+#[tactic(auto, unfolding(model::specs::Counts::created_in))]
 fn created_in(change: Change) -> u8
     ensures { result ≡ created_in change }
 {

@@ -1,4 +1,3 @@
-pub mod Tags
 pub mod Tasks
 pub mod Groups
 pub mod Rooms

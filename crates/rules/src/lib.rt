@@ -75,6 +75,7 @@ fn reordered(edition: u8, main: u8) -> Change
 }
 
 // What a rule does in an edition, where the main place is so.
+#[tactic(auto, unfolding(model::specs::Effects::effect_of))]
 pub fn effect_of(rule: Rule, edition: u8, main: u8) -> Effect
     ensures { result ≡ effect_of edition main rule }
 {

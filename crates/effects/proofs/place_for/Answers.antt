@@ -15,4 +15,4 @@ place_in-requires c =
 pub returns : goal.returns
 returns c =
     let a = c.args in
-    c.IsPlace-in.ensures ∙ ap (λ (x : Change). place_in a.b x a.t) c.change_of.ensures
+    c.place_in.ensures ∙ ap (λ (x : Change). place_in a.b x a.t) c.change_of.ensures

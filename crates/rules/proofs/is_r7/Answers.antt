@@ -3,4 +3,4 @@ use borrow.Author.Rules.{rules}
 use Rattle.rules.proofs.is_r7.Goals as goal
 
 pub returns : goal.returns
-returns c = rw c.number_of_lem.ensures
+returns c = rw c.number_of.ensures

@@ -14,10 +14,10 @@ use Rattle.container.proofs.Container.back.Statement.{statement}
 use Rattle.container.proofs.Container.back.Tie as tie
 
 good : (c : tie.Else-not-good) → good_container c.args.self ≡ true
-good c = sym c.good2.ensures ∙ not-false _ (ap not c.if-not-good.false)
+good c = sym c.good.ensures ∙ not-false _ (ap not c.if-not-good.false)
 
 returns : tie.Need-returns-then-not-good
-returns c = (back-36 c.args.self (sym c.good2.ensures ∙ not-true _ (ap not c.if-not-good.true)), (back-restores, keeps-promise))
+returns c = (back-36 c.args.self (sym c.good.ensures ∙ not-true _ (ap not c.if-not-good.true)), (back-restores, keeps-promise))
 
 returns-2 : tie.Need-returns-then-steps-eq0
 returns-2 c =

@@ -16,10 +16,10 @@ use Rattle.container.proofs.Container.step.Statement.{statement}
 use Rattle.container.proofs.Container.step.Tie as tie
 
 -- the code's test for 36
-tested : (c : tie.After-good2)
+tested : (c : tie.After-good)
     → let a = c.args in
-    (not c.good_operations.result || not c.good2.result) ≡ bad a.operations.now a.self
-tested c = rw (c.good_operations.ensures, c.good2.ensures)
+    (not c.good_operations.result || not c.good.result) ≡ bad a.operations.now a.self
+tested c = rw (c.good_operations.ensures, c.good.ensures)
 
 passed : (c : tie.Else-good_operations-good) → let a = c.args in bad a.operations.now a.self ≡ false
 passed c = sym (tested c.before) ∙ c.if-good_operations-good.false
