@@ -34,20 +34,20 @@ first c =
 second : (c : tie.Joined-n-gt4) → Known c.before c.if-n-gt4.roots 8
 second c =
     let b = first c.before in
-    ⊎_elim (λ w. after-four b (omega arith) (w.6 ∙ w.5.ensures))
-    (λ w. after-blanks b (omega arith) (omega arith) (said-yes w.5.ensures w.6.false) w.7) c.if-n-gt4.branch
+    ⊎_elim (λ w. after-four b (omega arith) (w.roots-is ∙ w.four_roots-next.ensures))
+    (λ w. after-blanks b (omega arith) (omega arith) (said-yes w.blank_four.ensures (ap not w.if-not-blank_four.false)) w.roots-is) c.if-n-gt4.branch-raw
 
 third : (c : tie.Joined-n-gt8) → Known c.before.before c.if-n-gt8.roots 12
 third c =
     let b = second c.before in
-    ⊎_elim (λ w. after-four b (omega arith) (w.6 ∙ w.5.ensures))
-    (λ w. after-blanks b (omega arith) (omega arith) (said-yes w.5.ensures w.6.false) w.7) c.if-n-gt8.branch
+    ⊎_elim (λ w. after-four b (omega arith) (w.roots-is ∙ w.four_roots-next-then-n-gt8.ensures))
+    (λ w. after-blanks b (omega arith) (omega arith) (said-yes w.blank_four-else-n-gt8.ensures (ap not w.if-not-blank_four-2.false)) w.roots-is) c.if-n-gt8.branch-raw
 
 fourth : (c : tie.Joined-n-gt12) → Known c.before.before.before c.if-n-gt12.roots 16
 fourth c =
     let b = third c.before in
-    ⊎_elim (λ w. after-four b (omega arith) (w.6 ∙ w.5.ensures))
-    (λ w. after-blanks b (omega arith) (omega arith) (said-yes w.5.ensures w.6.false) w.7) c.if-n-gt12.branch
+    ⊎_elim (λ w. after-four b (omega arith) (w.roots-is ∙ w.four_roots-next-then-n-gt12.ensures))
+    (λ w. after-blanks b (omega arith) (omega arith) (said-yes w.blank_four-else-n-gt12.ensures (ap not w.if-not-blank_four-3.false)) w.roots-is) c.if-n-gt12.branch-raw
 
 are-roots : (c : tie.Else-not-all_roots) → all is_root c.if-n-gt12.roots ≡ true
 are-roots c = said-yes c.all_roots.ensures (ap not c.if-not-all_roots.false)
