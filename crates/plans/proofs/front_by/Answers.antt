@@ -8,14 +8,12 @@ use Rattle.plans.proofs.front_by.Goals as goal
 
 pub without_screen-requires : goal.without_screen-requires
 without_screen-requires c =
-    let m = c.mark-1.given in
-    let k = eqb-true m.0.0 0 (and_left _ _ c.if-k-gone.true) in
-    c.requires _ (m.1 ∙ ap (λ k. Mark.Stands k m.0.1.0) k)
+    let k = eqb-true c.in-Stands.k 0 (and_left _ _ c.if-k-gone.true) in
+    c.requires _ (c.in-Stands.is ∙ ap (λ k. Mark.Stands k c.in-Stands.i) k)
 
 pub returns-then-k-gone : goal.returns-then-k-gone
 returns-then-k-gone c =
-    let m = c.mark-1.given in
-    c.without_screen.ensures ∙ sym (rw (m.1, c.if-k-gone.true))
+    c.without_screen.ensures ∙ sym (rw (c.in-Stands.is, c.if-k-gone.true))
 
 pub returns-else-k-gone : goal.returns-else-k-gone
 returns-else-k-gone c = rw (c.in-Stands.is, c.if-k-gone.false)
