@@ -6,4 +6,4 @@ pub returns-then-shared-ne0 : goal.returns-then-shared-ne0
 returns-then-shared-ne0 c = or-first c.args.shared _ c.if-shared-ne0.true
 
 pub returns : goal.returns
-returns c = let a = c.args in or-second a.shared a.own_val c.if-shared-ne0.false
+returns c = let a = c.args in or-second a.shared a.own c.if-shared-ne0.false

@@ -24,10 +24,10 @@ gives c =
     rw c.decide_start-decided.ensures (start_gives a.table.now a.s (sized a.s _ start.well_formed.1.0) a.b a.word false a.shared start.requires)
 
 answer-of-requires : tie.Need-answer_of-requires
-answer-of-requires c κs = (gives c.before).showable
+answer-of-requires c κs = (gives c.before.before).showable
 
 returns : tie.Need-returns
-returns c = c.answer_of.ensures ∙ ap (λ (r : Reply). r.answer) (gives c.before.before).gives
+returns c = c.answer_of.ensures ∙ ap (λ (r : Reply). r.answer) (gives c.before.before.before).gives
 
 pub start_answer_spec : {M : Type 1} → statement M
 start_answer_spec = tie.close (tie.spec decide-start-requires (λ c. search rules) answer-of-requires returns)

@@ -19,14 +19,14 @@ pub first_difference-requires : goal.first_difference-requires
 first_difference-requires c =
     let end = c.table_end-end in
     let t = table-part c.args.first.now end.result end.ensures.length in
-    rw t (c.Ending-of.ensures.1, rw c.requires.1 c.ending_of-t.ensures.sound)
+    rw t (c.ending_of-s.ensures.1, rw c.requires.1 c.ending_of-t.ensures.sound)
 
 pub returns : goal.returns
 returns c =
     let a = c.args in
     let end = c.table_end-end in
     let t = table-part a.first.now end.result end.ensures.length in
-    let s = c.Ending-of in
+    let s = c.ending_of-s in
     let u = c.ending_of-t in
     let f : view s.result ≡ ending_of a.first.now = ap view s.ensures.0 ∙ view-hold (ending_of a.first.now) in
     let g : view u.result ≡ ending_of a.second.now = ap view u.ensures.session ∙ view-hold (ending_of a.second.now) in

@@ -47,11 +47,11 @@ here c = c.before.before.before
 abbrev bytes_of : tie.After-call_length invariant-loop decreases-loop → List ℕ
 bytes_of c = (here c).args.input.now
 
-long : (c : tie.After-call_length invariant-loop decreases-loop) → c.Call-length.result ≡ call_length (drop (here c).loop-p.p (bytes_of c))
-long c = rw (part-rest (here c).loop-p.p (bytes_of c)) at c.Call-length.ensures
+long : (c : tie.After-call_length invariant-loop decreases-loop) → c.call_length.result ≡ call_length (drop (here c).loop-p.p (bytes_of c))
+long c = rw (part-rest (here c).loop-p.p (bytes_of c)) at c.call_length.ensures
 
 fits : (c : tie.After-call_length invariant-loop decreases-loop)
-    → (0 < c.Call-length.result) × ((here c).loop-p.p + c.Call-length.result ≤ length (bytes_of c))
+    → (0 < c.call_length.result) × ((here c).loop-p.p + c.call_length.result ≤ length (bytes_of c))
 fits c =
     let l = bytes_of c in
     let p = (here c).loop-p.p in
@@ -64,7 +64,7 @@ fits c =
 is-in-requires : tie.Need-is_in-requires invariant-loop decreases-loop
 is-in-requires c κs =
     let call = c.before in
-    let l = part_length (here call).loop-p.p call.Call-length.result (bytes_of call) (fits call).1 in
+    let l = part_length (here call).loop-p.p call.call_length.result (bytes_of call) (fits call).1 in
     omega (arith, (fits call).0)
 
 noted-requires : tie.Need-noted-met-requires invariant-loop decreases-loop
@@ -79,17 +79,17 @@ noted-requires c κs =
 bytes-in-requires : tie.Need-bytes_in-bytes-requires invariant-loop decreases-loop
 bytes-in-requires c κs =
     let call = c.before.before.before.before in
-    let l = part_length (here call).loop-p.p call.Call-length.result (bytes_of call) (fits call).1 in
+    let l = part_length (here call).loop-p.p call.call_length.result (bytes_of call) (fits call).1 in
     omega (arith, (fits call).0)
 
 -- the bytes so far
 summed : (c : tie.After-bytes_in-bytes invariant-loop decreases-loop)
     → let call = c.before.before.before.before.before in
-    (here call).loop-p.bytes + c.bytes_in-bytes.result ≤ (here call).loop-p.p + call.Call-length.result
+    (here call).loop-p.bytes + c.bytes_in-bytes.result ≤ (here call).loop-p.p + call.call_length.result
 summed c =
     let call = c.before.before.before.before.before in
-    let l = part_length (here call).loop-p.p call.Call-length.result (bytes_of call) (fits call).1 in
-    let few = bytes-few (mid_of (here call).loop-p.p ((here call).loop-p.p + call.Call-length.result - (here call).loop-p.p) (bytes_of call)) (here call).args.share in
+    let l = part_length (here call).loop-p.p call.call_length.result (bytes_of call) (fits call).1 in
+    let few = bytes-few (mid_of (here call).loop-p.p ((here call).loop-p.p + call.call_length.result - (here call).loop-p.p) (bytes_of call)) (here call).args.share in
     let sum = (here call).loop-p.invariant.sum in
     omega (arith, c.bytes_in-bytes.ensures)
 
@@ -108,7 +108,7 @@ loop-again c =
     let loop = (here call).loop-p in
     let share = (here call).args.share in
     let l = bytes_of call in
-    let k = call.Call-length.result in
+    let k = call.call_length.result in
     let is = tested.is_in.ensures ∙ ap (is_in share) (part loop.p k l) in
     passed-more loop.invariant call.loop-p-test.true {k = k} (long call)
     (noted.noted-met.ensures ∙ ap (λ (b : Bool). noted_at loop.met b loop.i) is)

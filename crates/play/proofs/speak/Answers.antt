@@ -36,7 +36,7 @@ returns-in-Lines c =
 pub returns-in-Reasons : goal.returns-in-Reasons
 returns-in-Reasons c =
     let e = (c.write_record-end.ensures.place, (c.write_record-end.ensures.text, c.write_record-end.ensures.bound)) in
-    let words = c.in_words_lem in
+    let words = c.in_words in
     let a = c.args in
     let x = reason_made a.decided in
     let k = tells-reasons a.manner c.in-Reasons.is in

@@ -16,4 +16,4 @@ returns-then-plan-ne0 c = c.none.ensures ∙ refused _ _ _ _ c.if-plan-ne0.true
 
 pub returns : goal.returns
 returns c =
-    rw (c.if-plan-ne0.false, c.number_of_lem.ensures, c.place_of.ensures, c.how_found.ensures)
+    rw (c.if-plan-ne0.false, c.number_of.ensures, c.place_of.ensures, c.how_found.ensures)

@@ -99,7 +99,7 @@ returns c =
     ∙ plan-is (sizes start) (startable start) (plannable start) closes.caller_closes-closes.result marked.top.ensures
     marked.mark_if-mark.ensures made.front_after-next.ensures count.count_after-n.ensures
     made.place_for-topmost.ensures plan.closed_by-closed.ensures
-    count.Shift-of.ensures marked.main_after-main.ensures in
+    count.shift_of-shift.ensures marked.main_after-main.ensures in
     rw (c.created_by.ensures, c.no_history_after.ensures, is, closes.caller_closes-closes.ensures, plan.closed_by-closed.ensures, made.place_for-topmost.ensures)
 
 pub accepted_spec : {M : Type 1} → statement M

@@ -37,15 +37,15 @@ sought-by-requires c κs = c.requires
 
 -- the group and the task found are the definition's
 group : (c : tie.After-group_of-group)
-    → let a = c.args in c.Group-of.result ≡ group_of a.table.now (view a.s) a.b a.f
+    → let a = c.args in c.group_of-group.result ≡ group_of a.table.now (view a.s) a.b a.f
 group c =
     let start = c.before.before.before.before in
-    c.Group-of.ensures _ (front-screen start.args.s start.requires.some ∙ sym c.top.ensures)
+    c.group_of-group.ensures _ (front-screen start.args.s start.requires.some ∙ sym c.top.ensures)
 
 found : (c : tie.After-sought_by-found)
     → let group = c.before.before in
     let a = group.args in
-    c.sought_by-found.result ≡ sought_by a.table.now (view a.s) a.b a.f group.Group-of.result
+    c.sought_by-found.result ≡ sought_by a.table.now (view a.s) a.b a.f group.group_of-group.result
 found c =
     let a = c.args in
     c.sought_by-found.ensures a.f (sym (ap (λ (x : Asks). x.new_task) c.asks_of-asks.ensures))
