@@ -44,7 +44,7 @@ answer-of-requires : tie.Need-answer_of-answer-requires
 answer-of-requires c κs = (gives c.before).showable
 
 put-requires : tie.Need-put-requires
-put-requires c κs = let h = (gives c.before.before).puttable in record { few = h.few; second = h.second-1 }
+put-requires c κs = let h = (gives c.before.before).puttable in record { few = h.few; second = h.second }
 
 returns : tie.Need-returns
 returns c = rw (c.put.ensures, c.answer_of-answer.ensures) (gives c.before.before.before).gives

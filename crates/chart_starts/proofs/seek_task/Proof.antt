@@ -70,7 +70,7 @@ entry c =
     let front : top.top.result ≡ front_screen (view a.s) = top.top.ensures ∙ sym (front-screen a.s start.requires.some) in
     let apart : eqb caller.mode-caller.result 3 ≡ eqb (mode_of tb (front_screen (view a.s))) 3 =
     ap (λ (m : ℕ). eqb m 3) (caller.mode-caller.ensures ∙ ap (mode_of tb) front) in
-    c.entry-entry.ensures.entry
+    c.entry-entry.ensures.0
     ∙ ap entry_at (index.index-index.ensures ∙ ap (λ (m : ℕ). index_of m (eqb caller.mode-caller.result 3) a.f) own.mode.ensures
     ∙ ap (λ (t : Bool). index_of (mode_of tb a.b) t a.f) apart)
     ∙ indexes-chart.rule (mode_of tb a.b) _ a.f (mode-known tb start.requires.ready.good a.b start.requires.known)

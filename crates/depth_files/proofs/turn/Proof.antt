@@ -20,7 +20,7 @@ long : (c : tie.After-read_block-read) → (length (block c) ≡ c.read_block-re
 long c =
     let read = c.read_block-read in
     let e : length (block c) ≡ read.result.count = length-take-le read.result.count read.new.1.0 read.ensures.0 in
-    let few : read.result.count ≤ 6 * most_records = omega (arith, read.ensures.0, read.auto.1.0, c.requires.input_len) in
+    let few : read.result.count ≤ 6 * most_records = omega (arith, read.ensures.0, read.auto.1.0, c.requires.1) in
     let k = records-few (block c) in
     (e, omega arith)
 
@@ -31,12 +31,12 @@ returns c =
     let read = tallied.before.before.before.before in
     record {
       read = read.read_block-read.ensures.0;
-      played = tallied.tally_records-done.ensures.session;
-      tallied = tallied.tally_records-done.ensures.tally;
+      played = tallied.tally_records-done.ensures.0;
+      tallied = tallied.tally_records-done.ensures.1.0;
       counted = count.count_records-records.ensures;
       few = let e = count.count_records-records.ensures in let l = (long read).1 in omega arith;
       full = refl;
-      keeps = tallied.tally_records-done.ensures.keeps;
+      keeps = tallied.tally_records-done.ensures.1.1;
     }
 
 pub turn_spec : {M : Type 1} → statement M

@@ -15,7 +15,7 @@ returns c =
     let p = c.before.before in
     let x = p.args.x in
     let e = figures-few x (omega (arith, p.if-x-lt256.true)) in
-    (rw e p.write_decimal.ensures.place, (rw e p.write_decimal.ensures.text, omega (arith, p.write_decimal.ensures.bound)))
+    (rw e p.write_decimal.ensures.0, (rw e p.write_decimal.ensures.1.0, omega (arith, p.write_decimal.ensures.1.1)))
 
 -- ---- three digits
 
@@ -29,7 +29,7 @@ returns-2 c =
     let x = a.x in
     let e = figures-three x (omega (arith, if2.if-x-lt256.false)) if2.if-x-lt1000.true in
     let w = wrote 4 (rw digits.last_digit.ensures at p.write_decimal-last.ensures) in
-    let b = p.write_decimal-last.ensures.bound in
+    let b = p.write_decimal-last.ensures.1.1 in
     let k = p.write_decimal-last.auto.out in
     let one = wrote_one p.write_decimal-last.new.out p.write_decimal-last.result a.end (omega (arith, start.requires)) in
     let all : Wrote a.out.now a.at ((decimal (x / 10) ++ digit (x % 10) ∷ []) ++ a.end ∷ []) _ _ =
@@ -47,7 +47,7 @@ begun c = c.before.before.before.before.before.before
 
 room : (c : Most) → (c.write_decimal-tens.result + 3 ≤ length c.write_decimal-tens.new.out) × (c.write_decimal-tens.result ≤ length (begun c).args.out.now)
 room c =
-    let b = c.write_decimal-tens.ensures.bound in
+    let b = c.write_decimal-tens.ensures.1.1 in
     let k = c.write_decimal-tens.auto.out in
     let h = (begun c).requires in
     (omega arith, omega arith)
@@ -68,7 +68,7 @@ returns-3 c =
     let x = a.x in
     let e = figures-many x if2.if-x-lt1000.false a.end in
     let r = room p in
-    let b = p.write_decimal-tens.ensures.bound in
+    let b = p.write_decimal-tens.ensures.1.1 in
     let w = wrote 4 (rw digits.last_digit-2.ensures at p.write_decimal-tens.ensures) in
     let three = wrote-three p.write_decimal-tens.new.out p.write_decimal-tens.result (digit (x / 10 % 10)) (digit (x % 10)) a.end r.0 in
     let all = wrote-append w r.1 three in

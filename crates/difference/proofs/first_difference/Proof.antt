@@ -87,7 +87,7 @@ back-requires-2 c κs =
 -- what both leave
 left : (c : tie.After-back-other invariant-loop decreases-loop)
     → let l = c.loop-s in
-    Backed l.s-1 c.back-one.result × Backed l.t-1 c.back-other.result
+    Backed l.s c.back-one.result × Backed l.t c.back-other.result
 left c =
     let l = c.before.before.before.before.before in
     let start = l.before.before.before.before in

@@ -28,8 +28,8 @@ decreases-loop input share met₀ bytes₀ i₀ p₀ met bytes i p = length inpu
 loop-holds : tie.Need-loop-p-init invariant-loop decreases-loop
 loop-holds c =
     let a = c.args in
-    let e = c.table_end-p.ensures.length in
-    let h = c.table_end-p.ensures.bound in
+    let e = c.table_end-p.ensures.0 in
+    let h = c.table_end-p.ensures.1 in
     rw e
     (passed_start a.share a.input.now (length (table_in a.input.now)) c.none-met.result (omega arith) c.none-met.ensures)
 

@@ -34,19 +34,19 @@ left c =
     let tb = a.table.now in
     let bytes = a.image.now in
     ⊎_elim
-    (λ w. rw (w.7, w.8)
-    (restored-left tb a.s bytes (ready (record { before = c.before; if1 = w.0 }))
-    (shaped (record { before = record { before = _; shaped = w.1 }; if2 = w.2 })) w.3.result w.3.ensures _ w.5.ensures w.6.true))
+    (λ w. rw (w.refusal-is, w.out-is)
+    (restored-left tb a.s bytes (ready (record { before = c.before; if-refusal-eq0 = w.if-refusal-eq0 }))
+    (shaped (record { before = record { before = _; shaped = w.shaped }; if-shaped = w.if-shaped })) w.read-read.result w.read-read.ensures _ w.image_refusal-refusal.ensures w.if-refusal-eq0-2.true))
     (λ v. ⊎_elim
-    (λ w. rw (w.7, w.8)
-    (read_left tb a.s bytes (ready (record { before = c.before; if1 = w.0 }))
-    (shaped (record { before = record { before = _; shaped = w.1 }; if2 = w.2 })) w.3.result w.3.ensures _ w.5.ensures w.6.false))
+    (λ w. rw (w.refusal-is, w.out-is)
+    (read_left tb a.s bytes (ready (record { before = c.before; if-refusal-eq0 = w.if-refusal-eq0 }))
+    (shaped (record { before = record { before = _; shaped = w.shaped }; if-shaped = w.if-shaped })) w.read-read.result w.read-read.ensures _ w.image_refusal-refusal.ensures w.if-refusal-eq0-2.false))
     (λ v. ⊎_elim
-    (λ w. rw (w.3, w.4) (unshaped-left tb a.s bytes (ready (record { before = c.before; if1 = w.0 })) (sym w.1.ensures ∙ w.2.false)))
-    (λ w. rw (w.1, w.2)
-    (left-refused tb a.s (restore bytes) a.shared (call-refused tb a.s (restore bytes) a.shared (sym start.requires) w.0.false) w.0.false))
+    (λ w. rw (w.refusal-is, w.out-is) (unshaped-left tb a.s bytes (ready (record { before = c.before; if-refusal-eq0 = w.if-refusal-eq0 })) (sym w.shaped.ensures ∙ w.if-shaped.false)))
+    (λ w. rw (w.refusal-is, w.out-is)
+    (left-refused tb a.s (restore bytes) a.shared (call-refused tb a.s (restore bytes) a.shared (sym start.requires) w.if-refusal-eq0.false) w.if-refusal-eq0.false))
     v) v)
-    c.if-refusal-eq0.branch
+    c.if-refusal-eq0.branch-raw
 
 told-requires : tie.Need-told-requires
 told-requires c κs = (left c).seen

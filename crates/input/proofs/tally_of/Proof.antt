@@ -25,7 +25,7 @@ returns c =
     let keys = c.before in
     let told = keys.beginning_of in
     let l = keys.args.input.now in
-    c.none.ensures ∙ ap tally_of (sym (answers-none l (starts-otherwise l told.result-1 told.ensures keys.in_default.keys2)))
+    c.none.ensures ∙ ap tally_of (sym (answers-none l (starts-otherwise l told.result told.ensures keys.in_default.keys2)))
 
 -- the table stands in the input
 begun : (c : tie.In-Table-2)
@@ -50,7 +50,7 @@ returns-2 c =
     let b = begun long in
     let n = long.long-1.given.0.0 in
     let v : view fresh'.fresh.result ≡ fresh = ap view fresh'.fresh.ensures ∙ view-fresh in
-    let q = rw (table-part l n b.1, records-part l n b.1, v, none.none-2.ensures) at tally.tally_records.ensures.tally in
+    let q = rw (table-part l n b.1, records-part l n b.1, v, none.none-2.ensures) at tally.tally_records.ensures.1.0 in
     q ∙ answers-tally l b.0
 
 pub tally_of_spec : {M : Type 1} → statement M

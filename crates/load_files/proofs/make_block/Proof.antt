@@ -21,8 +21,8 @@ returns c =
     let a = start.args in
     let end = 6 * block.block_of-end.result in
     block_made a.table.now a.state a.false (take end a.buffer.now) (drop end a.buffer.now) start.ranges.state.fits
-    start.requires.state_value (sym (slice-aggregate-load c.before.before.before) ∙ ap (λ n. 6 * n) block.block_of-end.ensures)
-    c.load.ensures.gives
+    start.requires.0 (sym (slice-aggregate-load c.before.before.before) ∙ ap (λ n. 6 * n) block.block_of-end.ensures)
+    c.load.ensures.0
 
 pub make_block_spec : {M : Type 1} → statement M
 make_block_spec =

@@ -19,4 +19,12 @@ run-ran-requires c =
 pub returns : goal.returns
 returns c =
     let a = c.args in
-    rw c.part_for-part.ensures (part-plays a.input.now a.out.now (rw c.part_for-part.ensures at c.run-ran.ensures))
+    let told = part-plays a.input.now a.out.now (rw c.part_for-part.ensures at c.run-ran.ensures) in
+    record {
+      session = told.0;
+      used = c.part_for-part.ensures ∙ told.1.0;
+      written = told.1.1.0;
+      text = told.1.1.1.0;
+      keeps = told.1.1.1.1.0;
+      bound = told.1.1.1.1.1;
+    }

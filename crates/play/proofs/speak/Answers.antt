@@ -26,20 +26,20 @@ pub returns-in-Heights : goal.returns-in-Heights
 returns-in-Heights c =
     let a = c.args in
     rw c.in-Heights.is
-    record { place = omega arith; text = sym (written-nil a.out.now a.at); bound = omega arith; tally = ap (λ (x : Added). x.tally) c.add-added.ensures.step }
+    (record { place = omega arith; text = sym (written-nil a.out.now a.at); bound = omega arith; tally = ap (λ (x : Added). x.tally) c.add-added.ensures.step })
 
 pub returns-in-Lines : goal.returns-in-Lines
 returns-in-Lines c =
-    let e = (c.write_line-end.ensures.place, (c.write_line-end.ensures.text, c.write_line-end.ensures.bound)) in
-    rw c.in-Lines.is record { place = e.0; text = e.1.0; bound = e.1.1; tally = refl }
+    let e = c.write_line-end.ensures in
+    rw c.in-Lines.is (record { place = e.place; text = e.text; bound = e.bound; tally = refl })
 
 pub returns-in-Reasons : goal.returns-in-Reasons
 returns-in-Reasons c =
-    let e = (c.write_record-end.ensures.place, (c.write_record-end.ensures.text, c.write_record-end.ensures.bound)) in
+    let e = c.write_record-end.ensures in
     let words = c.in_words in
     let a = c.args in
     let x = reason_made a.decided in
     let k = tells-reasons a.manner c.in-Reasons.is in
     let f : said a.manner a.kind a.answer x ≡ record_said words.result a.kind a.answer x =
     k.text a.kind a.answer x ∙ ap (λ (b : Bool). record_said b a.kind a.answer x) (sym words.ensures) in
-    rw (f, k.longest) record { place = e.0; text = e.1.0; bound = e.1.1; tally = sym (k.tally a.tally a.answer) }
+    rw (f, k.longest) (record { place = e.place; text = e.text; bound = e.bound; tally = sym (k.tally a.tally a.answer) })

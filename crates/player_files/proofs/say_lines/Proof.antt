@@ -17,7 +17,7 @@ slice-aggregate-play : tie.Need-slice_bounds-play-end
 slice-aggregate-play c = search rules
 
 array-share-prefix-output : tie.Need-slice_bounds-output-end
-array-share-prefix-output c = rw c.play-played.auto.1.1.1.0 c.play-played.ensures.bound
+array-share-prefix-output c = rw c.play-played.auto.1.1.1.0 c.play-played.ensures.1.1.1.1.1
 
 slice-aggregate-print : tie.Need-slice_bounds-print-end
 slice-aggregate-print c = sym (length-take-le _ _ (array-share-prefix-output c.before))
@@ -27,10 +27,10 @@ returns c =
     let play = c.before.before.before.before in
     let start = play.before.before.before.before in
     let a = start.args in
-    let fit = fitting-all a.block.now (replicate (longest_line * most_records) 0) (lines_fit start.requires.block_len_bound (slice-aggregate-play play.before) refl) in
+    let fit = fitting-all a.block.now (replicate (longest_line * most_records) 0) (lines_fit start.requires.1 (slice-aggregate-play play.before) refl) in
     record {
-      played = play.play-played.ensures.session ∙ ap (λ (rs : List Record). hold (session_after a.table.now (view a.s) rs)) fit;
-      keeps = play.play-played.ensures.keeps;
+      played = play.play-played.ensures.0 ∙ ap (λ (rs : List Record). hold (session_after a.table.now (view a.s) rs)) fit;
+      keeps = play.play-played.ensures.1.1.1.1.0;
     }
 
 pub say_lines_spec : {M : Type 1} → statement M

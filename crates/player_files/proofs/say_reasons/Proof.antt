@@ -14,10 +14,10 @@ slice-aggregate-explain c = sym (length-replicate {A = ℕ} _ 0)
 explain-requires : tie.Need-explain-played-requires
 explain-requires c κs =
     let start = c.before.before.before in
-    (start.requires.playable, reasons-fit start.requires.block_len_bound (slice-aggregate-explain c) refl)
+    (start.requires.0, reasons-fit start.requires.1 (slice-aggregate-explain c) refl)
 
 array-share-prefix-output : tie.Need-slice_bounds-output-end
-array-share-prefix-output c = rw c.explain-played.auto.1.1.1.1.0 c.explain-played.ensures.bound
+array-share-prefix-output c = rw c.explain-played.auto.1.1.1.1.0 c.explain-played.ensures.1.1.1.1.1
 
 slice-aggregate-print : tie.Need-slice_bounds-print-end
 slice-aggregate-print c = sym (length-take-le _ _ (array-share-prefix-output c.before))
@@ -25,7 +25,7 @@ slice-aggregate-print c = sym (length-take-le _ _ (array-share-prefix-output c.b
 returns : tie.Need-returns
 returns c =
     let explain = c.before.before.before.before in
-    record { played = explain.explain-played.ensures.session; keeps = explain.explain-played.ensures.keeps }
+    record { played = explain.explain-played.ensures.0; keeps = explain.explain-played.ensures.1.1.1.1.0 }
 
 pub say_reasons_spec : {M : Type 1} → statement M
 say_reasons_spec =

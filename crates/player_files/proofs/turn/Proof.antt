@@ -23,14 +23,14 @@ long : (c : tie.After-read_block-read) → (length (block c) ≡ c.read_block-re
 long c =
     let read = c.read_block-read in
     let e : length (block c) ≡ read.result.count = length-take-le read.result.count read.new.1.0 read.ensures.0 in
-    let few : read.result.count ≤ 6 * most_records = omega (arith, read.ensures.0, read.auto.1.0, c.requires.input_len) in
+    let few : read.result.count ≤ 6 * most_records = omega (arith, read.ensures.0, read.auto.1.0, c.requires.1) in
     let k = records-few (block c) in
     (e, omega arith)
 
 say-requires : tie.Need-say-said-requires
 say-requires c κs =
     let read = c.before.before.before.before.before in
-    (read.requires.playable, (long read).1)
+    (read.requires.0, (long read).1)
 
 returns : tie.Need-returns
 returns c =

@@ -39,8 +39,8 @@ returns-2 c =
     let request = ap (λ (x : Asked). request_by x a.b a.word) c.asked_by.ensures ∙ asked-request a.b a.word a.kind in
     let q = request_of a.kind a.b a.word in
     rw (ne_eqb a.kind 6 c.if-kind-eq6.false) (
-      c.make.ensures.reply ∙ ap (reply_stored a.table.now a.s) request ∙ asked-reply a.table.now a.s q,
-      c.make.ensures.created ∙ ap (created_stored a.table.now a.s) request ∙ asked-created a.table.now a.s start.requires q,
+      c.make.ensures.0 ∙ ap (reply_stored a.table.now a.s) request ∙ asked-reply a.table.now a.s q,
+      c.make.ensures.1 ∙ ap (created_stored a.table.now a.s) request ∙ asked-created a.table.now a.s start.requires q,
     )
 
 pub make_with_image_spec : {M : Type 1} → statement M

@@ -48,7 +48,7 @@ returns-3 c =
     let l = a.calls.now in
     let i = image here in
     let whole = image-whole l i.0 _ i.1 (omega (arith, left.if-n-calls.false)) in
-    let e = called-restore tb a.s l whole c.if-calls-eq6.true i.1 {m = 6 + here.image_length-n.result - 6} (omega arith) c.restore.ensures.gives in
+    let e = called-restore tb a.s l whole c.if-calls-eq6.true i.1 {m = 6 + here.image_length-n.result - 6} (omega arith) c.restore.ensures.0 in
     (e, (called-keeps tb a.s l e, promise3 tb))
 
 returns-4 : tie.Need-returns
@@ -60,7 +60,7 @@ returns-4 c =
     let l = a.calls.now in
     let i = image here in
     let whole = image-whole l i.0 _ i.1 (omega (arith, left.if-n-calls.false)) in
-    let e = called-other tb a.s l whole c.if-calls-eq6.false i.0 c.play_record.ensures.gives in
+    let e = called-other tb a.s l whole c.if-calls-eq6.false i.0 c.play_record.ensures.0 in
     (e, (called-keeps tb a.s l e, promise3 tb))
 
 pub play_call_spec : {M : Type 1} → statement M
