@@ -1,12 +1,9 @@
 -- What an input begins with, by its N and its length; and what each answer says of the input.
 use Prim.Native.Nat.{ℕ, ◌+◌, ◌*◌, ◌≤◌, ◌<◌}
 use mathlib.Core.Path.{◌≡◌, refl, sym, ◌∙◌, subst}
-use mathlib.Core.Logic.{inl, inr}
 use mathlib.Core.Bool.{Bool, true, false, ◌&&◌}
-use mathlib.Core.List.{List, [], ◌∷◌}
+use mathlib.Core.List.{List}
 use native.Mathlib.Omega.{arith}
-use denote.Enum.Declared.{tag_of}
-use types.Run.{OneOf}
 use lib.Dec.{leb}
 use lib.ListN.{length}
 use borrow.Author.Tests.{leb-true, leb-false}
@@ -15,12 +12,6 @@ use Rattle.model.specs.Player.{starts_with_table}
 use Rattle.model.proofs.Logic.{Decides, and-decides, leb-decides, refuted, contradiction, if-elim}
 use Rattle.table.specs.declared.Beginning.{Beginning}
 use Rattle.table.specs.Beginnings.{beginning_of}
-use Rattle.table.specs.contracts.Beginning as B
-
--- another beginning than a table, by the tags of the others
-other_tag : OneOf (1 ∷ 2 ∷ []) 0 → ⊥
-other_tag (inl e) = omega arith
-other_tag (inr e) = omega arith
 
 module _ (l : List ℕ) where
   abbrev long : ℕ
@@ -84,7 +75,5 @@ module _ (l : List ℕ) where
   pub starts_with : {n : ℕ} {b : Beginning} → b ≡ beginning_of l → b ≡ Beginning.Table n → (starts_with_table l ≡ true) × (n ≡ long)
   starts_with {n} {b} e f = let k = told (Beginning.Table n) e f in (starts-decides.shows k.1, k.0)
 
-  pub starts-otherwise : (b : Beginning) → b ≡ beginning_of l → OneOf (1 ∷ 2 ∷ []) (tag_of B.the_type b) → starts_with_table l ≡ false
-  starts-otherwise b e o =
-      refuted (starts_with_table l) starts-decides
-      (λ h. other_tag (rw (e ∙ begins-table h.0 h.1) at o))
+  pub starts-otherwise : (b : Beginning) → b ≡ beginning_of l → ((n : ℕ) → b ≡ Beginning.Table n → ⊥) → starts_with_table l ≡ false
+  starts-otherwise b e other = refuted (starts_with_table l) starts-decides (λ h. other long (e ∙ begins-table h.0 h.1))

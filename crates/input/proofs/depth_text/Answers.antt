@@ -18,5 +18,6 @@ pub returns : goal.returns
 returns c =
     let a = c.args in
     let t = depth-line a.input.now a.out.now (omega arith) c.tally_of.ensures in
-    let w = rw c.report.ensures.numbers at (c.write_report.ensures.length, (c.write_report.ensures.text, c.write_report.ensures.bound)) in
-    record { length = rw t w.0; text = rw t w.1.0 }
+    let long = rw c.report.ensures.numbers at c.write_report.ensures.length in
+    let text = rw c.report.ensures.numbers at c.write_report.ensures.text in
+    record { length = rw t long; text = rw t text }

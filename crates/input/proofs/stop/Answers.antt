@@ -17,6 +17,6 @@ returns-then-out-lt-LONGEST c =
 pub returns : goal.returns
 returns c =
     let out = c.args.out.now in
-    let w = (c.write_stop.ensures.length, (c.write_stop.ensures.text, c.write_stop.ensures.bound)) in
+    let w = c.write_stop.ensures in
     let t = stop-line out (omega arith) in
-    record { length = rw t w.0; text = rw t w.1.0 }
+    record { length = rw t w.length; text = rw t w.text }

@@ -5,5 +5,6 @@ use Rattle.input.proofs.write_stop.Goals as goal
 
 pub returns : goal.returns
 returns c =
-    let w = rw c.refused.ensures at (c.write_line.ensures.place, (c.write_line.ensures.text, c.write_line.ensures.bound)) in
-    record { length = omega arith; text = w.1.0; bound = omega arith }
+    let place = rw c.refused.ensures at c.write_line.ensures.place in
+    let text = rw c.refused.ensures at c.write_line.ensures.text in
+    record { length = omega (arith, place); text = text; bound = c.write_line.ensures.bound }
