@@ -19,7 +19,7 @@ pub first_difference-requires : goal.first_difference-requires
 first_difference-requires c =
     let end = c.table_end-end in
     let t = table-part c.args.first.now end.result end.ensures.length in
-    rw t (c.ending_of-s.ensures.1, rw c.requires.1 c.ending_of-t.ensures.sound)
+    rw t (c.ending_of-s.ensures.sound, rw c.requires.1 c.ending_of-t.ensures.sound)
 
 pub returns : goal.returns
 returns c =
@@ -28,6 +28,7 @@ returns c =
     let t = table-part a.first.now end.result end.ensures.length in
     let s = c.ending_of-s in
     let u = c.ending_of-t in
-    let f : view s.result ≡ ending_of a.first.now = ap view s.ensures.0 ∙ view-hold (ending_of a.first.now) in
+    let f : view s.result ≡ ending_of a.first.now = ap view s.ensures.session ∙ view-hold (ending_of a.first.now) in
     let g : view u.result ≡ ending_of a.second.now = ap view u.ensures.session ∙ view-hold (ending_of a.second.now) in
-    rw (t, f, g) at record { apart = c.first_difference.ensures.apart; same = c.first_difference.ensures.same; alike = c.first_difference.ensures.alike; bound = c.first_difference.ensures.bound }
+    let q = c.first_difference.ensures in
+    record { apart = rw (t, f, g) at q.apart; same = rw (f, g) at q.same; alike = rw (t, f, g) at q.alike; bound = q.bound }

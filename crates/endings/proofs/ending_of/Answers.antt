@@ -15,5 +15,8 @@ returns c =
     let end = c.table_end-end in
     let t = table-part l end.result end.ensures.length in
     let d = calls-part l end.result end.ensures.length in
-    let r = (c.replay.ensures.refusal, (c.replay.ensures.session, (c.replay.ensures.called, (c.replay.ensures.sound, (c.replay.ensures.lifelong, (c.replay.ensures.every, c.replay.ensures.promise)))))) in
-    record { session = (rw (t, d) at r.1.0) ∙ replayed-good (table_in l) (record_bytes l) c.requires; sound = record { good = c.requires; sound = rw t at r.1.1.1.0 } }
+    let r = c.replay.ensures in
+    record {
+      session = (rw (t, d) at r.session) ∙ replayed-good (table_in l) (record_bytes l) c.requires;
+      sound = record { good = c.requires; sound = rw t at r.sound };
+    }

@@ -1,5 +1,4 @@
 -- The texts, the number and the lines, each behind the one before it.
-use mathlib.Core.Bool.{not}
 use Prim.Native.Nat.{◌+◌}
 use mathlib.Core.Path.{◌≡◌, ◌∙◌, ap}
 use native.Mathlib.Nat.{zero-add}
@@ -16,7 +15,7 @@ use Rattle.endings.proofs.write_verdict.Goals as goal
 
 pub returns-then-not-d : goal.returns-then-not-d
 returns-then-not-d c =
-    let e = text-alike c.args.d (not-true _ (ap not c.if-not-d.true)) in
+    let e = text-alike c.args.d (not-true _ c.if-not-d.true) in
     let w = c.write_text in
     let place : w.result ≡ 0 + length alike_text = w.ensures.place in
     let text : w.new.out ≡ written c.args.out.now 0 alike_text = w.ensures.bytes in
@@ -26,7 +25,7 @@ pub returns : goal.returns
 returns c =
     let out = c.args.out.now in
     let d = c.args.d in
-    let e = text-apart d (not-false _ (ap not c.if-not-d.false)) in
+    let e = text-apart d (not-false _ c.if-not-d.false) in
     let kind = c.last_kind-kind.ensures in
     let w1 : Wrote out 0 apart_text c.write_text-number.new.out c.write_text-number.result =
     record { place = c.write_text-number.ensures.place; text = c.write_text-number.ensures.bytes } in

@@ -23,7 +23,7 @@ ready c =
     shared-ready a.table.now a.s (sym c.shared_refusal-shared.ensures ∙ c.if-shared-ne0.false)
 
 known-refusal-requires : tie.Need-known_refusal-refusal-requires
-known-refusal-requires c κs = (ready c).well_formed
+known-refusal-requires c κs = (ready c).good
 
 -- the refusal of its own checks
 own : (c : tie.After-known_refusal-refusal)
@@ -48,7 +48,7 @@ returns-3 c =
     let known = else2.before in
     let a = known.args in
     set_told a.table.now a.s a.b a.mask a.value (own known ∙ else2.if-refusal-ne0.false)
-    (rw (c.type_size.ensures, set.set_of-set.ensures))
+    (rw (c.size_of.ensures, set.set_of-set.ensures))
 
 pub fronts_spec : {M : Type 1} → statement M
 fronts_spec =

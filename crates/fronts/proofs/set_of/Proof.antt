@@ -23,15 +23,15 @@ loop-holds c = (omega arith, refl)
 -- the set after the word of the index, whether or not it is a filling
 joined : (c : tie.Joined-word-mask invariant-loop decreases-loop)
     → let at = c.before.before.before in let a = at.before.before.args in
-    c.if-word-mask.set ≡ fronts_among a.table.now a.s a.b a.mask a.value (suc at.loop.i)
+    c.if-word-mask.set ≡ fronts_among a.table.now a.s a.b a.mask a.value (suc at.loop-i.i)
 joined c =
     let at = c.before.before.before in
     let a = at.before.before.args in
     let word = c.word_at-word.ensures in
     ⊎_elim
-    (λ w. among-filling a.table.now a.s a.b a.mask a.value at.loop.i at.loop.invariant.1 word w.0.true (w.2 ∙ w.1.ensures))
-    (λ w. among-other a.table.now a.s a.b a.mask a.value at.loop.i at.loop.invariant.1 word w.0.false w.1)
-    c.if-word-mask.branch
+    (λ w. among-filling a.table.now a.s a.b a.mask a.value at.loop-i.i at.loop-i.invariant.1 word w.if-word-mask.true (w.set-is ∙ w.with_front-set.ensures))
+    (λ w. among-other a.table.now a.s a.b a.mask a.value at.loop-i.i at.loop-i.invariant.1 word w.if-word-mask.false w.set-is)
+    c.if-word-mask.branch-raw
 
 loop-again : tie.Need-loop-i-preserved invariant-loop decreases-loop
 loop-again c = (omega arith, rw (add-one c.loop-i.i) (joined c))

@@ -25,9 +25,9 @@ returns c =
     let a = c.args in
     let one = c.write-n in
     let other = c.write-m in
-    let e : take one.result one.new.1.0 ≡ image (view a.s) =
+    let e : take one.result one.new.out ≡ image (view a.s) =
     ap (take one.result) one.ensures.1 ∙ take_at _ _ one.result (sym one.ensures.0) in
-    let f : take other.result other.new.1.0 ≡ image (view a.t) =
+    let f : take other.result other.new.out ≡ image (view a.t) =
     ap (take other.result) other.ensures.1 ∙ take_at _ _ other.result (sym other.ensures.0) in
     (λ h. sym e ∙ c.same.ensures.0 h ∙ f, λ h. c.same.ensures.1 (e ∙ h ∙ sym f))
 
