@@ -34,9 +34,9 @@ returns c =
     let w3 : Wrote c.write_number-backs.new.out c.write_number-backs.result backs_text c.write_text-line.new.out c.write_text-line.result =
     record { place = c.write_text-line.ensures.place; text = c.write_text-line.ensures.bytes } in
     let w4 : Wrote c.write_text-line.new.out c.write_text-line.result (line_of (last_kind d.backs) d.first) c.write_line-next.new.out c.write_line-next.result =
-    wrote longest_line (rw kind at (c.write_line-next.ensures.place, (c.write_line-next.ensures.text, c.write_line-next.ensures.bound))) in
+    rw kind at (wrote longest_line (c.write_line-next.ensures.place, (c.write_line-next.ensures.text, c.write_line-next.ensures.bound))) in
     let w5 : Wrote c.write_line-next.new.out c.write_line-next.result (line_of (last_kind d.backs) d.second) c.write_line.new.out c.write_line.result =
-    wrote longest_line (rw kind at (c.write_line.ensures.place, (c.write_line.ensures.text, c.write_line.ensures.bound))) in
+    rw kind at (wrote longest_line (c.write_line.ensures.place, (c.write_line.ensures.text, c.write_line.ensures.bound))) in
     let all : Wrote out 0 (apart_lines d) c.write_line.new.out c.write_line.result =
     wrote-append (wrote-append (wrote-append (wrote-append w1 (omega arith) w2) (omega arith) w3) (omega arith) w4) (omega arith) w5 in
     record { length = rw e (all.place ∙ zero-add (length (apart_lines d))); text = rw e all.text; bound = omega arith }
