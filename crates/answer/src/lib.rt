@@ -1,4 +1,5 @@
 // The one place where an answer is made.
+#![tactic(auto)]
 
 ghost use Rattle.std.specs.Prelude.{◌≤◌, ◌≡◌};
 ghost use Rattle.model.specs.Session.{most_height};

@@ -1,12 +1,11 @@
 -- Calls by their plans: each can be put, and what it puts with its answer is what the call gives.
 use Prim.Native.Nat.{ℕ, zero, suc, ◌≤◌}
 use mathlib.Core.Path.{◌≡◌, refl, sym, ◌∙◌, ap}
-use mathlib.Core.Bool.{Bool, true, false, not, false≢true}
+use mathlib.Core.Bool.{Bool, true, false, false≢true}
 use mathlib.Core.List.{List, [], ◌++◌}
 use native.Mathlib.Omega.{arith}
-use lib.Dec.{eqb, leb}
+use lib.Dec.{leb}
 use borrow.Author.Tests.{ne_eqb}
-use Rattle.model.specs.Lists.{if◌then◌else◌}
 use Rattle.model.specs.Refusals.{refusal}
 use Rattle.model.specs.Session.{most_tasks}
 use Rattle.model.specs.Flags.{flags_of}
@@ -31,7 +30,7 @@ use Rattle.plans.proofs.Closes.{closed-puttable, still-put, still-puttable, back
 use Rattle.plans.proofs.Answered.{Uncovers, showable, answers-look, refused-showable}
 use Rattle.starts.specs.declared.Sought.{Sought}
 use Rattle.starts.specs.declared.Decided.{Decided}
-use Rattle.starts.specs.Steps.{or_else, SoughtFrom, Plannable, task_for, chosen_stored, plan_unless, decided_by, decided_stored}
+use Rattle.starts.specs.Steps.{or_else, SoughtFrom, Plannable, chosen_stored, plan_unless, decided_by, decided_stored}
 use Rattle.starts.proofs.Planning.{made, made_closed, start-put, start-puttable, start-uncovers, start-closes, start-accepts}
 use Rattle.starts.proofs.Seeking.{entered-startable, roomy_plan, decided-plan, decided-stored}
 use Rattle.calls.specs.declared.Reply.{Reply}

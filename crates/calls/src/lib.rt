@@ -1,6 +1,7 @@
 // Look, launch, Back and the starts on any session under any table. Each takes the refusal of the checks that all calls share
 // (0 if none), makes its own checks in document 01's order, and gives the whole call. Launch, Back and the starts are plans that
 // are put; each has the put in its own body, since the compiler copies the session once more where they share it.
+#![tactic(auto)]
 
 ghost use Rattle.std.specs.Prelude.{◌≤◌, ◌≡◌};
 ghost use Rattle.model.specs.Answers.{refused as refused_answer};

@@ -1,5 +1,6 @@
 // A start driven by the flag chart as a whole call, plain or finishing, from the refusal of the checks that all calls share. What it
 // seeks comes by way of the chart; all behind that is as in a start driven by the rules.
+#![tactic(auto)]
 
 ghost use Rattle.std.specs.Prelude.{◌≡◌};
 ghost use Rattle.calls.specs.StoredCalls.{shared_refusal, call_stored};

@@ -1,5 +1,5 @@
 -- A class and four values can be told from their sum; the class decides the group.
-use Prim.Native.Nat.{ℕ, ◌+◌, ◌*◌, ◌%◌, ◌≤◌, ◌<◌}
+use Prim.Native.Nat.{ℕ, ◌+◌, ◌*◌, ◌≤◌, ◌<◌}
 use mathlib.Core.Path.{◌≡◌}
 use mathlib.Core.Bool.{Bool}
 use native.Mathlib.Omega.{arith}
@@ -9,7 +9,6 @@ use Rattle.model.specs.declared.Group.{Group}
 use Rattle.model.specs.Flags.{bit}
 use Rattle.flag_chart.specs.Chart.{worth}
 use Rattle.flag_chart.proofs.IndexLaws.{digit, worth-digit, digit-most, digit-test}
-use Rattle.rules.specs.declared.Asks.{Asks}
 use Rattle.chart_starts.specs.Decoding.{class_in, group_in, asks_in}
 
 record Sum (e k x y z w : ℕ) : Type 0 where

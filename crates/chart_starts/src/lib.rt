@@ -1,5 +1,6 @@
 // A start driven by the flag chart: once the index is formed, neither the six flags nor the screen's mode are read again. The chart's
 // entry is decoded into the group of rules and what they ask of the flags; all else is that of a start driven by the rules.
+#![tactic(auto)]
 
 ghost use Rattle.std.specs.Prelude.{◌≡◌};
 ghost use Rattle.session.specs.Stored.{Ready};

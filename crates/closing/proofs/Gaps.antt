@@ -8,7 +8,7 @@ use native.Mathlib.Omega.{arith}
 use lib.ListN.{length, get_or, set, take, drop, replicate, length-drop, length-reverse}
 use lib.Seq.{take_at, take-append-le, drop-append-le}
 use Rattle.model.specs.Lists.{omit}
-use Rattle.model.specs.Session.{stack, height, most_tasks, most_height}
+use Rattle.model.specs.Session.{stack, most_tasks, most_height}
 use Rattle.model.proofs.ListLaws.{omit-length, omit-split}
 use Rattle.session.specs.declared.Session.{Session}
 use Rattle.session.specs.declared.Task.{Task}

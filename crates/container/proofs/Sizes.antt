@@ -1,11 +1,10 @@
 -- The length that a container's type says: 8 kept panels.
-use mathlib.Core.Path.{◌≡◌, sym, ◌∙◌}
+use mathlib.Core.Path.{◌≡◌}
 use mathlib.Core.List.{List}
-use lib.ListN.{length, length-map}
+use lib.ListN.{length}
 use mir.Val.{Val}
 use denote.Laws.{Is}
 use denote.Struct.Laws as StructLaws
-use Rattle.panels.specs.contracts.Panels as P
 use Rattle.container.specs.declared.Container.{Container}
 use Rattle.container.specs.contracts.Container as C
 use Rattle.container.proofs.Container.TheLaws as C'

@@ -1,4 +1,5 @@
 // Panels inside a screen: a container of panels, its recorded steps, and the two calls on it.
+#![tactic(auto)]
 
 ghost use Rattle.std.specs.Prelude.{◌≤◌, ◌<◌, ◌≡◌, true, map, take};
 ghost use Rattle.model.specs.Lists.{all};

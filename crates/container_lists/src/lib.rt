@@ -1,4 +1,5 @@
 // Lists of steps and Backs, given as bytes and played from an empty container.
+#![tactic(auto)]
 
 ghost use Rattle.std.specs.Prelude.{◌*◌, ◌≡◌};
 ghost use Rattle.model.specs.Histories.{after};

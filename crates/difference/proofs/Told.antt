@@ -1,6 +1,6 @@
 -- Where the answers of both sessions differ, or both sessions are empty: what the difference found says of the sessions that
 -- it began with.
-use Prim.Native.Nat.{ℕ, zero, suc, ◌+◌, ◌≤◌}
+use Prim.Native.Nat.{ℕ, zero, suc, ◌≤◌}
 use mathlib.Core.Path.{◌≡◌, refl, sym, ◌∙◌, ap}
 use mathlib.Core.Logic.{◌↔◌}
 use mathlib.Core.Bool.{Bool, true, false, not, true≢false, false≢true}

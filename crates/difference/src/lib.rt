@@ -1,4 +1,5 @@
 // Where two sessions are told apart: a look at both, then Backs in both, up to the first answers that differ.
+#![tactic(auto)]
 
 ghost use Rattle.std.specs.Prelude.{◌≤◌, ◌≡◌, ◌↔◌, true, false};
 ghost use Rattle.model.specs.Histories.{AnswerAlike, by_rules};

@@ -1,4 +1,5 @@
 // What a rule does to the task in front and to the numbers. Nothing is checked again: what is needed is required.
+#![tactic(auto)]
 
 ghost use Rattle.std.specs.Prelude.{◌+◌, ◌≤◌, ◌<◌, ◌≡◌, true, []};
 ghost use Rattle.model.specs.Lists.{further};

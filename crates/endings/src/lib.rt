@@ -1,4 +1,5 @@
 // Two recordings under one table: where their endings are told apart, and the text that says so.
+#![tactic(auto)]
 
 ghost use Rattle.std.specs.Prelude.{◌+◌, ◌<◌, ◌≤◌, ◌≡◌, ◌↔◌, true, false, length};
 ghost use Rattle.model.specs.Table.{table_refusal};

@@ -1,4 +1,5 @@
 // The flag chart: what the flags do to a start, a byte for each launch mode, caller and choice of the six flags.
+#![tactic(auto)]
 
 ghost use Rattle.std.specs.Prelude.{◌≤◌, ◌≡◌, length};
 ghost use Rattle.model.specs.Written.{written};

@@ -1,4 +1,5 @@
 // The flag word of a start: its seven flags, and whether a bit outside them is set.
+#![tactic(auto)]
 
 ghost use Rattle.std.specs.Prelude.{◌≡◌};
 ghost use Rattle.model.specs.Flags.{flags_of, has_other_bit};

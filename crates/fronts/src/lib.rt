@@ -1,5 +1,6 @@
 // Document 02, request 12, "Recordings with flags missing": which screens could be in front after a plain start of which only some
 // flag bits are known. Nothing is started: each filling of the others is asked for what its start would answer.
+#![tactic(auto)]
 
 ghost use Rattle.std.specs.Prelude.{◌≡◌};
 ghost use Rattle.model.specs.Refusals.{refusal as refusal_of};

@@ -1,5 +1,6 @@
 // Images of sessions: each task's root, height and screens, top first, and six trailer bytes. Any bytes may be read:
 // nothing is read outside of them, and reading ends.
+#![tactic(auto)]
 
 ghost use Rattle.std.specs.Prelude.{◌+◌, ◌<◌, ◌≤◌, ◌≡◌, true, ◌&&◌, eqb, [], ◌∷◌, ◌++◌, length, drop};
 ghost use Rattle.model.specs.Session.{most_tasks, most_height, is_edition};

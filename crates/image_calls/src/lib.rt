@@ -1,5 +1,6 @@
 // Save, on a sound session under a good table; and restore, on any session under any table, with the refusal of the checks that
 // all calls share.
+#![tactic(auto)]
 
 ghost use Rattle.std.specs.Prelude.{◌≡◌};
 ghost use Rattle.model.specs.Lists.{if◌then◌else◌};

@@ -1,4 +1,5 @@
 // A whole input, in memory: what the player, `explain` and `depth` print of it, into a lent buffer, by their definitions.
+#![tactic(auto)]
 
 ghost use Rattle.std.specs.Prelude.{◌≤◌, ◌≡◌, length};
 ghost use Rattle.model.specs.Player.{longest_line, player_text};

@@ -1,4 +1,5 @@
 // Text, numbers and the player's line, byte for byte, into a lent buffer.
+#![tactic(auto)]
 
 ghost use Rattle.std.specs.Prelude.{◌+◌, ◌≤◌, ◌≡◌, [], ◌∷◌, ◌++◌, length};
 ghost use Rattle.model.specs.Player.{decimal, line_of, longest_line};

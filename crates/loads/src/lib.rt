@@ -1,4 +1,5 @@
 // A load that everybody can make again: records made from a seed, written into a lent buffer.
+#![tactic(auto)]
 
 ghost use Rattle.std.specs.Prelude.{◌+◌, ◌*◌, ◌≤◌, ◌≡◌, length};
 ghost use Rattle.model.specs.Written.{written};

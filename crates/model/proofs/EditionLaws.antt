@@ -2,7 +2,7 @@
 use Prim.Native.Nat.{ℕ, zero, suc}
 use mathlib.Core.Path.{◌≡◌, refl, sym, ◌∙◌, ap}
 use mathlib.Core.Bool.{Bool, true, false}
-use mathlib.Core.List.{List, []}
+use mathlib.Core.List.{List}
 use native.Mathlib.Omega.{arith}
 use lib.Dec.{eqb}
 use Rattle.model.specs.declared.Choice.{Choice}
@@ -15,7 +15,7 @@ use Rattle.model.specs.declared.Rule.{Rule}
 use Rattle.model.specs.Lists.{is_empty, first}
 use Rattle.model.specs.Refusals.{refusal}
 use Rattle.model.specs.Table.{is_single_task, is_single_instance, table_refusal}
-use Rattle.model.specs.Session.{State, on_tasks, count, edition_kept, sound}
+use Rattle.model.specs.Session.{State, count, edition_kept, sound}
 use Rattle.model.specs.Flags.{flags_of}
 use Rattle.model.specs.Search.{is_found_by_root, place_of, seek_root, seeks_by_root, seek}
 use Rattle.model.specs.Rules.{number_of, rules_of, is_apart, group_of, sought_by, fits, choose_in, choose}
@@ -27,7 +27,7 @@ use Rattle.model.proofs.Marks.{close_at}
 use Rattle.model.specs.Reasons.{how_found, reason_of}
 use Rattle.model.specs.Editions.{EditionSeeks, EditionKept, NamesNoEdition}
 use Rattle.model.proofs.Logic.{if-elim, first-elim, never, contradiction, and_left}
-use Rattle.model.proofs.SearchLaws.{FindsByRoot, Finds, seek_root-exact, seek-exact}
+use Rattle.model.proofs.SearchLaws.{Finds, seek-exact}
 use Rattle.model.proofs.Sound.{Sound, sound-decides}
 use Rattle.model.proofs.Close.{close-emptied, close-kept}
 use Rattle.model.proofs.Start.{started_by, start-accepted}

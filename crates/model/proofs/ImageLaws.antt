@@ -14,7 +14,7 @@ use Rattle.model.specs.Lists.{if◌then◌else◌, All}
 use Rattle.model.specs.Refusals.{refusal}
 use Rattle.model.specs.Table.{size_of, most_screens, table_shaped, table_checks, table_refusal}
 use Rattle.model.specs.Session.{Stack, State, stack, height, count, most_tasks, most_height, is_edition, sound}
-use Rattle.model.specs.Image.{body_of, main_byte, trailer, image, longest_image, body_in, trailer_in, length_in, count_in, main_byte_in, main_in, no_history_in, edition_in, image_shaped, Reading, unreadable, read_as, read_more, read_tasks, is_readable, tasks_read, image_readable, session_in, image_checks}
+use Rattle.model.specs.Image.{body_of, main_byte, trailer, image, longest_image, body_in, trailer_in, length_in, count_in, main_byte_in, edition_in, image_shaped, Reading, unreadable, read_as, read_more, read_tasks, is_readable, tasks_read, image_readable, session_in, image_checks}
 use Rattle.model.specs.Histories.{IsByte}
 use Rattle.model.specs.Promises.{ImagesExact}
 use Rattle.model.proofs.Logic.{and-decides, leb-decides, eqb-decides, self-decides, and_right, All-map}

@@ -1,5 +1,6 @@
 // Documents 01 and 02 as definitions (specs/) and the theorems about them (proofs/). There is no function here: only the
 // plain structs and enums that definitions and code share.
+#![tactic(auto)]
 
 // An answer is nine numbers: the refusal (0 if none); after the call, the front screen, the front root, the front height, the
 // number of tasks and the main place; the screens that the call closed; and after it the edition and the No-History mark.

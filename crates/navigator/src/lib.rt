@@ -1,6 +1,7 @@
 // The calls of document 01, by value, for any caller. Any table, session and image bytes: each call ends, and its contract
 // says what it gives. The checks that all calls share are made here, and their refusal is passed on. What holds over
 // whole lists of these calls is promise 3 (specs/Promise3), which each of their contracts cites. `why` is no call of a list.
+#![tactic(auto)]
 
 ghost use Rattle.std.specs.Prelude.{◌≡◌, take};
 ghost use Rattle.model.specs.Calls.{Call};

@@ -1,4 +1,5 @@
 // What a warning tells of things that were met: how many, and the place of the first.
+#![tactic(auto)]
 
 ghost use Rattle.std.specs.Prelude.{◌<◌, ◌≡◌, []};
 ghost use Rattle.notes.specs.Places.{noted_at, Tells};

@@ -1,4 +1,5 @@
 // The panels of a container, and the operations of a step on them. Nothing is checked again: what is needed is required.
+#![tactic(auto)]
 
 ghost use Rattle.std.specs.Prelude.{◌≤◌, ◌<◌, ◌≡◌};
 ghost use Rattle.panels.specs.Operations.{most_panels, operation, operated, remove_topmost, operations_in, good_operations};

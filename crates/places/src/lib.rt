@@ -1,5 +1,6 @@
 // Whether each of four places of a stored session is sound under a good table: the root that stands there, or a number
 // that no screen has; and whether four places are blank. Whatever their bytes say, nothing is read outside of their arrays.
+#![tactic(auto)]
 
 ghost use Rattle.std.specs.Prelude.{◌+◌, ◌≤◌, ◌≡◌, [], ◌∷◌, ltb, set, take};
 ghost use Rattle.model.specs.Lists.{all};

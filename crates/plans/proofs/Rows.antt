@@ -13,7 +13,6 @@ use Rattle.model.specs.Session.{most_tasks}
 use Rattle.session.specs.declared.Session.{Session}
 use Rattle.session.specs.declared.Task.{Task}
 use Rattle.session.specs.Stored.{no_task, blank_task, with_tasks, popped}
-use Rattle.session.proofs.Setters.{with_count, with_main, with_edition, with_no_history}
 use Rattle.effects.specs.Rows.{shifted, closed_up}
 use Rattle.closing.proofs.Gaps.{closing_in, closes-begin, closes-end}
 use Rattle.plans.specs.Puts.{popped_if, gone_if}

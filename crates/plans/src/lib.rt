@@ -1,4 +1,5 @@
 // A call first makes its plan from the session; then one function puts it. The answer is made from the plan.
+#![tactic(auto)]
 
 ghost use Rattle.std.specs.Prelude.{◌+◌, ◌≤◌, ◌≡◌, leb};
 ghost use Rattle.model.specs.Session.{most_height, edition_kept};

@@ -1,7 +1,6 @@
 -- What a record gives on a stored session is what the rules give, stored, and the session after it can be played on.
 use Prim.Native.Nat.{ℕ, zero, suc}
 use mathlib.Core.Path.{◌≡◌, refl, sym, ◌∙◌, ap}
-use mathlib.Core.Bool.{true}
 use mathlib.Core.List.{List}
 use native.Mathlib.Omega.{arith}
 use Rattle.model.specs.Table.{table_refusal}

@@ -1,5 +1,6 @@
 // Calls as records of six bytes, played from a session into lines of text.
 // The table is checked once and the session not at all: each record leaves it sound.
+#![tactic(auto)]
 
 ghost use Rattle.std.specs.Prelude.{◌+◌, ◌*◌, ◌/◌, ◌≤◌, min, ◌≡◌, length};
 ghost use Rattle.model.specs.Player.{records_in, text_of, session_after, longest_line};

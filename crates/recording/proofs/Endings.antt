@@ -9,7 +9,7 @@ use native.Mathlib.Omega.{arith}
 use lib.ListN.{length}
 use borrow.Author.Tests.{ne_eqb}
 use Rattle.model.specs.Table.{table_refusal}
-use Rattle.model.specs.Session.{fresh, screens_in, is_edition}
+use Rattle.model.specs.Session.{fresh, screens_in}
 use Rattle.model.specs.Image.{image, longest_image}
 use Rattle.model.specs.Promises.{Lifelong}
 use Rattle.model.proofs.Sound.{Sound}
@@ -17,7 +17,7 @@ use Rattle.model.proofs.Keeps.{fresh-sound, after-sound}
 use Rattle.model.proofs.ImageLaws.{image-short}
 use Rattle.model.proofs.Promise3.{sound-lifelong, images-tell}
 use Rattle.session.specs.declared.Session.{Session}
-use Rattle.session.specs.Stored.{fresh_session, view, hold, storage_blank, sound_stored}
+use Rattle.session.specs.Stored.{fresh_session, view, hold, sound_stored}
 use Rattle.session.proofs.StoredLaws.{fresh-held, view-hold, hold-sound, sound-view}
 use Rattle.image.specs.Writable.{Writable}
 use Rattle.image.proofs.Writables.{sound-writable}

@@ -1,10 +1,9 @@
 -- One call of a list: by its record, and by what the player's record does.
 use Prim.Native.Nat.{ℕ, ◌+◌, ◌-◌, ◌≤◌, ◌<◌}
-use mathlib.Core.Path.{◌≡◌, refl, sym, ◌∙◌, ap}
+use mathlib.Core.Path.{◌≡◌, refl, ◌∙◌, ap}
 use mathlib.Core.Bool.{true, false}
 use mathlib.Core.List.{List, [], ◌∷◌}
 use native.Mathlib.Omega.{arith}
-use lib.Dec.{eqb}
 use lib.ListN.{length, get_or, take, drop}
 use borrow.Author.Tests.{le-leb, lt-leb, eq-eqb, ne_eqb}
 use Rattle.model.specs.Lists.{if◌then◌else◌}
@@ -18,7 +17,7 @@ use Rattle.calls.specs.StoredCalls.{reply, call_stored, reply_stored, KeepsSound
 use Rattle.calls.proofs.Settling.{call-keeps}
 use Rattle.navigator.specs.Records.{played_stored}
 use Rattle.navigator.proofs.FirstRecord.{first-whole}
-use Rattle.recording.specs.CallBytes.{restore_kind, image_length, call_asked, call_of, first_image, first_call, first_whole}
+use Rattle.recording.specs.CallBytes.{image_length, call_asked, call_of, first_image, first_call, first_whole}
 use Rattle.recording.specs.Counts.{reply_to}
 use Rattle.recording.specs.OneCall.{called_stored, call_length}
 

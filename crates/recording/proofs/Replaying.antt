@@ -1,6 +1,6 @@
 -- The place that is reached in a list of calls: what is left, from the session there, ends as the whole list does, and creates and
 -- closes what is not counted yet.
-use Prim.Native.Nat.{ℕ, zero, suc, ◌+◌, ◌-◌, ◌≤◌, ◌<◌}
+use Prim.Native.Nat.{ℕ, ◌+◌, ◌-◌, ◌≤◌, ◌<◌}
 use mathlib.Core.Path.{◌≡◌, refl, sym, ◌∙◌, ap}
 use mathlib.Core.List.{List, [], ◌∷◌, ◌++◌}
 use native.Mathlib.Omega.{arith}
@@ -9,7 +9,7 @@ use lib.ListN.{length, get_or, take, drop, length-take}
 use Rattle.model.specs.Table.{table_refusal}
 use Rattle.model.specs.Session.{State, screens_in}
 use Rattle.model.specs.Calls.{Call, launch, start, finishing_start, back, look, restore, call}
-use Rattle.model.specs.Player.{Request, unplayable, asks, request_of}
+use Rattle.model.specs.Player.{Request, unplayable, request_of}
 use Rattle.model.specs.Histories.{after, along, by_rules}
 use Rattle.model.specs.Balance.{created}
 use Rattle.model.proofs.Logic.{if-elim}
@@ -25,7 +25,6 @@ use Rattle.records.specs.Records.{word_at}
 use Rattle.calls.specs.declared.Reply.{Reply}
 use Rattle.calls.specs.StoredCalls.{by_program}
 use Rattle.calls.proofs.HistoryLaws.{call-held, after-held}
-use Rattle.recording.specs.declared.Counted.{Counted}
 use Rattle.recording.specs.CallBytes.{image_length, call_asked, call_of, calls_in}
 use Rattle.recording.specs.Counts.{reply_to, created_for, closing, Counts}
 use Rattle.recording.proofs.Reading.{length_at, call_at, whole-at, cut_at, few-at}

@@ -1,5 +1,6 @@
 // Lists of calls, given as bytes: the session after a whole list, and whether two lists end in sessions that no later list
 // tells apart. The table is checked once, and the session not at all: each call leaves it sound.
+#![tactic(auto)]
 
 ghost use Rattle.std.specs.Prelude.{◌-◌, ◌≤◌, ◌≡◌, ◌↔◌, true, false, length, drop};
 ghost use Rattle.model.specs.Lists.{All};

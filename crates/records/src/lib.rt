@@ -1,4 +1,5 @@
 // Records as bytes, six each: kind, screen, flag word high byte first; and the call that a record asks for.
+#![tactic(auto)]
 
 ghost use Rattle.std.specs.Prelude.{◌+◌, ◌<◌, ◌≤◌, min, ◌≡◌, length};
 ghost use Rattle.model.specs.Written.{written};

@@ -10,7 +10,7 @@ use Rattle.model.specs.declared.Group.{Group}
 use Rattle.model.specs.declared.Rule.{Rule}
 use Rattle.model.specs.Lists.{first}
 use Rattle.model.specs.Table.{mode_of, is_single_task, is_single_instance}
-use Rattle.model.specs.Session.{State, Stack, front, front_screen}
+use Rattle.model.specs.Session.{State, front, front_screen}
 use Rattle.model.specs.Rules.{rules_of, is_single, is_apart, group_of, sought_by, fits, choose_in, choose}
 use Rattle.session.specs.declared.Task.{Task}
 use Rattle.session.specs.Stored.{view_task}

@@ -1,5 +1,6 @@
 // Which rule a start uses, the task found for it, what the rule does, and whether there is room for it. The search and the choice
 // take the group of rules and what they ask of the flags as values.
+#![tactic(auto)]
 
 ghost use Rattle.std.specs.Prelude.{ℕ, ◌+◌, ◌*◌, ◌≤◌, ◌<◌, ◌≡◌, ◌&&◌, ◌||◌, eqb, length};
 ghost use Rattle.model.specs.Lists.{if◌then◌else◌};

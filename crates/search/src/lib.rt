@@ -1,4 +1,5 @@
 // The searches: for a task, from the front; for a screen in a task, from the top.
+#![tactic(auto)]
 
 ghost use Rattle.std.specs.Prelude.{◌+◌, ◌*◌, ◌<◌, ◌≤◌, ◌≡◌, ◌||◌, eqb, length, take};
 ghost use Rattle.model.specs.Session.{most_tasks, most_height};

@@ -1,4 +1,5 @@
 // The sentence of a reason, as agents read it, into a lent buffer.
+#![tactic(auto)]
 
 ghost use Rattle.std.specs.Prelude.{◌+◌, ◌≤◌, ◌≡◌, length};
 ghost use Rattle.model.specs.Sentences.{rule_sentence, refusal_sentence, sentence_of, longest_sentence};

@@ -1,4 +1,5 @@
 // Sessions as they are stored, by value: plain bytes, the same for callers in C and Rust.
+#![tactic(auto)]
 
 ghost use Rattle.std.specs.Prelude.{◌<◌, ◌≤◌, ◌≡◌, true, set};
 ghost use Rattle.model.specs.Session.{top as top_of, most_height, is_edition, screens_in};

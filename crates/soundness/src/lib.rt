@@ -1,4 +1,5 @@
 // Whether any stored session is sound under a good table. Whatever its bytes say, nothing is read outside of its arrays.
+#![tactic(auto)]
 
 ghost use Rattle.std.specs.Prelude.{◌≤◌, ◌≡◌, true, take, drop};
 ghost use Rattle.model.specs.Lists.{all, pairwise};

@@ -1,7 +1,7 @@
 -- What a start's plan puts is what the start makes, and it can be put. First the session before the marked screen closes, then
 -- where that screen stands: in front, or on top of the second task, to which the front task went.
 use Prim.Native.Nat.{ℕ, zero, suc, pred, ◌+◌, ◌≤◌}
-use mathlib.Core.Path.{◌≡◌, refl, sym, ◌∙◌, ap, ap₂}
+use mathlib.Core.Path.{◌≡◌, refl, sym, ◌∙◌, ap}
 use mathlib.Core.Bool.{Bool, true, false}
 use mathlib.Core.List.{List, [], ◌∷◌}
 use native.Mathlib.Omega.{arith}
@@ -12,7 +12,6 @@ use Rattle.model.specs.declared.Change.{Change}
 use Rattle.model.specs.declared.Effect.{Effect}
 use Rattle.model.specs.declared.Flags.{Flags}
 use Rattle.model.specs.declared.Mark.{Mark}
-use Rattle.model.specs.declared.Rule.{Rule}
 use Rattle.model.specs.Lists.{if◌then◌else◌}
 use Rattle.model.specs.Session.{State, top, most_height}
 use Rattle.model.specs.Search.{place_of}
@@ -44,7 +43,7 @@ use Rattle.plans.specs.Plans.{closes, closes_with, Opens}
 use Rattle.plans.proofs.Answered.{Uncovers}
 use Rattle.plans.proofs.Closes.{NearFront, put_in, plan-closes, plan-puttable, closed-puttable, marked-puttable}
 use Rattle.starts.specs.declared.Chosen.{Chosen}
-use Rattle.starts.specs.Steps.{mark_if, Plannable, plan_shift, plan_mark, plan_next, plan_closed, plan_moved, carrying_plan, start_plan}
+use Rattle.starts.specs.Steps.{mark_if, Plannable, plan_shift, plan_mark, plan_next, plan_closed, carrying_plan, start_plan}
 
 -- ---- what a start makes
 

@@ -1,5 +1,6 @@
 // A start in steps, each a function: its own checks, seek, choose, decide. Which task, which rule and whether there is room is known
 // before anything is put, so a refused start's plan changes nothing. Its flags are read from the word once, where it seeks.
+#![tactic(auto)]
 
 ghost use Rattle.std.specs.Prelude.{◌≡◌};
 ghost use Rattle.model.specs.Calls.{caller_closes, no_history_after};

@@ -1,4 +1,5 @@
 // A screen table's bytes: its check, what it says of a screen, and whether one stands at the start of an input.
+#![tactic(auto)]
 
 ghost use Rattle.std.specs.Prelude.{◌+◌, ◌*◌, ◌<◌, ◌≡◌, leb, length};
 ghost use Rattle.model.specs.Lists.{all_below};

@@ -1,4 +1,5 @@
 // The depth report: a tally of answers, one answer more, and the report of a tally.
+#![tactic(auto)]
 
 ghost use Rattle.std.specs.Prelude.{◌+◌, ◌*◌, ◌≤◌, ◌<◌, max, ◌≡◌, true, []};
 ghost use Rattle.model.specs.Session.{most_height};

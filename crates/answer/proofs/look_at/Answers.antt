@@ -1,6 +1,5 @@
 -- `answer::look_at` meets its contract: a look reads the front task and the numbers.
 use mathlib.Core.Path.{sym, ◌∙◌}
-use borrow.Author.Rules.{rules}
 use Rattle.session.proofs.Known.{sized}
 use Rattle.answer.proofs.LookLaws.{look-fronted}
 use Rattle.answer.proofs.look_at.Goals as goal

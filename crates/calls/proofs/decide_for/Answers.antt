@@ -1,7 +1,6 @@
 -- `calls::decide_for` meets its contract: a start decides by a rule, and any other record is the plan of the call that it asks for.
 use mathlib.Core.Path.{◌∙◌, ap}
 use mathlib.Core.Bool.{Bool, false}
-use borrow.Author.Rules.{rules}
 use Rattle.session.proofs.Known.{sized}
 use Rattle.records.proofs.Tags.{tag-starts}
 use Rattle.plans.specs.declared.Plan.{Plan}

@@ -1,6 +1,5 @@
 -- `calls::launch_refusal` meets its contract: 22 first, then 30.
-use mathlib.Core.Path.{◌≡◌, sym, ◌∙◌, ap}
-use borrow.Author.Rules.{rules}
+use mathlib.Core.Path.{sym, ◌∙◌, ap}
 use borrow.Author.Tests.{eq-eqb, ne_eqb}
 use Rattle.model.specs.Session.{is_edition}
 use Rattle.calls.proofs.launch_refusal.Goals as goal

@@ -1,7 +1,6 @@
 -- `calls::launched` meets its contract: a screen is created where the plan is not refused.
 use Prim.Native.Nat.{ℕ, zero, suc}
 use mathlib.Core.Path.{◌≡◌, refl, ◌∙◌, ap}
-use borrow.Author.Rules.{rules}
 use Rattle.model.specs.Balance.{if_accepted}
 use Rattle.starts.specs.Steps.{without_rule}
 use Rattle.calls.proofs.launched.Goals as goal

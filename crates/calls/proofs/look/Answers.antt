@@ -1,6 +1,5 @@
 -- `calls::look` meets its contract: refused by the shared checks, or the session as it is, and what it shows.
 use mathlib.Core.Path.{sym, ◌∙◌}
-use borrow.Author.Rules.{rules}
 use Rattle.model.specs.Calls.{look}
 use Rattle.session.proofs.Known.{sized}
 use Rattle.calls.proofs.Settling.{shared-ready, call-refused, look-settled, ready-seen}

@@ -1,5 +1,4 @@
 -- `calls::refuse` meets its contract: the session as it was, and the answer of the refusal.
-use borrow.Author.Rules.{rules}
 use Rattle.calls.proofs.refuse.Goals as goal
 
 pub returns : goal.returns

@@ -1,5 +1,4 @@
 -- `calls::seek_for` meets its contract: a start seeks a task, any other record does not.
-use borrow.Author.Rules.{rules}
 use Rattle.records.proofs.Tags.{tag-starts, tag-others}
 use Rattle.calls.proofs.seek_for.Goals as goal
 

@@ -3,7 +3,7 @@ use mathlib.Core.Path.{sym, ◌∙◌, ap}
 use mathlib.Core.Bool.{false}
 use borrow.Author.Rules.{rules}
 use Rattle.model.specs.Calls.{start}
-use Rattle.session.proofs.Known.{Sized, sized}
+use Rattle.session.proofs.Known.{sized}
 use Rattle.calls.specs.declared.Reply.{Reply}
 use Rattle.calls.specs.StoredCalls.{call_stored}
 use Rattle.calls.proofs.Settling.{shared-ready}

@@ -1,6 +1,5 @@
 -- `closing::main_without` meets its contract: the tests are those of the definition, in its order.
 use mathlib.Core.Path.{sym}
-use borrow.Author.Rules.{rules}
 use Rattle.closing.proofs.Closed.{without-itself, without-behind, without-before}
 use Rattle.closing.proofs.main_without.Goals as goal
 

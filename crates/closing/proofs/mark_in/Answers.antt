@@ -1,6 +1,5 @@
 -- `closing::mark_in` meets its contract, change by change.
 use mathlib.Core.Path.{sym, ap, ap₂}
-use borrow.Author.Rules.{rules}
 use Rattle.model.specs.declared.Change.{Change}
 use Rattle.model.specs.Marks.{mark_in}
 use Rattle.closing.proofs.mark_in.Goals as goal

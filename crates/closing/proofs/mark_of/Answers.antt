@@ -1,6 +1,5 @@
 -- `closing::mark_of` meets its contract, effect by effect.
 use mathlib.Core.Path.{sym, ◌∙◌, ap}
-use borrow.Author.Rules.{rules}
 use Rattle.model.specs.declared.Effect.{Effect}
 use Rattle.model.specs.Marks.{mark_after}
 use Rattle.closing.proofs.Marked.{mark-first, mark-behind}

@@ -1,5 +1,4 @@
 -- The call of a record, by its kind.
-use borrow.Author.Rules.{rules}
 use Rattle.container_lists.proofs.Playing.{plain_step, recorded-step, one-back, no_call}
 use Rattle.container_lists.proofs.called.Goals as goal
 

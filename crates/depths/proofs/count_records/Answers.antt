@@ -1,6 +1,5 @@
 -- Six bytes a record, of which the last may be cut.
 use native.Mathlib.Omega.{arith}
-use borrow.Author.Rules.{rules}
 use Rattle.play.proofs.BlockLaws.{records-few, records-many}
 use Rattle.depths.proofs.count_records.Goals as goal
 

@@ -1,6 +1,5 @@
 -- The records are run in the manner that says nothing and tallies the answers.
 use mathlib.Core.Path.{◌∙◌}
-use borrow.Author.Rules.{rules}
 use Rattle.model.specs.Player.{records_in}
 use Rattle.session.specs.Stored.{view}
 use Rattle.depths.proofs.BlockLaws.{said-heights}

@@ -3,7 +3,6 @@ use mathlib.Core.Path.{◌∙◌}
 use mathlib.Core.List.{[], ◌∷◌, ◌++◌}
 use native.Mathlib.Nat.{zero-add}
 use native.Mathlib.Omega.{arith}
-use borrow.Author.Rules.{rules}
 use Rattle.model.specs.Player.{space, newline}
 use Rattle.model.proofs.WrittenLaws.{Wrote, wrote}
 use Rattle.depths.specs.Reports.{figures, numbers_text, report_text}

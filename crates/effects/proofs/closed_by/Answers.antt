@@ -1,6 +1,5 @@
 -- `effects::closed_by` meets its contract, effect by effect.
 use mathlib.Core.Path.{sym, ◌∙◌, ap}
-use borrow.Author.Rules.{rules}
 use Rattle.model.specs.declared.Effect.{Effect}
 use Rattle.effects.specs.Fronted.{closed_for}
 use Rattle.effects.proofs.closed_by.Goals as goal

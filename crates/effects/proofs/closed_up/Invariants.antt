@@ -1,12 +1,8 @@
 -- `effects::closed_up` meets its contract. The loop's invariant: j screens have come down by one.
-use Prim.Native.Nat.{ℕ, ◌+◌, ◌-◌, ◌≤◌}
-use mathlib.Core.Path.{◌≡◌, ◌∙◌, ap}
-use native.Mathlib.Omega.{arith}
-use borrow.Author.Rules.{rules}
-use lib.ListN.{length, get_or, set}
-use Rattle.session.specs.declared.Task.{Task}
+use Prim.Native.Nat.{◌-◌, ◌≤◌}
+use mathlib.Core.Path.{◌≡◌}
 use Rattle.session.specs.Stored.{with_screens}
-use Rattle.effects.proofs.Rows.{closing_up, close-begin, close-step, close-end}
+use Rattle.effects.proofs.Rows.{closing_up}
 use Rattle.effects.proofs.closed_up.Given as goal
 
 abbrev pub invariant-loop-j : goal.invariant-loop-j

@@ -1,7 +1,6 @@
 -- `effects::count_after` meets its contract.
 use mathlib.Core.Path.{sym, ◌∙◌, ap}
 use native.Mathlib.Numerals.{add-one}
-use borrow.Author.Rules.{rules}
 use Rattle.model.specs.declared.Effect.{Effect}
 use Rattle.effects.specs.Fronted.{count_after}
 use Rattle.effects.proofs.count_after.Goals as goal

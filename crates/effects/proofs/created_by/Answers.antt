@@ -1,7 +1,5 @@
 -- `effects::created_by` meets its contract, effect by effect.
 use mathlib.Core.Path.{sym, ◌∙◌, ap}
-use borrow.Author.Rules.{rules}
-use Rattle.model.specs.declared.Effect.{Effect}
 use Rattle.model.specs.Counts.{created_by}
 use Rattle.effects.proofs.created_by.Goals as goal
 

@@ -1,6 +1,5 @@
 -- `effects::front_after` meets its contract: the task is told by the change of its screens and by its root.
 use mathlib.Core.Path.{sym, ◌∙◌, ap, ap₂, subst}
-use borrow.Author.Rules.{rules}
 use Rattle.model.specs.declared.Change.{Change}
 use Rattle.session.proofs.Setters.{with_root}
 use Rattle.effects.specs.Carriable.{Alterable}

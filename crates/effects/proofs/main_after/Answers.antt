@@ -1,6 +1,5 @@
 -- `effects::main_after` meets its contract.
 use mathlib.Core.Path.{sym, ◌∙◌, ap}
-use borrow.Author.Rules.{rules}
 use Rattle.model.specs.declared.Effect.{Effect}
 use Rattle.effects.specs.Fronted.{main_after}
 use Rattle.effects.proofs.main_after.Goals as goal

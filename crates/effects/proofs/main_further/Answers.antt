@@ -1,5 +1,4 @@
 -- `effects::main_further` meets its contract: 0 stays 0, and any other place is one more.
-use borrow.Author.Rules.{rules}
 use Rattle.effects.proofs.Places.{further-some}
 use Rattle.effects.proofs.main_further.Goals as goal
 

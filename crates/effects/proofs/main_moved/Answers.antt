@@ -1,6 +1,5 @@
 -- `effects::main_moved` meets its contract: the tests are those of the definition, in its order.
 use mathlib.Core.Path.{sym}
-use borrow.Author.Rules.{rules}
 use Rattle.effects.proofs.Places.{moved_none, moved-itself, moved_before, moved-behind}
 use Rattle.effects.proofs.main_moved.Goals as goal
 

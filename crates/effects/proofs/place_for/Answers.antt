@@ -1,6 +1,5 @@
 -- `effects::place_for` meets its contract: the place for the change of its task.
 use mathlib.Core.Path.{sym, ◌∙◌, ap, subst}
-use borrow.Author.Rules.{rules}
 use Rattle.model.specs.declared.Change.{Change}
 use Rattle.effects.specs.Carriable.{Alterable}
 use Rattle.effects.specs.Fronted.{place_in}

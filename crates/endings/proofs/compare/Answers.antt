@@ -1,6 +1,5 @@
 -- The endings are those of both recordings under the first one's table, which is the second one's too.
 use mathlib.Core.Path.{◌≡◌, sym, ◌∙◌, ap}
-use borrow.Author.Rules.{rules}
 use lib.Seq.{length-take-le}
 use Rattle.model.specs.Table.{table_refusal}
 use Rattle.session.specs.Stored.{view}

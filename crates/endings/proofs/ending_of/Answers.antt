@@ -1,6 +1,5 @@
 -- The parts that are lent are the table and the calls.
 use mathlib.Core.Path.{sym, ◌∙◌}
-use borrow.Author.Rules.{rules}
 use lib.Seq.{length-take-le}
 use Rattle.model.specs.Player.{table_in, record_bytes}
 use Rattle.endings.proofs.Tables.{table-part, calls-part, replayed-good}

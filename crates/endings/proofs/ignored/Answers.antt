@@ -1,5 +1,4 @@
 -- The records begin behind the table.
-use borrow.Author.Rules.{rules}
 use Rattle.endings.proofs.Tables.{ignored-part}
 use Rattle.endings.proofs.ignored.Goals as goal
 

@@ -1,7 +1,6 @@
 -- The three shares, each by its test.
 use mathlib.Core.Path.{sym, ◌∙◌, ap}
 use mathlib.Core.Bool.{Bool, not, ◌&&◌, ◌||◌}
-use borrow.Author.Rules.{rules}
 use lib.Dec.{eqb, leb}
 use lib.ListN.{length, get_or}
 use Rattle.recording.specs.CallBytes.{restore_kind}

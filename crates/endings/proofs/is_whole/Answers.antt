@@ -1,7 +1,6 @@
 -- Fewer than six bytes are cut; an image follows a restore and nothing else.
 use Prim.Native.Nat.{ℕ, ◌-◌}
 use mathlib.Core.Path.{◌∙◌, ap}
-use borrow.Author.Rules.{rules}
 use lib.Dec.{leb}
 use lib.ListN.{length}
 use Rattle.endings.proofs.Sharing.{whole-few, whole-other, whole-restore}

@@ -1,7 +1,6 @@
 -- A look where there is no Back, and else a Back.
 use Prim.Native.Nat.{ℕ, zero, suc}
 use mathlib.Core.Path.{◌≡◌, refl}
-use borrow.Author.Rules.{rules}
 use Rattle.endings.specs.Verdict.{last_kind}
 use Rattle.endings.proofs.last_kind.Goals as goal
 

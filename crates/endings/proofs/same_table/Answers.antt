@@ -1,6 +1,5 @@
 -- The parts that are lent are the tables.
 use mathlib.Core.Path.{sym}
-use borrow.Author.Rules.{rules}
 use lib.Seq.{length-take-le}
 use Rattle.endings.proofs.Tables.{table-part}
 use Rattle.endings.proofs.same_table.Goals as goal

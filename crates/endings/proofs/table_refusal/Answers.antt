@@ -1,6 +1,5 @@
 -- The part that is lent is the table.
 use mathlib.Core.Path.{sym, ◌∙◌, ap}
-use borrow.Author.Rules.{rules}
 use lib.Seq.{length-take-le}
 use Rattle.model.specs.Table.{table_refusal}
 use Rattle.endings.proofs.Tables.{table-part}

@@ -1,5 +1,4 @@
 -- The sum of what mode, caller and flags are worth.
-use native.Mathlib.Omega.{arith}
 use borrow.Author.Rules.{rules}
 use Rattle.flag_chart.specs.Chart.{index_of}
 use Rattle.flag_chart.proofs.index.Goals as goal

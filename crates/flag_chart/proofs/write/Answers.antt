@@ -1,15 +1,11 @@
 -- The first i entries are written, with a place for each; then one more.
-use Prim.Native.Nat.{◌+◌, ◌*◌, ◌-◌, ◌≤◌}
 use mathlib.Core.Path.{◌≡◌, ◌∙◌}
 use native.Mathlib.Nat.{zero-add}
 use native.Mathlib.Omega.{arith}
-use lib.ListN.{length}
 use borrow.Author.Rules.{rules}
-use Rattle.model.proofs.WrittenLaws.{Wrote, wrote}
-use Rattle.flag_chart.specs.Chart.{lines_of, chart_text}
+use Rattle.model.proofs.WrittenLaws.{wrote}
+use Rattle.flag_chart.specs.Chart.{chart_text}
 use Rattle.flag_chart.proofs.TextLaws.{lines_none, lines_more}
-use Rattle.flag_chart.proofs.write.Reads as reads
-use Rattle.flag_chart.proofs.write.Lts as lts
 use Rattle.flag_chart.proofs.write.Goals as goal
 
 pub loop-i-init : goal.loop-i-init

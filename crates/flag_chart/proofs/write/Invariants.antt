@@ -1,15 +1,9 @@
 -- The first i entries are written, with a place for each; then one more.
-use Prim.Native.Nat.{◌+◌, ◌*◌, ◌-◌, ◌≤◌}
-use mathlib.Core.Path.{◌≡◌, ◌∙◌}
-use native.Mathlib.Nat.{zero-add}
-use native.Mathlib.Omega.{arith}
+use Prim.Native.Nat.{◌*◌, ◌-◌, ◌≤◌}
+use mathlib.Core.Path.{◌≡◌}
 use lib.ListN.{length}
-use borrow.Author.Rules.{rules}
-use Rattle.model.proofs.WrittenLaws.{Wrote, wrote}
-use Rattle.flag_chart.specs.Chart.{lines_of, chart_text}
-use Rattle.flag_chart.proofs.TextLaws.{lines_none, lines_more}
-use Rattle.flag_chart.proofs.write.Reads as reads
-use Rattle.flag_chart.proofs.write.Lts as lts
+use Rattle.model.proofs.WrittenLaws.{Wrote}
+use Rattle.flag_chart.specs.Chart.{lines_of}
 use Rattle.flag_chart.proofs.write.Given as goal
 
 abbrev pub invariant-loop-i : goal.invariant-loop-i

@@ -1,6 +1,5 @@
 -- The flags of the digits of the index.
 use mathlib.Core.Path.{refl}
-use borrow.Author.Rules.{rules}
 use Rattle.fronts.specs.Fronts.{word_at}
 use Rattle.fronts.proofs.word_at.Goals as goal
 

@@ -1,6 +1,5 @@
 -- `image::closes` meets its contract: the bytes are one of the three pairs.
 use lib.Dec.{eqb}
-use borrow.Author.Rules.{rules}
 use Rattle.image.proofs.Closing.{one-pair}
 use Rattle.image.proofs.closes.Goals as goal
 

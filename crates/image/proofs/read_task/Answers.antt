@@ -1,9 +1,6 @@
 -- `image::read_task` meets its contract. The loop's invariant: the i lowest screens are stored.
-use Prim.Native.Nat.{◌-◌, ◌≤◌}
-use mathlib.Core.Path.{◌≡◌}
 use native.Mathlib.Omega.{arith}
-use borrow.Author.Rules.{rules}
-use Rattle.image.proofs.ReadTask.{part_read, part_none, part-next, part-all}
+use Rattle.image.proofs.ReadTask.{part_none, part-next, part-all}
 use Rattle.image.proofs.read_task.Goals as goal
 
 pub loop-i-init : goal.loop-i-init

@@ -1,9 +1,7 @@
 -- `image::read_task` meets its contract. The loop's invariant: the i lowest screens are stored.
 use Prim.Native.Nat.{◌-◌, ◌≤◌}
 use mathlib.Core.Path.{◌≡◌}
-use native.Mathlib.Omega.{arith}
-use borrow.Author.Rules.{rules}
-use Rattle.image.proofs.ReadTask.{part_read, part_none, part-next, part-all}
+use Rattle.image.proofs.ReadTask.{part_read}
 use Rattle.image.proofs.read_task.Given as goal
 
 abbrev pub invariant-loop-i : goal.invariant-loop-i

@@ -1,6 +1,5 @@
 -- `image::shaped` meets its contract: fewer than six bytes are no image, and of six or more the trailer decides.
 use mathlib.Core.Path.{sym}
-use borrow.Author.Rules.{rules}
 use Rattle.image.proofs.ReadTrailer.{shaped-short, shaped-long}
 use Rattle.image.proofs.shaped.Goals as goal
 

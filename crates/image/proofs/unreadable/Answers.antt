@@ -1,5 +1,4 @@
 -- `image::unreadable` meets its contract.
-use borrow.Author.Rules.{rules}
 use Rattle.image.proofs.unreadable.Goals as goal
 
 pub returns : goal.returns

@@ -1,7 +1,6 @@
 -- `image_calls::save` meets its contract: refused by 8 before a byte is written, or the image at the start of the buffer.
 use mathlib.Core.Path.{sym}
 use native.Mathlib.Omega.{arith}
-use borrow.Author.Rules.{rules}
 use Rattle.session.proofs.StoredLaws.{sound-blank}
 use Rattle.image.proofs.Writables.{sound-writable}
 use Rattle.image_calls.proofs.Saving.{save-short, save-fits}

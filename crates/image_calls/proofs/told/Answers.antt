@@ -1,6 +1,5 @@
 -- `image_calls::told` meets its contract: the answer of the refusal, or what a look at the session shows.
 use mathlib.Core.Path.{◌∙◌}
-use borrow.Author.Rules.{rules}
 use Rattle.answer.proofs.LookLaws.{answer-refused, answer-accepted}
 use Rattle.image_calls.proofs.told.Goals as goal
 

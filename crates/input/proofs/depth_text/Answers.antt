@@ -1,7 +1,6 @@
 -- The line is that of the report of the answers' tally.
 use mathlib.Core.Path.{sym, ◌∙◌, ap}
 use native.Mathlib.Omega.{arith}
-use borrow.Author.Rules.{rules}
 use lib.ListN.{length}
 use Rattle.model.specs.Written.{written}
 use Rattle.model.proofs.WrittenLaws.{written-nil}

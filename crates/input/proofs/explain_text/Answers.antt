@@ -11,7 +11,6 @@ use Rattle.session.proofs.StoredLaws.{view-fresh}
 use Rattle.table.specs.declared.Beginning.{Beginning}
 use Rattle.table.specs.Beginnings.{beginning_of}
 use Rattle.table.proofs.BeginningLaws.{told, starts_with, starts-otherwise}
-use Rattle.model.specs.Player.{records_in, record_bytes}
 use Rattle.model.specs.Written.{written}
 use Rattle.model.proofs.WrittenLaws.{written-nil}
 use Rattle.play.proofs.Replies.{fresh-playable}

@@ -1,7 +1,6 @@
 -- The line, or nothing where there is less room than for the longest.
 use mathlib.Core.Path.{sym, ◌∙◌, ap}
 use native.Mathlib.Omega.{arith}
-use borrow.Author.Rules.{rules}
 use lib.ListN.{length}
 use Rattle.model.specs.Written.{written}
 use Rattle.model.proofs.WrittenLaws.{written-nil}

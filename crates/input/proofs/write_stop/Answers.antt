@@ -1,6 +1,5 @@
 -- The line of kind 0 and of refusal 1, from the start of the buffer.
 use native.Mathlib.Omega.{arith}
-use borrow.Author.Rules.{rules}
 use Rattle.input.proofs.write_stop.Goals as goal
 
 pub returns : goal.returns

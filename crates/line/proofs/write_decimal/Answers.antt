@@ -7,7 +7,6 @@ use lib.ListN.{length-set}
 use Rattle.model.specs.Player.{digit}
 use Rattle.model.proofs.WrittenLaws.{written-sets}
 use Rattle.line.proofs.LineLaws.{decimal-one, decimal-two, decimal-three}
-use borrow.Author.Rules.{rules}
 use Rattle.line.proofs.write_decimal.Goals as goal
 
 pub bounds-out-at-then-x-lt10 : goal.bounds-out-at-then-x-lt10

@@ -1,7 +1,6 @@
 -- `line::write_four` meets its contract: each number behind the one before it.
 use mathlib.Core.List.{[], ◌∷◌}
 use native.Mathlib.Omega.{arith}
-use borrow.Author.Rules.{rules}
 use Rattle.model.proofs.WrittenLaws.{Wrote, wrote, wrote-nil}
 use Rattle.line.specs.Spaced.{spaced}
 use Rattle.line.proofs.LineLaws.{spaced-cons}

@@ -1,7 +1,6 @@
 -- `line::write_line` meets its contract: four numbers, four more behind them, and the last two.
 use mathlib.Core.List.{[], ◌∷◌}
 use native.Mathlib.Omega.{arith}
-use borrow.Author.Rules.{rules}
 use Rattle.model.specs.Answers.{numbers_of}
 use Rattle.model.specs.Player.{line_text, line_of}
 use Rattle.model.proofs.WrittenLaws.{Wrote, wrote}

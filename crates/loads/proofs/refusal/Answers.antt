@@ -1,6 +1,5 @@
 -- The table's refusal, or else the seed's.
 use mathlib.Core.Path.{sym, ◌∙◌}
-use borrow.Author.Rules.{rules}
 use Rattle.loads.proofs.LoadLaws.{table-refused, table_taken}
 use Rattle.loads.proofs.refusal.Goals as goal
 

@@ -4,7 +4,6 @@ use mathlib.Core.Path.{◌≡◌, ◌∙◌, ap}
 use native.Mathlib.Nat.{mod-lt}
 use native.Mathlib.Omega.{arith}
 use lib.Bits.{bit_and}
-use borrow.Author.Rules.{rules}
 use Rattle.model.specs.Written.{written}
 use Rattle.records.specs.Records.{bytes_of_record}
 use Rattle.flags.proofs.Masks.{SEVEN, seven}

@@ -1,5 +1,4 @@
 -- `navigator::back` meets its contract: what `calls::back` gives with the refusal of the shared checks.
-use borrow.Author.Rules.{rules}
 use Rattle.model.specs.Calls.{back}
 use Rattle.navigator.proofs.Promised.{call-promised}
 use Rattle.navigator.proofs.back.Goals as goal

@@ -1,5 +1,4 @@
 -- `navigator::finish_start` meets its contract: what `calls::finish_start` gives with the refusal of the shared checks.
-use borrow.Author.Rules.{rules}
 use Rattle.model.specs.Calls.{finishing_start}
 use Rattle.navigator.proofs.Promised.{call-promised}
 use Rattle.navigator.proofs.finish_start.Goals as goal

@@ -1,5 +1,4 @@
 -- `navigator::launch` meets its contract: what `calls::launch` gives with the refusal of the shared checks.
-use borrow.Author.Rules.{rules}
 use Rattle.model.specs.Calls.{launch}
 use Rattle.navigator.proofs.Promised.{call-promised}
 use Rattle.navigator.proofs.launch.Goals as goal

@@ -1,5 +1,4 @@
 -- `navigator::look` meets its contract: what `calls::look` gives with the refusal of the shared checks; the session stays.
-use borrow.Author.Rules.{rules}
 use Rattle.session.proofs.Known.{sized}
 use Rattle.navigator.proofs.Promised.{look-promised}
 use Rattle.navigator.proofs.look.Goals as goal

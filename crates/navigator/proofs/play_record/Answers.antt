@@ -1,7 +1,5 @@
 -- `navigator::play_record` meets its contract: refused where no byte is there, or what the record asks for.
-use mathlib.Core.Path.{◌≡◌}
 use native.Mathlib.Omega.{arith}
-use borrow.Author.Rules.{rules}
 use Rattle.navigator.proofs.FirstRecord.{played-read, played-none, played-keeps}
 use Rattle.navigator.proofs.Promise3Laws.{promise3}
 use Rattle.navigator.proofs.play_record.Goals as goal

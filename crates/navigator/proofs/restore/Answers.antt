@@ -1,5 +1,4 @@
 -- `navigator::restore` meets its contract: what `calls::restore` gives with the refusal of the shared checks.
-use borrow.Author.Rules.{rules}
 use Rattle.image_calls.proofs.RestoreLaws.{restore-gives, all-bytes}
 use Rattle.navigator.proofs.Promise3Laws.{promise3}
 use Rattle.navigator.proofs.restore.Goals as goal

@@ -1,6 +1,5 @@
 -- `navigator::save` meets its contract: refused by the shared checks, or what `calls::save` gives on a sound session.
 use mathlib.Core.Path.{sym, ◌∙◌}
-use borrow.Author.Rules.{rules}
 use Rattle.session.proofs.Known.{sized}
 use Rattle.calls.proofs.Settling.{shared-ready}
 use Rattle.image_calls.proofs.Saving.{save-refused, save-gives}

@@ -1,6 +1,5 @@
 -- `navigator::shared_refusal` meets its contract: the table's refusal, then 20, then 0.
 use mathlib.Core.Path.{sym, ◌∙◌}
-use borrow.Author.Rules.{rules}
 use Rattle.calls.proofs.Settling.{shared-bad-table, shared-unsound, shared-passed}
 use Rattle.navigator.proofs.shared_refusal.Goals as goal
 

@@ -1,5 +1,4 @@
 -- What `chart_calls::start` gives with the refusal of the shared checks.
-use borrow.Author.Rules.{rules}
 use Rattle.model.specs.Calls.{start}
 use Rattle.navigator.proofs.Promised.{call-promised}
 use Rattle.navigator.proofs.start_by_chart.Goals as goal

@@ -1,5 +1,4 @@
 -- `navigator::why` meets its contract: what `reasons::why` gives with the refusal of the shared checks.
-use borrow.Author.Rules.{rules}
 use Rattle.reasons.proofs.Explains.{why-explains}
 use Rattle.navigator.proofs.why.Goals as goal
 

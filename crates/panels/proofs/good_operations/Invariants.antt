@@ -1,13 +1,10 @@
 -- The count, and the kinds one by one.
 use Prim.Native.Nat.{◌*◌, ◌-◌, ◌≤◌}
-use mathlib.Core.Path.{◌≡◌, refl, ◌∙◌}
-use mathlib.Core.Bool.{true, false}
-use native.Mathlib.Omega.{arith}
-use borrow.Author.Rules.{rules}
+use mathlib.Core.Path.{◌≡◌}
+use mathlib.Core.Bool.{true}
 use lib.ListN.{drop}
 use Rattle.model.specs.Lists.{all}
 use Rattle.panels.specs.Operations.{operations_in, good_count, good_kind}
-use Rattle.panels.proofs.CheckLaws.{count-test, count-bad, kind-next, kind-bad, kind-end}
 use Rattle.panels.proofs.good_operations.Given as goal
 
 abbrev pub invariant-loop-i : goal.invariant-loop-i

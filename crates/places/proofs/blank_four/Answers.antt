@@ -1,14 +1,9 @@
 -- Invariant: the test so far and the screens from i on, of all four tasks, decide.
-use Prim.Native.Nat.{◌-◌, ◌≤◌}
 use mathlib.Core.Path.{◌≡◌, sym, ◌∙◌}
-use mathlib.Core.Bool.{◌&&◌}
-use mathlib.Core.List.{[], ◌∷◌}
 use native.Mathlib.Omega.{arith}
 use lib.ListN.{length}
 use borrow.Author.Rules.{rules}
-use Rattle.model.specs.Lists.{all}
-use Rattle.session.specs.Stored.{is_blank}
-use Rattle.places.proofs.Fours.{rests, fours-begin, fours-step, fours-end}
+use Rattle.places.proofs.Fours.{fours-begin, fours-step, fours-end}
 use Rattle.places.proofs.blank_four.Goals as goal
 
 pub loop-i-init : goal.loop-i-init

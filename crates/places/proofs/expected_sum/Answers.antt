@@ -1,7 +1,6 @@
 -- `places::expected_sum` meets its contract, by its tests.
 use native.Mathlib.Omega.{arith}
 use borrow.Author.Tests.{eq-eqb, ne_eqb}
-use borrow.Author.Rules.{rules}
 use Rattle.places.specs.PlaceTests.{expected_sum}
 use Rattle.places.proofs.expected_sum.Goals as goal
 

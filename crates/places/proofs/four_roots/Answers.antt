@@ -1,5 +1,4 @@
 -- `places::four_roots` meets its contract, place by place.
-use borrow.Author.Rules.{rules}
 use Rattle.places.specs.PlaceTests.{place_root}
 use Rattle.places.proofs.four_roots.Goals as goal
 

@@ -1,7 +1,6 @@
 -- `places::place_root` meets its contract, by its one test.
 use mathlib.Core.Path.{sym, ◌∙◌}
 use borrow.Author.Tests.{eq-eqb, ne_eqb}
-use borrow.Author.Rules.{rules}
 use Rattle.places.proofs.place_root.Goals as goal
 
 pub returns-then-expected_sum-sum_of : goal.returns-then-expected_sum-sum_of

@@ -1,19 +1,17 @@
 -- A loop over the screens. Invariant: the sum so far and the screens from i on decide.
-use Prim.Native.Nat.{◌+◌, ◌*◌, ◌-◌, ◌≤◌}
 use mathlib.Core.Path.{◌≡◌, refl, ◌∙◌}
 use mathlib.Core.Bool.{true, false}
 use native.Mathlib.Omega.{arith}
 use lib.Dec.{ltb, eqb}
-use lib.ListN.{length, get_or, take, drop}
+use lib.ListN.{length, get_or}
 use mir.Syntax.{w8}
 use mir.Val.{Fits}
 use borrow.Author.Tests.{eq-eqb, ne_eqb, lt-ltb, le-ltb}
 use borrow.Author.Rules.{rules}
-use Rattle.model.specs.Lists.{all}
 use Rattle.model.specs.Table.{size_of, mode_of, is_single_instance}
 use Rattle.model.proofs.Tables.{good-shaped}
 use Rattle.model.proofs.Walks.{all-take-fail, all-take-next, all-take-end}
-use Rattle.places.specs.PlaceTests.{total, plain_screen, plain_sum}
+use Rattle.places.specs.PlaceTests.{plain_screen, plain_sum}
 use Rattle.places.proofs.Adding.{total-take-step, total-take-end}
 use Rattle.places.proofs.plain_sum.Goals as goal
 

@@ -1,12 +1,10 @@
 -- A loop that adds up. Invariant: the sum so far and that of the screens from i on make the sum of all.
-use Prim.Native.Nat.{◌+◌, ◌*◌, ◌-◌, ◌≤◌}
 use mathlib.Core.Path.{◌≡◌}
 use native.Mathlib.Omega.{arith}
-use lib.ListN.{length, get_or, drop}
+use lib.ListN.{length, get_or}
 use mir.Syntax.{w8}
 use mir.Val.{Fits}
 use borrow.Author.Rules.{rules}
-use Rattle.places.specs.PlaceTests.{total}
 use Rattle.places.proofs.Adding.{total-step, total-end}
 use Rattle.places.proofs.sum_of.Goals as goal
 

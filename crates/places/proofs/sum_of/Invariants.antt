@@ -1,13 +1,8 @@
 -- A loop that adds up. Invariant: the sum so far and that of the screens from i on make the sum of all.
 use Prim.Native.Nat.{◌+◌, ◌*◌, ◌-◌, ◌≤◌}
 use mathlib.Core.Path.{◌≡◌}
-use native.Mathlib.Omega.{arith}
-use lib.ListN.{length, get_or, drop}
-use mir.Syntax.{w8}
-use mir.Val.{Fits}
-use borrow.Author.Rules.{rules}
+use lib.ListN.{drop}
 use Rattle.places.specs.PlaceTests.{total}
-use Rattle.places.proofs.Adding.{total-step, total-end}
 use Rattle.places.proofs.sum_of.Given as goal
 
 abbrev pub invariant-loop-i : goal.invariant-loop-i

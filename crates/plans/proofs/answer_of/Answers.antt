@@ -1,7 +1,6 @@
 -- `plans::answer_of` meets its contract: refused, or what stands in front after the call.
 use Prim.Native.Nat.{ℕ, zero, suc}
 use mathlib.Core.Path.{◌≡◌, refl, ◌∙◌, ap}
-use borrow.Author.Rules.{rules}
 use Rattle.session.specs.declared.Task.{Task}
 use Rattle.answer.specs.Seen.{answer_of}
 use Rattle.answer.proofs.LookLaws.{answer-refused, answer-accepted}

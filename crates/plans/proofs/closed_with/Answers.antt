@@ -2,7 +2,6 @@
 use Prim.Native.Nat.{ℕ, ◌+◌}
 use mathlib.Core.Path.{◌≡◌, ap}
 use native.Mathlib.Omega.{arith}
-use borrow.Author.Rules.{rules}
 use Rattle.model.specs.declared.Mark.{Mark}
 use Rattle.model.specs.Marks.{closed_at}
 use Rattle.plans.proofs.closed_with.Goals as goal

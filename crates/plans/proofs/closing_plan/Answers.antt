@@ -1,6 +1,5 @@
 -- `plans::closing_plan` meets its contract, field by field.
 use lib.Dec.{leb}
-use borrow.Author.Rules.{rules}
 use Rattle.plans.proofs.Fields.{plan-by}
 use Rattle.plans.proofs.closing_plan.Goals as goal
 

@@ -1,5 +1,4 @@
 -- `plans::count_by` meets its contract.
-use borrow.Author.Rules.{rules}
 use borrow.Author.Tests.{lt-ltb, le-ltb}
 use Rattle.plans.proofs.count_by.Goals as goal
 

@@ -1,6 +1,5 @@
 -- `plans::front_by` meets its contract, by the mark.
 use mathlib.Core.Path.{◌∙◌, sym, ap}
-use borrow.Author.Rules.{rules}
 use borrow.Author.Tests.{eqb-true}
 use Rattle.model.proofs.Logic.{and_left}
 use Rattle.model.specs.declared.Mark.{Mark}

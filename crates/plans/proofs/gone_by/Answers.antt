@@ -1,5 +1,4 @@
 -- `plans::gone_by` meets its contract, by the mark.
-use borrow.Author.Rules.{rules}
 use borrow.Author.Tests.{eq-eqb, ne_eqb, le-leb, lt-leb}
 use Rattle.plans.proofs.gone_by.Goals as goal
 

@@ -1,5 +1,4 @@
 -- `plans::pops_by` meets its contract, by the mark.
-use borrow.Author.Rules.{rules}
 use Rattle.plans.proofs.pops_by.Goals as goal
 
 pub returns-in-Stands : goal.returns-in-Stands

@@ -1,11 +1,8 @@
 -- The player plays as many bytes as hold the records for whose lines there is room.
-use Prim.Native.Nat.{◌≤◌}
-use mathlib.Core.Path.{◌≡◌, refl, sym, ◌∙◌, ap}
+use mathlib.Core.Path.{sym, ◌∙◌}
 use native.Mathlib.Omega.{arith}
-use lib.ListN.{length, take}
 use lib.Seq.{length-take-le}
-use borrow.Author.Rules.{rules}
-use Rattle.play.proofs.BlockLaws.{part_for, part-fits, part-plays}
+use Rattle.play.proofs.BlockLaws.{part-fits, part-plays}
 use Rattle.play.proofs.play.Goals as goal
 
 pub slice_bounds-run-end : goal.slice_bounds-run-end

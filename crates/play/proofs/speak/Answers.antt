@@ -4,7 +4,6 @@ use mathlib.Core.Path.{◌≡◌, refl, sym, ◌∙◌, ap, subst}
 use mathlib.Core.Bool.{Bool}
 use native.Mathlib.Omega.{arith}
 use lib.ListN.{length}
-use borrow.Author.Rules.{rules}
 use Rattle.model.proofs.WrittenLaws.{written-nil}
 use Rattle.tally.specs.declared.Added.{Added}
 use Rattle.reasons.specs.StoredReasons.{reason_made}

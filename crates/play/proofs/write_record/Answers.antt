@@ -1,9 +1,5 @@
 -- The player's line, and the reason under that of a start.
-use Prim.Native.Nat.{◌+◌, ◌≤◌}
-use mathlib.Core.Path.{◌≡◌}
 use native.Mathlib.Omega.{arith}
-use lib.ListN.{length}
-use borrow.Author.Rules.{rules}
 use Rattle.model.specs.Player.{longest_line}
 use Rattle.model.specs.Explained.{longest_reason}
 use Rattle.model.proofs.WrittenLaws.{wrote, wrote-append}

@@ -1,8 +1,6 @@
 -- `reasons::of` meets its contract: refused, or not.
 use Prim.Native.Nat.{ℕ, zero, suc}
-use mathlib.Core.Path.{◌≡◌, refl, sym, ◌∙◌}
-use borrow.Author.Rules.{rules}
-use Rattle.model.specs.declared.Reason.{Reason}
+use mathlib.Core.Path.{◌≡◌, refl, ◌∙◌}
 use Rattle.model.specs.Reasons.{no_reason}
 use Rattle.reasons.specs.StoredReasons.{reason_in}
 use Rattle.reasons.proofs.of.Goals as goal

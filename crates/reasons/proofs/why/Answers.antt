@@ -1,7 +1,6 @@
 -- `reasons::why` meets its contract: what is decided of the start is told.
 use mathlib.Core.Path.{sym, ◌∙◌, ap}
 use mathlib.Core.Bool.{false}
-use borrow.Author.Rules.{rules}
 use Rattle.session.proofs.Known.{sized}
 use Rattle.calls.proofs.Settling.{shared-ready}
 use Rattle.reasons.specs.StoredReasons.{reason_made}

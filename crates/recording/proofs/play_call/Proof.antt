@@ -6,7 +6,6 @@ use lib.ListN.{length, get_or}
 use borrow.Author.Rules.{rules}
 use Rattle.records.specs.Records.{word_at}
 use Rattle.navigator.proofs.Promise3Laws.{promise3}
-use Rattle.calls.specs.declared.Reply.{Reply}
 use Rattle.recording.specs.CallBytes.{image_length}
 use Rattle.recording.proofs.OneCall.{few-cut, image-cut, image-whole, called-cut, called-restore, called-other, called-keeps}
 use Rattle.recording.proofs.play_call.Statement.{statement}

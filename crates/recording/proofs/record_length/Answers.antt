@@ -1,5 +1,4 @@
 -- `recording::record_length` meets its contract: six bytes, or as many as there are.
-use mathlib.Core.Path.{◌≡◌}
 use native.Mathlib.Omega.{arith}
 use Rattle.recording.proofs.record_length.Goals as goal
 

@@ -1,5 +1,4 @@
 -- A fresh session where the table is refused; else the session after the list. Both are sound, so the lifelong rules hold.
-use borrow.Author.Rules.{rules}
 use mathlib.Core.Path.{◌≡◌, sym, ◌∙◌}
 use Rattle.model.specs.Table.{table_refusal}
 use Rattle.navigator.proofs.Promise3Laws.{promise3}

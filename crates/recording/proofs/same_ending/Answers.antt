@@ -1,5 +1,4 @@
 -- Both lists are replayed, and the images of the two sessions compared. Promise 3 says what that tells.
-use borrow.Author.Rules.{rules}
 use mathlib.Core.Path.{◌≡◌, refl, sym, ◌∙◌}
 use Rattle.model.specs.Table.{table_refusal}
 use Rattle.navigator.proofs.Promise3Laws.{promise3}

@@ -1,5 +1,4 @@
 -- The call that a kind asks for, arm by arm.
-use borrow.Author.Rules.{rules}
 use Rattle.records.proofs.Asking.{asked-1, asked-2, asked-3, asked-4, asked-5, asked-none}
 use Rattle.records.proofs.asked_by.Goals as goal
 

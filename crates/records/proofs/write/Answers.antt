@@ -3,7 +3,6 @@ use mathlib.Core.Path.{refl}
 use native.Mathlib.Numerals.{towards_suc}
 use native.Mathlib.Omega.{arith}
 use lib.ListN.{length-set}
-use borrow.Author.Rules.{rules}
 use Rattle.model.proofs.WrittenLaws.{written-sets}
 use Rattle.records.specs.Records.{bytes_of_record}
 use Rattle.records.proofs.write.Goals as goal

@@ -1,5 +1,4 @@
 -- `rules::asks_of` meets its contract.
-use borrow.Author.Rules.{rules}
 use Rattle.model.specs.Table.{is_single_top}
 use Rattle.rules.proofs.asks_of.Goals as goal
 

@@ -1,5 +1,4 @@
 -- `rules::found_of` meets its contract, by the tests that it makes.
-use borrow.Author.Rules.{rules}
 use borrow.Author.Tests.{ne_eqb, le-leb, lt-leb}
 use Rattle.rules.proofs.found_of.Goals as goal
 

@@ -1,6 +1,5 @@
 -- `rules::group_of` meets its contract: the mode of b and the front screen decide.
 use mathlib.Core.Path.{sym, ◌∙◌}
-use borrow.Author.Rules.{rules}
 use Rattle.rules.proofs.Groups.{group-instance, group-task, group-apart, group-near}
 use Rattle.rules.proofs.group_of.Goals as goal
 

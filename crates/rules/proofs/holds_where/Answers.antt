@@ -1,5 +1,4 @@
 -- `rules::holds_where` meets its contract.
-use borrow.Author.Rules.{rules}
 use Rattle.rules.proofs.holds_where.Goals as goal
 
 pub returns-then-wanted : goal.returns-then-wanted

@@ -2,7 +2,6 @@
 use Prim.Native.Nat.{pred}
 use mathlib.Core.Path.{◌∙◌, ap}
 use native.Mathlib.Numerals.{sub-one}
-use borrow.Author.Rules.{rules}
 use Rattle.rules.proofs.index_of.Goals as goal
 
 pub returns : goal.returns

@@ -1,5 +1,4 @@
 -- `rules::instance_rule` meets its contract: R1 where a task was found, else R2.
-use borrow.Author.Rules.{rules}
 use Rattle.rules.proofs.instance_rule.Goals as goal
 
 pub returns-then-is_found : goal.returns-then-is_found

@@ -1,5 +1,4 @@
 -- `rules::is_apart` meets its contract.
-use borrow.Author.Rules.{rules}
 use Rattle.model.specs.Table.{is_single_instance}
 use Rattle.rules.proofs.is_apart.Goals as goal
 

@@ -1,5 +1,4 @@
 -- `rules::is_r7` meets its contract: by the rule's number.
-use borrow.Author.Rules.{rules}
 use Rattle.rules.proofs.is_r7.Goals as goal
 
 pub returns : goal.returns

@@ -1,6 +1,5 @@
 -- `rules::number_of` meets its contract: each rule is told by its own arm.
 use mathlib.Core.Path.{sym, ap}
-use borrow.Author.Rules.{rules}
 use Rattle.model.specs.Rules.{number_of}
 use Rattle.rules.proofs.number_of.Goals as goal
 

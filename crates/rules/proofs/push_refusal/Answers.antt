@@ -1,5 +1,4 @@
 -- `rules::push_refusal` meets its contract.
-use borrow.Author.Rules.{rules}
 use Rattle.rules.proofs.push_refusal.Goals as goal
 
 pub returns-then-is_push-t : goal.returns-then-is_push-t

@@ -1,5 +1,4 @@
 -- `rules::reordered` meets its contract, by whether the edition is 7 and the main task in front.
-use mathlib.Core.Path.{◌≡◌}
 use Rattle.model.specs.Effects.{reordered as reordered_by}
 use Rattle.rules.proofs.reordered.Goals as goal
 

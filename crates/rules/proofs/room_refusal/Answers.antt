@@ -1,5 +1,4 @@
 -- `rules::room_refusal` meets its contract: by the effect, the number of tasks or the height of the task that it changes.
-use borrow.Author.Rules.{rules}
 use borrow.Author.Tests.{eq-eqb, ne_eqb}
 use Rattle.rules.proofs.room_refusal.Goals as goal
 

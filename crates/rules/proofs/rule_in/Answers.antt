@@ -1,5 +1,4 @@
 -- `rules::rule_in` meets its contract: the rule of each group.
-use borrow.Author.Rules.{rules}
 use Rattle.rules.proofs.rule_in.Goals as goal
 
 pub returns-in-Instance : goal.returns-in-Instance

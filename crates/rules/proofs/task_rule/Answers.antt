@@ -1,7 +1,6 @@
 -- `rules::task_rule` meets its contract: the tests of R3, R4 and R5 over what was read of the task found.
 use mathlib.Core.Bool.{not}
 use mathlib.Core.Path.{ap}
-use borrow.Author.Rules.{rules}
 use Rattle.rules.proofs.task_rule.Goals as goal
 
 pub returns-then-not-is_found : goal.returns-then-not-is_found

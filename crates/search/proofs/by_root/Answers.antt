@@ -1,15 +1,11 @@
 -- `search::by_root` meets its contract. The loop's invariant: the place sought is the place in what is left, counted
 -- behind the roots that were passed.
-use Prim.Native.Nat.{ℕ, ◌-◌, ◌≤◌}
 use mathlib.Core.Path.{◌≡◌, sym, ◌∙◌}
-use mathlib.Core.Bool.{Bool}
 use native.Mathlib.Omega.{arith}
 use borrow.Author.Rules.{rules}
 use borrow.Author.Tests.{eq-eqb, ne_eqb}
-use lib.ListN.{length, take, drop}
-use lib.Dec.{eqb}
-use Rattle.model.specs.Lists.{find}
-use Rattle.search.proofs.Steps.{behind, find-begin, find-take-end, find-take-here, find-take-next}
+use lib.ListN.{length, take}
+use Rattle.search.proofs.Steps.{find-begin, find-take-end, find-take-here, find-take-next}
 use Rattle.search.proofs.by_root.Invariants.{root_is}
 use Rattle.search.proofs.by_root.Goals as goal
 

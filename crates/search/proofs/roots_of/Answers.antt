@@ -1,9 +1,9 @@
 -- `search::roots_of` meets its contract. The loop's invariant: the roots before i are stored.
-use Prim.Native.Nat.{ℕ, ◌-◌, ◌≤◌}
+use Prim.Native.Nat.{ℕ}
 use mathlib.Core.Path.{◌≡◌, refl, sym, ◌∙◌}
 use native.Mathlib.Omega.{arith}
 use borrow.Author.Rules.{rules}
-use lib.ListN.{length, take, length-map, length-replicate, length-set}
+use lib.ListN.{length, length-map, length-replicate, length-set}
 use lib.Seq.{take_all}
 use Rattle.session.proofs.Known.{long}
 use Rattle.session.specs.Stored.{root, roots_of}

@@ -1,13 +1,8 @@
 -- `search::roots_of` meets its contract. The loop's invariant: the roots before i are stored.
-use Prim.Native.Nat.{ℕ, ◌-◌, ◌≤◌}
-use mathlib.Core.Path.{◌≡◌, refl, sym, ◌∙◌}
-use native.Mathlib.Omega.{arith}
-use borrow.Author.Rules.{rules}
-use lib.ListN.{length, take, length-map, length-replicate, length-set}
-use lib.Seq.{take_all}
-use Rattle.session.proofs.Known.{long}
-use Rattle.session.specs.Stored.{root, roots_of}
-use Rattle.search.proofs.Roots.{next-root}
+use Prim.Native.Nat.{◌-◌, ◌≤◌}
+use mathlib.Core.Path.{◌≡◌}
+use lib.ListN.{length, take}
+use Rattle.session.specs.Stored.{roots_of}
 use Rattle.search.proofs.roots_of.Given as goal
 
 abbrev pub invariant-loop-i : goal.invariant-loop-i

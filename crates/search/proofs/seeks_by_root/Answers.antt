@@ -1,5 +1,4 @@
 -- `search::seeks_by_root` meets its contract, by whether the edition is 6.
-use borrow.Author.Rules.{rules}
 use Rattle.search.proofs.Seeking.{seeks-other, seeks-six}
 use Rattle.search.proofs.seeks_by_root.Goals as goal
 

@@ -1,6 +1,5 @@
 -- Each number has its sentence, and any other none.
 use mathlib.Core.Path.{refl}
-use borrow.Author.Rules.{rules}
 use Rattle.model.specs.Sentences.{refusal_sentence}
 use Rattle.sentences.proofs.Sayings.{said, said-none, no-refusal}
 use Rattle.sentences.proofs.write_refusal.Goals as goal

@@ -1,6 +1,5 @@
 -- Each number has its sentence, and any other none.
 use mathlib.Core.Path.{refl}
-use borrow.Author.Rules.{rules}
 use Rattle.model.specs.Sentences.{rule_sentence}
 use Rattle.sentences.proofs.Sayings.{said, said-none, no-rule}
 use Rattle.sentences.proofs.write_rule.Goals as goal

@@ -1,5 +1,4 @@
 -- By whether there is a refusal.
-use borrow.Author.Rules.{rules}
 use borrow.Author.Tests.{ne_eqb}
 use Rattle.model.specs.Sentences.{sentence_of}
 use Rattle.sentences.proofs.write_sentence.Goals as goal

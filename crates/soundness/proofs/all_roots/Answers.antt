@@ -1,5 +1,5 @@
 -- Invariant: the test so far and the roots from i on decide.
-use Prim.Native.Nat.{◌+◌, ◌-◌, ◌≤◌}
+use Prim.Native.Nat.{◌+◌}
 use mathlib.Core.Path.{◌≡◌, refl, sym, ◌∙◌, ap}
 use mathlib.Core.Bool.{Bool, ◌&&◌, and_assoc, and-true}
 use native.Mathlib.Omega.{arith}

@@ -1,12 +1,9 @@
 -- Invariant: the test so far and the roots from i on decide.
-use Prim.Native.Nat.{◌+◌, ◌-◌, ◌≤◌}
-use mathlib.Core.Path.{◌≡◌, refl, sym, ◌∙◌, ap}
-use mathlib.Core.Bool.{Bool, ◌&&◌, and_assoc, and-true}
-use native.Mathlib.Omega.{arith}
-use lib.ListN.{length, get_or, drop}
-use borrow.Author.Rules.{rules}
+use Prim.Native.Nat.{◌-◌, ◌≤◌}
+use mathlib.Core.Path.{◌≡◌}
+use mathlib.Core.Bool.{◌&&◌}
+use lib.ListN.{drop}
 use Rattle.model.specs.Lists.{all}
-use Rattle.model.proofs.Walks.{all-step, all_end}
 use Rattle.places.specs.PlaceTests.{is_root}
 use Rattle.soundness.proofs.all_roots.Given as goal
 

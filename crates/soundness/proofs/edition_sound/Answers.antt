@@ -1,5 +1,4 @@
 -- `soundness::edition_sound` meets its contract: the tests are the definition's, in its order.
-use borrow.Author.Rules.{rules}
 use Rattle.model.specs.Session.{edition_sound}
 use Rattle.soundness.proofs.Fits.{edition-kept}
 use Rattle.soundness.proofs.edition_sound.Goals as goal

@@ -1,13 +1,8 @@
 -- A loop over the roots. Invariant: those from i on decide.
 use Prim.Native.Nat.{◌-◌, ◌≤◌}
-use mathlib.Core.Path.{◌≡◌, refl, sym, ◌∙◌, ap}
-use mathlib.Core.Bool.{not}
-use native.Mathlib.Omega.{arith}
-use lib.ListN.{length, take, drop}
-use borrow.Author.Tests.{eq-eqb, ne_eqb}
-use borrow.Author.Rules.{rules}
+use mathlib.Core.Path.{◌≡◌}
+use lib.ListN.{take, drop}
 use Rattle.model.specs.Lists.{all}
-use Rattle.model.proofs.Walks.{all-take-fail, all-take-next, all-take-end}
 use Rattle.soundness.specs.Tests.{other_root}
 use Rattle.soundness.proofs.no_root.Given as goal
 

@@ -1,13 +1,12 @@
 -- A loop over the roots. Invariant: the pairs of those from i on decide. A root that may be that of several tasks is passed over.
 use mathlib.Core.Bool.{not}
-use Prim.Native.Nat.{◌+◌, ◌-◌, ◌≤◌, ◌<◌}
+use Prim.Native.Nat.{◌+◌, ◌<◌}
 use mathlib.Core.Path.{◌≡◌, refl, sym, ◌∙◌, ap}
 use native.Mathlib.Omega.{arith}
 use lib.Dec.{ltb}
 use lib.ListN.{length, get_or, take, drop}
 use borrow.Author.Tests.{ltb-true}
 use borrow.Author.Rules.{rules}
-use Rattle.model.specs.Lists.{pairwise}
 use Rattle.model.specs.Table.{size_of, is_single_task, is_single_instance, roots_once}
 use Rattle.model.proofs.Tables.{good-shaped}
 use Rattle.model.proofs.Walks.{said-yes, said-no, all-take-at, pairwise-take-step, pairwise-take-end}

@@ -1,6 +1,6 @@
 -- `starts::accepted` meets its contract: the plan of the rule and the removal with the mark that the start leaves, and the rest of
 -- what is decided.
-use mathlib.Core.Path.{◌≡◌, sym, ◌∙◌}
+use mathlib.Core.Path.{◌∙◌}
 use mathlib.Core.List.{List}
 use Prim.Native.Nat.{ℕ}
 use borrow.Author.Rules.{rules}

@@ -1,5 +1,4 @@
 -- `starts::caller_closes` meets its contract.
-use borrow.Author.Rules.{rules}
 use Rattle.model.specs.Calls.{caller_closes}
 use Rattle.starts.proofs.caller_closes.Goals as goal
 

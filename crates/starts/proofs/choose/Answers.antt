@@ -1,5 +1,4 @@
 -- `starts::choose` meets its contract: the rule, what it does, whether there is room, and the place.
-use borrow.Author.Rules.{rules}
 use Rattle.starts.proofs.choose.Goals as goal
 
 pub returns : goal.returns

@@ -1,5 +1,5 @@
 -- `starts::decide` meets its contract: refused before, refused for want of room, or accepted.
-use mathlib.Core.Path.{◌≡◌, ◌∙◌, ap}
+use mathlib.Core.Path.{◌∙◌, ap}
 use borrow.Author.Rules.{rules}
 use Rattle.plans.specs.declared.Plan.{Plan}
 use Rattle.session.proofs.Known.{Sized, sized}

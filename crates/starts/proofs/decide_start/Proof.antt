@@ -1,7 +1,6 @@
 -- `starts::decide_start` meets its contract: what the start seeks, and what is decided by that.
 use mathlib.Core.Path.{refl, ◌∙◌}
 use native.Mathlib.Omega.{arith}
-use borrow.Author.Rules.{rules}
 use Rattle.session.proofs.Known.{Sized, sized}
 use Rattle.starts.proofs.Seeking.{sought-inside, sought-planned, decided-stored}
 use Rattle.starts.proofs.decide_start.Statement.{statement}

@@ -1,7 +1,6 @@
 -- `starts::mark_if` meets its contract.
 use mathlib.Core.Path.{◌∙◌, sym, ap}
 use mathlib.Core.Bool.{Bool}
-use borrow.Author.Rules.{rules}
 use Rattle.starts.specs.Steps.{mark_if}
 use Rattle.starts.proofs.mark_if.Goals as goal
 

@@ -1,5 +1,4 @@
 -- `starts::no_history_after` meets its contract: a plain start by R7, the flag, and no flag.
-use borrow.Author.Rules.{rules}
 use Rattle.model.specs.Calls.{no_history_after}
 use Rattle.starts.proofs.no_history_after.Goals as goal
 

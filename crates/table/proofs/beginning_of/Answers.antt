@@ -1,7 +1,6 @@
 -- The length that N says is 4 to 130 exactly where N is good.
 use mathlib.Core.Path.{sym, ◌∙◌, ap}
 use native.Mathlib.Omega.{arith}
-use borrow.Author.Rules.{rules}
 use Rattle.table.specs.declared.Beginning.{Beginning}
 use Rattle.table.proofs.BeginningLaws.{begins-table, begins-cut, begins-bad}
 use Rattle.table.proofs.beginning_of.Goals as goal

@@ -1,7 +1,6 @@
 -- Without a byte N is 0; otherwise it is the first byte.
 use mathlib.Core.Path.{◌≡◌}
 use native.Mathlib.Omega.{arith}
-use borrow.Author.Rules.{rules}
 use lib.ListN.{get_or, get_or-eq_default}
 use Rattle.table.proofs.length_said.Goals as goal
 

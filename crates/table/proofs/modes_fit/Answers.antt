@@ -1,13 +1,11 @@
 -- A loop over the screens. Invariant: each mode below x fits.
-use Prim.Native.Nat.{◌-◌, ◌≤◌, ◌<◌}
+use Prim.Native.Nat.{◌<◌}
 use mathlib.Core.Path.{◌≡◌, refl, sym}
 use mathlib.Core.Bool.{true}
 use native.Mathlib.Numerals.{add-one}
 use native.Mathlib.Omega.{arith}
 use lib.Dec.{leb}
-use borrow.Author.Rules.{rules}
 use borrow.Author.Tests.{le-leb}
-use Rattle.model.specs.Lists.{all_below}
 use Rattle.model.specs.Table.{mode_of, single_instance}
 use Rattle.model.proofs.Logic.{refuted}
 use Rattle.model.proofs.Tables.{modes-decides}

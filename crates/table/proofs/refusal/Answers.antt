@@ -2,7 +2,6 @@
 use mathlib.Core.Bool.{not}
 use mathlib.Core.Path.{sym, ap}
 use native.Mathlib.Omega.{arith}
-use borrow.Author.Rules.{rules}
 use Rattle.model.proofs.Logic.{contradiction}
 use Rattle.model.proofs.Tables.{refusal-0, refusal-1, refusal-2, modes-decides}
 use Rattle.model.proofs.Walks.{said-yes, said-no}

@@ -1,7 +1,6 @@
 -- The quotient, rounded. Nothing wraps: quotient and remainder are at most x.
 use native.Mathlib.Omega.{arith}
 use native.Mathlib.Nat.{div-le_self, mod-le}
-use borrow.Author.Rules.{rules}
 use Rattle.tally.proofs.MeanLaws.{half-low, half_high, half-even, half-odd}
 use Rattle.tally.proofs.half_to_even.Goals as goal
 

@@ -1,7 +1,6 @@
 -- The rounded mean. It fits, since no height is above 32.
 use Prim.Native.Nat.{◌*◌}
 use native.Mathlib.Omega.{arith}
-use borrow.Author.Rules.{rules}
 use Rattle.tally.proofs.MeanLaws.{mean-none, mean-some, half-small}
 use Rattle.tally.proofs.tenths.Goals as goal
 

@@ -1,14 +1,9 @@
 -- The steps and the panels now, and the kept ones one by one.
 use Prim.Native.Nat.{◌-◌, ◌≤◌}
-use mathlib.Core.Path.{◌≡◌, refl}
-use mathlib.Core.List.{[]}
-use native.Mathlib.Omega.{arith}
-use borrow.Author.Rules.{rules}
+use mathlib.Core.Path.{◌≡◌}
 use lib.ListN.{take, drop}
 use Rattle.model.specs.Lists.{all}
 use Rattle.container.specs.Stored.{fits}
-use Rattle.container.proofs.Sizes.{sized}
-use Rattle.container.proofs.KeptLaws.{good-first, good-bad, fits_next, fits-stop, fits-end}
 use Rattle.container.proofs.Container.good.Given as goal
 
 abbrev pub invariant-loop-i : goal.invariant-loop-i

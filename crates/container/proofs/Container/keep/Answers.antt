@@ -1,6 +1,5 @@
 -- The panels found are kept behind those of the other steps.
 use mathlib.Core.Path.{ap}
-use borrow.Author.Rules.{rules}
 use Rattle.container.specs.Stored.{with_kept}
 use Rattle.container.proofs.Container.keep.Goals as goal
 

@@ -1,10 +1,8 @@
 -- The loop's invariant: the container of these panels, with the first i steps.
-use Prim.Native.Nat.{ℕ, ◌-◌, ◌≤◌}
+use Prim.Native.Nat.{ℕ}
 use mathlib.Core.Path.{◌≡◌, sym, ap, ◌∙◌}
-use mathlib.Core.List.{List, map}
+use mathlib.Core.List.{List}
 use native.Mathlib.Omega.{arith}
-use borrow.Author.Rules.{rules}
-use lib.ListN.{take}
 use Rattle.panels.specs.Stored.{view_panels}
 use Rattle.panels.proofs.PanelLaws.{view-held}
 use Rattle.container.specs.Calls.{state}

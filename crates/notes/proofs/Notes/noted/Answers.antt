@@ -1,7 +1,6 @@
 -- The three ways: nothing new, the first one, one more.
 use mathlib.Core.Bool.{not}
 use mathlib.Core.Path.{ap}
-use borrow.Author.Rules.{rules}
 use borrow.Author.Tests.{not-true, not-false}
 use Rattle.notes.proofs.Noting.{noted-none, noted-first, noted_more}
 use Rattle.notes.proofs.Notes.noted.Goals as goal

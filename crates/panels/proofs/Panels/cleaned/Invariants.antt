@@ -1,11 +1,8 @@
 -- What stands, pushed one by one.
-use Prim.Native.Nat.{ℕ, ◌≤◌, ◌-◌}
-use mathlib.Core.Path.{◌≡◌, refl, ap, ◌∙◌}
-use native.Mathlib.Omega.{arith}
-use borrow.Author.Rules.{rules}
-use lib.ListN.{length, take}
-use Rattle.panels.specs.Stored.{hold_panels, view_panels}
-use Rattle.panels.proofs.PanelLaws.{none-held, push-room, push-next}
+use Prim.Native.Nat.{◌≤◌, ◌-◌}
+use mathlib.Core.Path.{◌≡◌}
+use lib.ListN.{take}
+use Rattle.panels.specs.Stored.{hold_panels}
 use Rattle.panels.proofs.Panels.cleaned.Given as goal
 
 abbrev pub invariant-loop-i : goal.invariant-loop-i

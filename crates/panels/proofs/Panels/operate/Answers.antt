@@ -2,7 +2,6 @@
 use mathlib.Core.Path.{sym, ap, ◌∙◌}
 use mathlib.Core.List.{[]}
 use native.Mathlib.Omega.{arith}
-use borrow.Author.Rules.{rules}
 use Rattle.panels.specs.Stored.{hold_panels, view_panels}
 use Rattle.panels.proofs.PanelLaws.{none-held, held-count, clean-count, push-held}
 use Rattle.panels.proofs.OperationLaws.{op-add, op-remove, op-replace}

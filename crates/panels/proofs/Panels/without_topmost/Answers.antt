@@ -1,7 +1,6 @@
 -- The loop's invariant: all panels so far, and all without the topmost p.
-use Prim.Native.Nat.{ℕ, ◌≤◌, ◌<◌, ◌-◌}
+use Prim.Native.Nat.{ℕ, ◌<◌}
 use mathlib.Core.Path.{◌≡◌, ap, ◌∙◌}
-use mathlib.Core.Logic.{⊎_elim}
 use native.Mathlib.Omega.{arith}
 use borrow.Author.Rules.{rules}
 use borrow.Author.Tests.{ne_eqb}
@@ -39,7 +38,7 @@ loop-i-preserved c =
       omega arith,
       c.push-all.ensures ∙ push-next a.self.panels l.i e b l.all l.invariant.1,
       elim c.if-x-p.branch [
-        then-x-p w ↦ w.out-is ∙ push-same a.self.panels l.i e b a.p l.all l.invariant.1 w.if-x-p.true
+        | then-x-p w ↦ w.out-is ∙ push-same a.self.panels l.i e b a.p l.all l.invariant.1 w.if-x-p.true
         | else-x-p w ↦ w.out-is ∙ w.push-out.ensures ∙ push-other a.self.panels l.i e b a.p l.out l.invariant.2 (ne_eqb _ _ w.if-x-p.false)
       ],
     )

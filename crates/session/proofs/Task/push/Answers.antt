@@ -1,7 +1,6 @@
 -- `Task::push` meets its contract: by the one of `with_screen`.
 use Prim.Native.Nat.{◌+◌}
 use mathlib.Core.Path.{ap}
-use borrow.Author.Rules.{rules}
 use Rattle.session.specs.declared.Task.{Task}
 use Rattle.session.specs.Stored.{with_height}
 use Rattle.session.proofs.Task.push.Goals as goal

@@ -1,12 +1,12 @@
 -- `Task::with_screen` meets its contract. The loop's invariant: the first i places are stored.
-use Prim.Native.Nat.{◌-◌, ◌≤◌, ◌<◌}
+use Prim.Native.Nat.{◌<◌}
 use mathlib.Core.Path.{◌≡◌, refl, ◌∙◌, ap}
 use native.Mathlib.Omega.{arith}
 use borrow.Author.Rules.{rules}
 use lib.ListN.{length, get_or, set, length-set}
 use Rattle.session.specs.declared.Task.{Task}
 use Rattle.session.specs.Stored.{with_screens}
-use Rattle.session.proofs.Storing.{storing, storing-ahead, storing-step, storing-all, chosen-set}
+use Rattle.session.proofs.Storing.{storing-ahead, storing-step, storing-all, chosen-set}
 use Rattle.session.proofs.Task.with_screen.Goals as goal
 
 pub loop-i-init : goal.loop-i-init

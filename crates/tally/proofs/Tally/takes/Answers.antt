@@ -1,5 +1,4 @@
 -- The tests are those of the definition.
-use borrow.Author.Rules.{rules}
 use Rattle.tally.specs.Tallies.{takes}
 use Rattle.tally.proofs.Tally.takes.Goals as goal
 

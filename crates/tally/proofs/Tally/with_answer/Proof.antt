@@ -1,5 +1,4 @@
 -- The tally with an answer; the sums fit, since the tally is one and there is room.
-use Prim.Native.Nat.{◌-◌}
 use native.Mathlib.Omega.{arith}
 use borrow.Author.Rules.{rules}
 use Rattle.tally.proofs.Checks.{Takes, takes-decides, tally-sum}
