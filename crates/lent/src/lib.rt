@@ -1,6 +1,7 @@
 // The calls for programs in C and Rust. A slice is a pointer and a length there; a session or a tally that a call may change
 // is lent, and the call writes the new one there. Nothing is decided here: each call is the one of `navigator`, `fronts`,
 // `recording`, `loads`, `tally`, `container` or `flag_chart`, by value, and its session, tally or container is stored.
+#![tactic(auto)]
 
 ghost use Rattle.std.specs.Prelude.{◌≡◌, ◌↔◌, true, false, take};
 ghost use Rattle.model.specs.Table.{table_refusal};
