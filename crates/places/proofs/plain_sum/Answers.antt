@@ -63,7 +63,7 @@ loop-i-preserved c =
     let x = get_or a.t.screens o.i 0 in
     let b : Fits w8 x = search rules in
     let e : ltb x (size_of tb) ≡ true = lt-ltb x (size_of tb) (omega arith) in
-    let f : eqb (mode_of tb x) 3 ≡ false = ne_eqb (mode_of tb x) 3 (λ q. c.if-mode-eq3.false (c.mode.ensures ∙ q)) in
+    let f : eqb (mode_of tb x) 3 ≡ false = ne_eqb (mode_of tb x) 3 (omega arith) in
     let s = total-take-step a.t.screens a.h (omega arith) o.i (omega arith) in (
       (omega arith, omega arith),
       (omega arith, o.invariant.1.1 ∙ all-take-next (plain_screen tb) a.t.screens a.h (omega arith) o.i 0 (omega arith) (rw (e, f))),
