@@ -1,5 +1,5 @@
 -- Two bytes at most are read first; a table that is cut there has at most as many bytes as the longest table by its N.
-use Rattle.std.proofs.Common.{rules, arith, ℕ, ◌≤◌, ◌≡◌, ◌<◌, ◌+◌, List, ◌++◌, length, take, drop, length-take-le, length-append}
+use Rattle.std.proofs.Common.{rules, arith, ℕ, ◌≤◌, ◌≡◌, ◌<◌, List, ◌++◌, length, take, length-take-le, length-append}
 use Rattle.model.specs.Table.{longest_table}
 use Rattle.table.specs.Beginnings.{beginning_of}
 use Rattle.table.specs.declared.Beginning.{Beginning}
