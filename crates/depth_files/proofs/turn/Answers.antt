@@ -20,9 +20,9 @@ returns g c =
       tallied = c.tally_records-done.ensures.tally;
       counted = c.count_records-records.ensures;
       few =
-      let counted = c.count_records-records.ensures in
-      let most = few _ _ read.ensures.0 (omega (arith, read.auto.buffer, c.requires.input_len)) in
-      omega arith;
+          let counted = c.count_records-records.ensures in
+          let most = few _ _ read.ensures.0 (omega (arith, read.auto.buffer, c.requires.input_len)) in
+          omega arith;
       full = refl;
       keeps = c.tally_records-done.ensures.keeps;
     }
