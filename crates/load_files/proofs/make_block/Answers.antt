@@ -1,5 +1,5 @@
 -- The load of a block's bytes, at the start of the buffer.
-use Rattle.std.proofs.Common.{arith, ◌≡◌, ◌≤◌, ◌*◌, length, take, drop, length-take-le, ap, ◌∙◌}
+use Rattle.std.proofs.Common.{arith, ◌≤◌, ◌*◌, length, take, drop, length-take-le, ap, ◌∙◌}
 use Rattle.load_files.proofs.Made.{block_made}
 use Rattle.load_files.proofs.make_block.Goals as goal
 

@@ -1,5 +1,5 @@
 -- The state after a block is that after its records and those before it.
-use Rattle.std.proofs.Common.{arith, ℕ, ◌≡◌, ◌+◌, ◌-◌, ◌*◌, refl, sym, ap, ◌∙◌}
+use Rattle.std.proofs.Common.{arith, ◌≡◌, ◌+◌, ◌-◌, refl, sym, ap, ◌∙◌}
 use Rattle.loads.specs.Generator.{state_after}
 use Rattle.loads.proofs.GeneratorLaws.{state-append}
 use Rattle.load_files.specs.Blocks.{block_of}
@@ -19,8 +19,7 @@ loop-left-preserved g c =
     let done = a.records - l.left in
     let more = block_of l.left in
     let on : done + more ≡ a.records - (l.left - c.make_block-made.result.count) = omega (arith, made.count, l.invariant.0) in
-    let after = ap (λ s. state_after s more) l.invariant.1.0 ∙ sym (state-append a.seed done more) in
-    (
+    let after = ap (λ s. state_after s more) l.invariant.1.0 ∙ sym (state-append a.seed done more) in (
       omega (arith, l.invariant.0),
       (
         made.state ∙ after ∙ ap (state_after a.seed) on,
