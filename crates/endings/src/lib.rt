@@ -47,7 +47,7 @@ pub fn same_table(first: &[u8], second: &[u8]) -> bool
 {
     let i = table_end(first);
     let j = table_end(second);
-    first[..i] == second[..j]
+    check::same(&first[..i], &second[..j])
 }
 
 // A recording's records that are no call: how many, and the place of the first, counted from the recording's first byte.

@@ -248,7 +248,7 @@ fn same_image(s: Session, t: Session) -> bool
     let mut b = [0u8; LONGEST_IMAGE];
     let n = image::write(s, &mut a);
     let m = image::write(t, &mut b);
-    a[..n] == b[..m]
+    check::same(&a[..n], &b[..m])
 }
 
 // What two lists are to each other: the refusal of the table (0 if none), and whether they end alike.
