@@ -3,14 +3,16 @@
 // What cannot be read or written is told on standard error, and what cannot be read has no report; a line there that begins
 // with `warning: ` changes nothing.
 
+#![tactic(auto)]
+
 ghost use Rattle.std.specs.Prelude.{◌*◌, ◌≡◌, length};
 ghost use Rattle.play.specs.Playable.{Playable};
 ghost use Rattle.reading.specs.Blocks.{most_records};
 ghost use Rattle.depth_files.specs.Turns.{Turns};
 
-use libc::STDERR_FILENO;
 use reading::BLOCK;
 use session::Session;
+use std::io::Read;
 use table::Beginning;
 use tally::Tally;
 
@@ -27,12 +29,19 @@ struct Turned {
 }
 
 // Reads one block of records into a lent buffer and tallies it.
-fn turn(fd: i32, table: &[u8], s: Session, t: Tally, input: &mut [u8]) -> Turned
+fn turn<R: Read>(
+    rt: &impl Eprint,
+    from: &mut R,
+    table: &[u8],
+    s: Session,
+    t: Tally,
+    input: &mut [u8],
+) -> Turned
     requires playable { Playable table.now s }
     requires input_len { length input.old ≡ 6 * most_records }
     ensures { Turns table.now s t input.new result }
 {
-    let read = reading::read_block(fd, input);
+    let read = reading::read_block(rt, from, input);
     let got = read.count;
     let done = depths::tally_records(table, s, t, &input[..got]);
     let records = depths::count_records(&input[..got]);
@@ -49,36 +58,32 @@ fn turn(fd: i32, table: &[u8], s: Session, t: Tally, input: &mut [u8]) -> Turned
 }
 
 // Warns of calls that the report leaves out.
-fn warn(left: usize) {
+fn warn(rt: &impl Eprint, left: usize) {
     if left == 0 {
         return;
     }
-    io::write_all(
-        STDERR_FILENO,
-        b"warning: calls behind the first 65535, which the report leaves out: ",
-    );
-    io::print_decimal(STDERR_FILENO, left as u64);
-    io::write_all(STDERR_FILENO, b"\n");
+    let _ = rt.eprint("warning: calls behind the first 65535, which the report leaves out: ");
+    let _ = rt.eprintln(left);
 }
 
 // Prints the report of a tally of so many calls.
-fn finish(t: Tally, calls: usize) {
+fn finish(rt: &(impl Print + Eprint), t: Tally, calls: usize) {
     let mut line = [0u8; depths::LONGEST];
     let long = depths::write_report(&mut line, t.report());
-    if reading::print(&line[..long]) {
-        warn(depths::left_out(calls, t));
+    if reading::print(rt, &line[..long]) {
+        warn(rt, depths::left_out(calls, t));
     }
 }
 
 // Tallies block after block from a fresh session. No input reaches the number of blocks that is counted down from.
-fn run(fd: i32, table: &[u8]) {
+fn run<R: Read>(rt: &(impl Print + Eprint), from: &mut R, table: &[u8]) {
     let mut s = Session::fresh();
     let mut t = Tally::none();
     let mut calls: usize = 0;
     let mut input = [0u8; BLOCK];
     let mut left: u64 = 1000000000000000;
     while left > 0 {
-        let r = turn(fd, table, s, t, &mut input);
+        let r = turn(rt, from, table, s, t, &mut input);
         if r.failed {
             return;
         }
@@ -86,26 +91,26 @@ fn run(fd: i32, table: &[u8]) {
         t = r.tally;
         calls += r.records;
         if !r.more {
-            finish(t, calls);
+            finish(rt, t, calls);
             return;
         }
         left -= 1;
     }
 }
 
-// Reports on what a file descriptor gives: the table, then the records. What is read and written no contract can say; what
+// Reports on what a reader gives: the table, then the records. What is read and written no contract can say; what
 // the line is stands in `depths`, what its numbers are in `tally`.
-pub fn report_on(fd: i32) {
+pub fn report_on<R: Read>(rt: &(impl Print + Eprint), from: &mut R) {
     let mut buffer = [0u8; table::LONGEST];
-    let read = reading::read_table(fd, &mut buffer);
+    let read = reading::read_table(rt, from, &mut buffer);
     if read.failed {
         return;
     }
     let got = read.count;
     let Beginning::Table(long) = table::beginning_of(&buffer[..got]) else {
-        finish(Tally::none(), 0);
-        reading::warn_no_table();
+        finish(rt, Tally::none(), 0);
+        reading::warn_no_table(rt);
         return;
     };
-    run(fd, &buffer[..long]);
+    run(rt, from, &buffer[..long]);
 }

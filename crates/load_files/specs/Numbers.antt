@@ -1,4 +1,4 @@
--- The numbers that the arguments of `load` are.
+-- The numbers that the arguments of `load` are, and those that it prints.
 use Rattle.std.specs.Prelude.{ℕ, ◌+◌, ◌-◌, ◌*◌, List, [], ◌∷◌, ltb}
 use Rattle.model.specs.Lists.{if◌then◌else◌}
 use Rattle.load_files.specs.declared.Number.{Number}
@@ -20,3 +20,7 @@ number_from v (x ∷ xs) =
 unfoldable pub number_in : List ℕ → Number
 number_in [] = Nothing
 number_in (x ∷ xs) = number_from 0 (x ∷ xs)
+
+-- the character that stands in hex for a number below 16
+abbrev pub hex_digit : ℕ → ℕ
+hex_digit x = if ltb x 10 then 48 + x else 87 + x

@@ -2,16 +2,19 @@
 // It only reads, calls and writes, in blocks; what the records are is the business of `loads`. Memory does not grow. What it does
 // not take, and what cannot be read or written, is told on standard error.
 
-ghost use Rattle.std.specs.Prelude.{◌*◌, ◌≡◌, true, false, length};
+#![tactic(auto)]
+
+ghost use Rattle.std.specs.Prelude.{◌<◌, ◌/◌, ◌%◌, ◌^◌, ◌*◌, ◌≡◌, true, false, length};
 ghost use Rattle.reading.specs.Blocks.{most_records};
 ghost use Rattle.loads.specs.Generator.{state_after};
 ghost use Rattle.loads.specs.Loads.{load_refusal};
 ghost use Rattle.load_files.specs.Blocks.{block_of, MakesBlock};
-ghost use Rattle.load_files.specs.Numbers.{number_in};
+ghost use Rattle.load_files.specs.Numbers.{number_in, hex_digit};
 
-use libc::{STDERR_FILENO, STDIN_FILENO};
 use loads::LoadReply;
 use reading::{BLOCK, RECORDS};
+use std::io::Read;
+use std::rt::Env;
 
 // ---- arguments
 
@@ -73,23 +76,23 @@ fn number_in(text: &[u8]) -> Number
 }
 
 // The number that an argument is.
-fn number_asked(place: usize) -> Number {
-    let mut text = io::buffer();
-    let n = os::arg(place, &mut text);
+fn number_asked(rt: &impl Env, place: usize) -> Number {
+    let mut text = [0u8; 4096];
+    let n = rt.arg(place, &mut text).unwrap_or(0);
     number_in(&text[..n])
 }
 
 // The part that the third argument names; the whole where there is none.
-fn part_asked() -> Asked {
-    if os::arg_count() == 3 {
+fn part_asked(rt: &impl Env) -> Asked {
+    if !reading::has_argument(rt, 3) {
         return Asked::For(Part::Whole);
     }
-    let mut word = io::buffer();
-    let n = os::arg(3, &mut word);
-    if check::same(&word[..n], b"--records") {
+    let mut word = [0u8; 4096];
+    let n = rt.arg(3, &mut word).unwrap_or(0);
+    if &word[..n] == b"--records".as_slice() {
         return Asked::For(Part::Records);
     }
-    if check::same(&word[..n], b"--state") {
+    if &word[..n] == b"--state".as_slice() {
         return Asked::For(Part::State);
     }
     Asked::Nothing
@@ -118,13 +121,13 @@ fn make_block(table: &[u8], state: u32, left: u64, buffer: &mut [u8]) -> LoadRep
 }
 
 // Writes a block where that is asked for, and yields whether the load goes on.
-fn give(writes: bool, block: &[u8]) -> bool
+fn give(rt: &(impl Print + Eprint), writes: bool, block: &[u8]) -> bool
     ensures { writes ≡ false → result ≡ true }
 {
     if !writes {
         return true;
     }
-    reading::print(block)
+    reading::print(rt, block)
 }
 
 // What a load came to: whether all of it was made, and the state after its last block.
@@ -135,7 +138,7 @@ struct Ran {
 }
 
 // Makes so many records, block after block, each from the state after the one before, and writes them where that is asked for.
-fn run(table: &[u8], seed: u32, records: u64, writes: bool) -> Ran
+fn run(rt: &(impl Print + Eprint), table: &[u8], seed: u32, records: u64, writes: bool) -> Ran
     requires { load_refusal table.now seed ≡ 0 }
     ensures done { writes ≡ false → result.done ≡ true }
     ensures last { result.done ≡ true → result.state ≡ state_after seed records }
@@ -147,7 +150,7 @@ fn run(table: &[u8], seed: u32, records: u64, writes: bool) -> Ran
         let made = make_block(table, state, left, &mut buffer);
         let count = made.count;
         let end = records::LENGTH * count;
-        if !give(writes, &buffer[..end]) {
+        if !give(rt, writes, &buffer[..end]) {
             return Ran {
                 done: false,
                 state: made.state,
@@ -163,81 +166,105 @@ fn run(table: &[u8], seed: u32, records: u64, writes: bool) -> Ran
 }
 
 // The state after so many records.
-fn last_state(table: &[u8], seed: u32, records: u64) -> u32
+fn last_state(rt: &(impl Print + Eprint), table: &[u8], seed: u32, records: u64) -> u32
     requires { load_refusal table.now seed ≡ 0 }
     ensures { result ≡ state_after seed records }
 {
-    let ran = run(table, seed, records, false);
+    let ran = run(rt, table, seed, records, false);
     ran.state
 }
 
+// The digit of a state in hex at a place, counted from its last.
+fn digit(state: u32, place: u32) -> u8
+    requires { place < 8 }
+    ensures { result ≡ hex_digit (state / 2 ^ (4 * place) % 16) }
+{
+    let x = (state >> (4 * place)) % 16;
+    if x < 10 {
+        return b'0' + x as u8;
+    }
+    b'a' + (x - 10) as u8
+}
+
 // Prints a state in hex.
-fn print_state(state: u32) {
-    let mut line = [0u8; 16];
-    let n = io::hex(state as u64, 8, &mut line);
-    if reading::print(b"0x") {
-        if reading::print(&line[..n]) {
-            reading::print(b"\n");
+fn print_state(rt: &(impl Print + Eprint), state: u32) {
+    let line = [
+        digit(state, 7),
+        digit(state, 6),
+        digit(state, 5),
+        digit(state, 4),
+        digit(state, 3),
+        digit(state, 2),
+        digit(state, 1),
+        digit(state, 0),
+    ];
+    if reading::print(rt, b"0x") {
+        if reading::print(rt, &line) {
+            reading::print(rt, b"\n");
         }
     }
 }
 
 // Writes the part of a load that is asked for.
-fn write_part(table: &[u8], seed: u32, records: u64, part: Part)
+fn write_part(rt: &(impl Print + Eprint), table: &[u8], seed: u32, records: u64, part: Part)
     requires { load_refusal table.now seed ≡ 0 }
 {
     match part {
         Part::Whole => {
-            if reading::print(table) {
-                run(table, seed, records, true);
+            if reading::print(rt, table) {
+                run(rt, table, seed, records, true);
             }
         }
         Part::Records => {
-            run(table, seed, records, true);
+            run(rt, table, seed, records, true);
         }
         Part::State => {
-            print_state(last_state(table, seed, records));
+            print_state(rt, last_state(rt, table, seed, records));
         }
     }
 }
 
-// The load of the table that a file descriptor gives first. What is read and written no contract can say; what the records are
+// The load of the table that a reader gives first. What is read and written no contract can say; what the records are
 // stands in `loads`.
-pub fn load_from(fd: i32, seed: u32, records: u64, part: Part) {
+pub fn load_from<R: Read>(
+    rt: &(impl Print + Eprint),
+    from: &mut R,
+    seed: u32,
+    records: u64,
+    part: Part,
+) {
     let mut buffer = [0u8; table::LONGEST];
-    let read = reading::read_table(fd, &mut buffer);
+    let read = reading::read_table(rt, from, &mut buffer);
     if read.failed {
         return;
     }
     let got = read.count;
     let refusal = loads::refusal(&buffer[..got], seed);
     if refusal != 0 {
-        io::write_all(STDERR_FILENO, b"load refused: ");
-        io::print_decimal(STDERR_FILENO, refusal as u64);
-        io::write_all(STDERR_FILENO, b"\n");
+        let _ = eprintln!(rt; "load refused: {refusal}");
         return;
     }
-    write_part(&buffer[..got], seed, records, part);
+    write_part(rt, &buffer[..got], seed, records, part);
 }
 
-// The same of standard input, as the program's arguments ask for it: a seed, how many records, and a part. Yields whether they
+// The same, as the program's arguments ask for it: a seed, how many records, and a part. Yields whether they
 // are such.
-pub fn load_asked() -> bool {
-    if os::arg_count() > 4 {
+pub fn load_asked<R: Read>(rt: &(impl Env + Print + Eprint), from: &mut R) -> bool {
+    if reading::has_argument(rt, 4) {
         return false;
     }
-    let Number::Is(seed) = number_asked(1) else {
+    let Number::Is(seed) = number_asked(rt, 1) else {
         return false;
     };
     if seed > 4294967295 {
         return false;
     }
-    let Number::Is(records) = number_asked(2) else {
+    let Number::Is(records) = number_asked(rt, 2) else {
         return false;
     };
-    let Asked::For(part) = part_asked() else {
+    let Asked::For(part) = part_asked(rt) else {
         return false;
     };
-    load_from(STDIN_FILENO, seed as u32, records, part);
+    load_from(rt, from, seed as u32, records, part);
     true
 }

@@ -3,6 +3,8 @@
 // not grow.
 // What cannot be read or written is told on standard error; a line there that begins with `warning: ` changes nothing.
 
+#![tactic(auto)]
+
 ghost use Rattle.std.specs.Prelude.{ℕ, ◌+◌, ◌*◌, ◌≤◌, ◌≡◌, List, ◌++◌, length};
 ghost use Rattle.model.specs.Player.{records_in};
 ghost use Rattle.notes.specs.Places.{Tells};
@@ -11,10 +13,10 @@ ghost use Rattle.player_files.specs.Restores.{restores_from, behind};
 ghost use Rattle.reading.specs.Blocks.{most_records};
 ghost use Rattle.player_files.specs.Turns.{Says, Turns};
 
-use libc::STDERR_FILENO;
 use notes::Notes;
 use reading::{BLOCK, RECORDS};
 use session::Session;
+use std::io::Read;
 use table::Beginning;
 
 // ---- kind 6, which is the restore of `same` and no record of the player
@@ -59,18 +61,16 @@ fn joined(met: Notes, others: usize, then: Notes) -> Notes
 }
 
 // Warns of records of kind 6.
-fn warn(met: Notes) {
+fn warn(rt: &impl Eprint, met: Notes) {
     if met.count == 0 {
         return;
     }
-    io::write_all(
-        STDERR_FILENO,
-        b"warning: records of kind 6, a restore in recordings for `same` and unknown to the player: ",
+    let _ = rt.eprint(
+        "warning: records of kind 6, a restore in recordings for `same` and unknown to the player: ",
     );
-    io::print_decimal(STDERR_FILENO, met.count as u64);
-    io::write_all(STDERR_FILENO, b", the first on line ");
-    io::print_decimal(STDERR_FILENO, met.first as u64);
-    io::write_all(STDERR_FILENO, b"\n");
+    let _ = rt.eprint(met.count);
+    let _ = rt.eprint(", the first on line ");
+    let _ = rt.eprintln(met.first);
 }
 
 // ---- blocks
@@ -91,7 +91,7 @@ struct Said {
 }
 
 // Says the player's lines of a block.
-fn say_lines(table: &[u8], s: Session, block: &[u8]) -> Said
+fn say_lines(rt: &(impl Print + Eprint), table: &[u8], s: Session, block: &[u8]) -> Said
     requires playable { Playable table.now s }
     requires block_len_bound { length (records_in block.now) ≤ most_records }
     ensures { Says table.now s block.now result }
@@ -99,7 +99,7 @@ fn say_lines(table: &[u8], s: Session, block: &[u8]) -> Said
     let mut output = [0u8; line::LONGEST * RECORDS];
     let played = play::play(table, s, block, &mut output);
     let written = played.written;
-    let went = reading::print(&output[..written]);
+    let went = reading::print(rt, &output[..written]);
     let after = played.session;
     Said {
         session: after,
@@ -108,7 +108,13 @@ fn say_lines(table: &[u8], s: Session, block: &[u8]) -> Said
 }
 
 // Says them and the reasons of starts.
-fn say_reasons(table: &[u8], s: Session, block: &[u8], words: bool) -> Said
+fn say_reasons(
+    rt: &(impl Print + Eprint),
+    table: &[u8],
+    s: Session,
+    block: &[u8],
+    words: bool,
+) -> Said
     requires playable { Playable table.now s }
     requires block_len_bound { length (records_in block.now) ≤ most_records }
     ensures { Says table.now s block.now result }
@@ -116,7 +122,7 @@ fn say_reasons(table: &[u8], s: Session, block: &[u8], words: bool) -> Said
     let mut output = [0u8; explained::LONGEST * RECORDS];
     let played = explained::explain(table, s, block, words, &mut output);
     let written = played.written;
-    let went = reading::print(&output[..written]);
+    let went = reading::print(rt, &output[..written]);
     let after = played.session;
     Said {
         session: after,
@@ -125,15 +131,15 @@ fn say_reasons(table: &[u8], s: Session, block: &[u8], words: bool) -> Said
 }
 
 // Says a block in this manner.
-fn say(table: &[u8], s: Session, block: &[u8], manner: Manner) -> Said
+fn say(rt: &(impl Print + Eprint), table: &[u8], s: Session, block: &[u8], manner: Manner) -> Said
     requires playable { Playable table.now s }
     requires block_len_bound { length (records_in block.now) ≤ most_records }
     ensures { Says table.now s block.now result }
 {
     match manner {
-        Manner::Lines => say_lines(table, s, block),
-        Manner::Reasons => say_reasons(table, s, block, false),
-        Manner::Sentences => say_reasons(table, s, block, true),
+        Manner::Lines => say_lines(rt, table, s, block),
+        Manner::Reasons => say_reasons(rt, table, s, block, false),
+        Manner::Sentences => say_reasons(rt, table, s, block, true),
     }
 }
 
@@ -148,15 +154,22 @@ struct Turned {
 
 // Reads one block of records into a lent buffer and plays it. It goes on unless the input ended in it or what it says cannot
 // be written.
-fn turn(fd: i32, table: &[u8], s: Session, manner: Manner, input: &mut [u8]) -> Turned
+fn turn<R: Read>(
+    rt: &(impl Print + Eprint),
+    from: &mut R,
+    table: &[u8],
+    s: Session,
+    manner: Manner,
+    input: &mut [u8],
+) -> Turned
     requires playable { Playable table.now s }
     requires input_len { length input.old ≡ 6 * most_records }
     ensures { Turns table.now s input.new result }
 {
-    let read = reading::read_block(fd, input);
+    let read = reading::read_block(rt, from, input);
     let got = read.count;
     let met = restores(&input[..got]);
-    let said = say(table, s, &input[..got], manner);
+    let said = say(rt, table, s, &input[..got], manner);
     let after = said.session;
     Turned {
         count: got,
@@ -167,19 +180,19 @@ fn turn(fd: i32, table: &[u8], s: Session, manner: Manner, input: &mut [u8]) -> 
 }
 
 // Plays block after block from a fresh session. No input reaches the number of blocks that is counted down from.
-fn run(fd: i32, table: &[u8], manner: Manner) {
+fn run<R: Read>(rt: &(impl Print + Eprint), from: &mut R, table: &[u8], manner: Manner) {
     let mut s = Session::fresh();
     let mut met = Notes::none();
     let mut others: usize = 0;
     let mut input = [0u8; BLOCK];
     let mut left: u64 = 1000000000000000;
     while left > 0 {
-        let t = turn(fd, table, s, manner, &mut input);
+        let t = turn(rt, from, table, s, manner, &mut input);
         s = t.session;
         let here = t.restores;
         met = joined(met, others, here);
         if !t.more {
-            warn(met);
+            warn(rt, met);
             return;
         }
         others += RECORDS;
@@ -188,24 +201,24 @@ fn run(fd: i32, table: &[u8], manner: Manner) {
 }
 
 // Says that there is no table, and warns of it where reading did not fail.
-fn stop(failed: bool) {
+fn stop(rt: &(impl Print + Eprint), failed: bool) {
     let mut line = [0u8; line::LONGEST];
     let long = input::write_stop(&mut line);
-    let went = reading::print(&line[..long]);
+    let went = reading::print(rt, &line[..long]);
     if went & !failed {
-        reading::warn_no_table();
+        reading::warn_no_table(rt);
     }
 }
 
-// Plays what a file descriptor gives, in this manner: the table, then the records. What is read and written no contract can
+// Plays what a reader gives, in this manner: the table, then the records. What is read and written no contract can
 // say; what the player's text is stands in `input`, what a block gives in `play` and `explained`.
-pub fn play_from(fd: i32, manner: Manner) {
+pub fn play_from<R: Read>(rt: &(impl Print + Eprint), from: &mut R, manner: Manner) {
     let mut buffer = [0u8; table::LONGEST];
-    let read = reading::read_table(fd, &mut buffer);
+    let read = reading::read_table(rt, from, &mut buffer);
     let got = read.count;
     let Beginning::Table(long) = table::beginning_of(&buffer[..got]) else {
-        stop(read.failed);
+        stop(rt, read.failed);
         return;
     };
-    run(fd, &buffer[..long], manner);
+    run(rt, from, &buffer[..long], manner);
 }

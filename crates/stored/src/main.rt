@@ -34,8 +34,12 @@
 // step with the stacks, and so were the lines of every_rule's four starts before the look, of which two are finishing starts by R9
 // and R7. The reasons in the other inputs are from the second navigator. The screens closed and the edition of each other line were
 // made twice, by scripts written from the documents and by the second navigator, and both agree.
-use libc::STDOUT_FILENO;
+#![tactic(auto)]
+
 use player_files::Manner;
+use std::fs::File;
+use std::rt::{Env, Files};
+use std::str;
 
 // The program that files are for: the player or `explain`, or `depth`.
 #[derive(Clone, Copy)]
@@ -45,46 +49,54 @@ enum Program {
 }
 
 // Runs it on the file with this path.
-fn run_on(path: &[u8], program: Program) {
-    let fd = os::open_read(path);
-    if fd < 0 {
-        os::fail(path);
-        return;
-    }
-    io::write_all(STDOUT_FILENO, path);
-    io::write_all(STDOUT_FILENO, b"\n");
+fn run_on(rt: &(impl Files + Print + Eprint), path: &str, program: Program) {
+    let mut from = match File::open(rt, path) {
+        Ok(from) => from,
+        Err(why) => {
+            reading::fail(rt, path, why);
+            return;
+        }
+    };
+    let _ = rt.println(path);
     match program {
-        Program::Player(manner) => player_files::play_from(fd, manner),
-        Program::Depth => depth_files::report_on(fd),
+        Program::Player(manner) => player_files::play_from(rt, &mut from, manner),
+        Program::Depth => depth_files::report_on(rt, &mut from),
     }
-    libc::close(fd);
 }
 
 // Takes the argument at this place: a program, or a file for the one so far. Yields the program for what follows.
-fn take(place: usize, program: Program) -> Program {
-    let mut word = io::buffer();
-    let n = os::arg(place, &mut word);
-    if os::errno() != 0 {
-        os::fail(b"argument");
-        return program;
-    }
-    if check::same(&word[..n], b"--reasons") {
+fn take(rt: &(impl Files + Env + Print + Eprint), place: usize, program: Program) -> Program {
+    let mut word = [0u8; 4096];
+    let n = match rt.arg(place, &mut word) {
+        Ok(n) => n,
+        Err(why) => {
+            reading::fail_argument(rt, why);
+            return program;
+        }
+    };
+    if &word[..n] == b"--reasons".as_slice() {
         return Program::Player(Manner::Reasons);
     }
-    if check::same(&word[..n], b"--words") {
+    if &word[..n] == b"--words".as_slice() {
         return Program::Player(Manner::Sentences);
     }
-    if check::same(&word[..n], b"--depth") {
+    if &word[..n] == b"--depth".as_slice() {
         return Program::Depth;
     }
-    run_on(&word[..n], program);
+    let Ok(path) = str::from_utf8(&word[..n]) else {
+        let _ = rt.eprintln("argument: no UTF-8 text");
+        return program;
+    };
+    run_on(rt, path, program);
     program
 }
 
-fn main() {
-    let count = os::arg_count();
+fn main(rt: HostRuntime) {
     let mut program = Program::Player(Manner::Lines);
-    for i in 1..count {
-        program = take(i, program);
+    for i in 1..usize::MAX {
+        if !reading::has_argument(&rt, i) {
+            return;
+        }
+        program = take(&rt, i, program);
     }
 }

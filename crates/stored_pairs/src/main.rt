@@ -7,18 +7,20 @@
 //   marked, unmarked             end in 0:[1,0], and only the first one has the No-History mark: a look tells them apart
 //   marked, restored_marked      the second one is restored with the mark
 //   emptied_6, refused_editions  both end empty: one by a Back in edition 6, one after a launch and restores that are all refused
-use libc::STDOUT_FILENO;
+#![tactic(auto)]
+
+use std::rt::{Env, Files};
 
 // Prints the argument at this place and what ends it.
-fn show(place: usize, end: &[u8]) {
-    let mut name = io::buffer();
-    let n = os::arg(place, &mut name);
-    io::write_all(STDOUT_FILENO, &name[..n]);
-    io::write_all(STDOUT_FILENO, end);
+fn show(rt: &(impl Env + Print), place: usize, end: &[u8]) {
+    let mut name = [0u8; 4096];
+    let n = rt.arg(place, &mut name).unwrap_or(0);
+    let _ = rt.write_all(&name[..n]);
+    let _ = rt.write_all(end);
 }
 
 // Compares the recordings of the pair that ends at this place, if one does.
-fn compare_pair(place: usize) {
+fn compare_pair(rt: &(impl Files + Env + Print + Eprint), place: usize) {
     if place == 0 {
         return;
     }
@@ -26,14 +28,16 @@ fn compare_pair(place: usize) {
         return;
     }
     let first = place - 1;
-    show(first, b" ");
-    show(place, b"\n");
-    same_files::compare_named(first, place);
+    show(rt, first, b" ");
+    show(rt, place, b"\n");
+    same_files::compare_named(rt, first, place);
 }
 
-fn main() {
-    let count = os::arg_count();
-    for i in 1..count {
-        compare_pair(i);
+fn main(rt: HostRuntime) {
+    for i in 1..usize::MAX {
+        if !reading::has_argument(&rt, i) {
+            return;
+        }
+        compare_pair(&rt, i);
     }
 }
