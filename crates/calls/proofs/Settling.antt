@@ -7,7 +7,8 @@ use native.Mathlib.Nat.{not-suc-le-zero}
 use native.Mathlib.Omega.{arith}
 use lib.ListN.{length}
 use borrow.Author.Tests.{not-false}
-use Rattle.model.specs.Lists.{if◌then◌else◌, is_empty}
+use Rattle.std.specs.Prelude.{if◌then◌else◌}
+use Rattle.model.specs.Lists.{is_empty}
 use Rattle.model.specs.Refusals.{Check, check, accepted, refusal}
 use Rattle.model.specs.Table.{table_refusal, table_shaped, table_filled}
 use Rattle.model.specs.Session.{Stack, State, is_edition}

@@ -1,7 +1,6 @@
 -- The plans of launch and Back: refused by k, the refusal of the checks before the call's own, or by its own, or made.
-use Rattle.std.specs.Prelude.{ℕ, not, List, [], ◌∷◌, eqb}
+use Rattle.std.specs.Prelude.{ℕ, not, List, [], ◌∷◌, eqb, if◌then◌else◌}
 use Rattle.model.specs.declared.Mark.{Mark}
-use Rattle.model.specs.Lists.{if◌then◌else◌}
 use Rattle.model.specs.Table.{main_screen}
 use Rattle.model.specs.Session.{stack, is_edition}
 use Rattle.model.specs.Calls.{edition_named}

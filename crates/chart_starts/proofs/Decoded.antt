@@ -10,7 +10,7 @@ use Rattle.model.specs.declared.Flags.{Flags}
 use Rattle.model.specs.declared.Found.{Found}
 use Rattle.model.specs.declared.Group.{Group}
 use Rattle.model.specs.declared.Rule.{Rule}
-use Rattle.model.specs.Lists.{if◌then◌else◌}
+use Rattle.std.specs.Prelude.{if◌then◌else◌}
 use Rattle.model.specs.Table.{mode_of, is_single_top, is_single_task, is_single_instance}
 use Rattle.model.specs.Session.{State, Stack, front_screen, top}
 use Rattle.model.specs.Search.{holds}

@@ -1,7 +1,6 @@
 -- What an entry of the flag chart says to the start (document 02, request 9).
-use Rattle.std.specs.Prelude.{ℕ, ◌%◌, eqb}
+use Rattle.std.specs.Prelude.{ℕ, ◌%◌, eqb, if◌then◌else◌}
 use Rattle.model.specs.declared.Group.{Group}
-use Rattle.model.specs.Lists.{if◌then◌else◌}
 use Rattle.model.specs.Flags.{bit}
 use Rattle.rules.specs.declared.Asks.{Asks}
 

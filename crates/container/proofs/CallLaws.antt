@@ -8,7 +8,7 @@ use lib.Dec.{eqb}
 use lib.ListN.{length, get_or, take}
 use lib.Seq.{take-take, get_or-take, length-take-le}
 use borrow.Author.Tests.{ne_eqb, eqb-true}
-use Rattle.model.specs.Lists.{if◌then◌else◌}
+use Rattle.std.specs.Prelude.{if◌then◌else◌}
 use Rattle.model.specs.Refusals.{refusal}
 use Rattle.panels.specs.Stored.{view_panels}
 use Rattle.panels.specs.declared.Panels.{Panels}

@@ -8,7 +8,7 @@ use lib.Dec.{eqb}
 use lib.ListN.{length, take, length-map, length-take, length-append}
 use lib.Seq.{get_or_at, take_at}
 use borrow.Author.Tests.{eqb-true, eqb-false, ne_eqb}
-use Rattle.model.specs.Lists.{if◌then◌else◌}
+use Rattle.std.specs.Prelude.{if◌then◌else◌}
 use Rattle.model.specs.Refusals.{refusal}
 use Rattle.model.specs.Histories.{after}
 use Rattle.model.proofs.ListLaws.{All-append}

@@ -7,7 +7,7 @@ use native.Mathlib.Omega.{arith}
 use lib.Dec.{eqb}
 use lib.ListN.{length, take}
 use borrow.Author.Tests.{eq-eqb, ne_eqb, eqb-false}
-use Rattle.model.specs.Lists.{if◌then◌else◌}
+use Rattle.std.specs.Prelude.{if◌then◌else◌}
 use Rattle.model.specs.Refusals.{refusal}
 use Rattle.panels.specs.Operations.{most_panels, operations_in, carried_out, makes_nine, good_operations}
 use Rattle.panels.specs.Stored.{no_panels, view_panels, hold_panels, carried_or37}

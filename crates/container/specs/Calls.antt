@@ -1,6 +1,5 @@
 -- Document 02, request 14: a container and its two calls, over lists; and the live steps of a list of calls.
-use Rattle.std.specs.Prelude.{ℕ, ◌-◌, Bool, List, [], ◌∷◌, ◌++◌, length, get_or, take}
-use Rattle.model.specs.Lists.{if◌then◌else◌}
+use Rattle.std.specs.Prelude.{ℕ, ◌-◌, Bool, List, [], ◌∷◌, ◌++◌, length, get_or, take, if◌then◌else◌}
 use Rattle.panels.specs.Operations.{operations_in, carried_out}
 
 -- "up to 8 recorded steps"

@@ -1,6 +1,6 @@
 -- What is promised of every list of steps and Backs from an empty container; and of a recorded step and a Back.
-use Rattle.std.specs.Prelude.{ℕ, ◌≤◌, ◌<◌, ◌≡◌, true, false, List, [], ◌∷◌, ◌++◌, eqb, length, get_or, take}
-use Rattle.model.specs.Lists.{if◌then◌else◌, All}
+use Rattle.std.specs.Prelude.{ℕ, ◌≤◌, ◌<◌, ◌≡◌, true, false, List, [], ◌∷◌, ◌++◌, eqb, length, get_or, take, if◌then◌else◌}
+use Rattle.model.specs.Lists.{All}
 use Rattle.model.specs.Histories.{after}
 use Rattle.panels.specs.Operations.{most_panels}
 use Rattle.container.specs.Calls.{most_steps, State, Step, Call, back, counted_in, run}

@@ -1,6 +1,6 @@
 -- Containers as they are stored: 8 kept panels, oldest first, 0 beyond. The checks and the calls on them.
-use Rattle.std.specs.Prelude.{ℕ, ◌+◌, Bool, true, false, not, ◌&&◌, ◌||◌, List, [], ◌∷◌, map, eqb, leb, length, take, set, replicate}
-use Rattle.model.specs.Lists.{if◌then◌else◌, all}
+use Rattle.std.specs.Prelude.{ℕ, ◌+◌, Bool, true, false, not, ◌&&◌, ◌||◌, List, [], ◌∷◌, map, eqb, leb, length, take, set, replicate, if◌then◌else◌}
+use Rattle.model.specs.Lists.{all}
 use Rattle.model.specs.Refusals.{Check, check, refusal}
 use Rattle.model.specs.Histories.{Machine}
 use Rattle.session.specs.Stored.{pad}

@@ -1,7 +1,7 @@
 -- A list of steps and Backs as bytes: a kind (1 a step, 2 a recorded step, 3 Back), a count n, and then 2n bytes, which are the
 -- operations of a step; Back passes over them. Every byte string reads as some list of calls.
-use Rattle.std.specs.Prelude.{ℕ, zero, suc, ◌+◌, ◌*◌, ◌≡◌, Bool, true, false, List, [], ◌∷◌, ◌++◌, leb, eqb, length, get_or, take, drop}
-use Rattle.model.specs.Lists.{if◌then◌else◌, All}
+use Rattle.std.specs.Prelude.{ℕ, zero, suc, ◌+◌, ◌*◌, ◌≡◌, Bool, true, false, List, [], ◌∷◌, ◌++◌, leb, eqb, length, get_or, take, drop, if◌then◌else◌}
+use Rattle.model.specs.Lists.{All}
 use Rattle.model.specs.Histories.{IsByte, after, answers}
 use Rattle.container.specs.Calls.{Call, step, back}
 use Rattle.container.specs.Stored.{empty_container, by_container}

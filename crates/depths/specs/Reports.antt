@@ -1,7 +1,6 @@
 -- The line of a report, byte for byte, in ASCII; and that of a whole recording.
-use Rattle.std.specs.Prelude.{ℕ, ◌/◌, ◌%◌, min, ◌≡◌, true, List, [], ◌∷◌, ◌++◌, ltb, length}
+use Rattle.std.specs.Prelude.{ℕ, ◌/◌, ◌%◌, min, ◌≡◌, true, List, [], ◌∷◌, ◌++◌, ltb, length, if◌then◌else◌}
 use Rattle.model.specs.declared.Answer.{Answer}
-use Rattle.model.specs.Lists.{if◌then◌else◌}
 use Rattle.model.specs.Session.{fresh}
 use Rattle.model.specs.Player.{digit, space, newline, decimal, records_in, starts_with_table, table_in, record_bytes}
 use Rattle.tally.specs.declared.Report.{Report}

@@ -1,7 +1,7 @@
 -- The text of a verdict, by its two cases.
 use mathlib.Core.Path.{◌≡◌, ap}
 use mathlib.Core.Bool.{Bool, true, false}
-use Rattle.model.specs.Lists.{if◌then◌else◌}
+use Rattle.std.specs.Prelude.{if◌then◌else◌}
 use Rattle.difference.specs.declared.Difference.{Difference}
 use Rattle.endings.specs.Verdict.{alike_text, apart_lines, verdict_text}
 

@@ -1,6 +1,6 @@
 -- What the bytes of a recording's records are taken for: images that restores bring, and what is left out.
-use Rattle.std.specs.Prelude.{ℕ, zero, suc, ◌-◌, ◌≡◌, Bool, not, ◌&&◌, ◌||◌, List, [], ◌∷◌, ◌++◌, eqb, leb, length, get_or, take, drop}
-use Rattle.model.specs.Lists.{if◌then◌else◌, sum_of}
+use Rattle.std.specs.Prelude.{ℕ, zero, suc, ◌-◌, ◌≡◌, Bool, not, ◌&&◌, ◌||◌, List, [], ◌∷◌, ◌++◌, eqb, leb, length, get_or, take, drop, if◌then◌else◌}
+use Rattle.model.specs.Lists.{sum_of}
 use Rattle.model.specs.Player.{record_bytes}
 use Rattle.notes.specs.Places.{place_if, Tells}
 use Rattle.recording.specs.CallBytes.{restore_kind, first_whole}

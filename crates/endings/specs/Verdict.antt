@@ -1,6 +1,5 @@
 -- What is said of two recordings' endings, byte for byte, in ASCII.
-use Rattle.std.specs.Prelude.{ℕ, zero, suc, ◌+◌, ◌*◌, List, ◌++◌, length}
-use Rattle.model.specs.Lists.{if◌then◌else◌}
+use Rattle.std.specs.Prelude.{ℕ, zero, suc, ◌+◌, ◌*◌, List, ◌++◌, length, if◌then◌else◌}
 use Rattle.model.specs.Texts.{ascii}
 use Rattle.model.specs.Player.{decimal, line_of, longest_line}
 use Rattle.difference.specs.declared.Difference.{Difference}

@@ -11,7 +11,7 @@ use lib.Pow.{pow-lt, shl_exact}
 use lib.Count.{ones, ones_in, ones_step}
 use borrow.Author.Tests.{eqb-true, eqb-false, eq-eqb, ne_eqb, not-true}
 use Rattle.model.specs.declared.Answer.{Answer}
-use Rattle.model.specs.Lists.{if◌then◌else◌}
+use Rattle.std.specs.Prelude.{if◌then◌else◌}
 use Rattle.model.proofs.Logic.{and_left, and_right, if-elim}
 use Rattle.fronts.specs.Sets.{digit, IsIn, Within, ones_among}
 use Rattle.fronts.specs.Fronts.{with_screen}

@@ -8,7 +8,7 @@ use native.Mathlib.Omega.{arith}
 use lib.Dec.{leb}
 use lib.ListN.{length, get_or, set, drop, replicate, length-append, length-map, length-drop}
 use lib.Seq.{drop-length, drop-cons, drop-drop}
-use Rattle.model.specs.Lists.{if◌then◌else◌}
+use Rattle.std.specs.Prelude.{if◌then◌else◌}
 use Rattle.model.specs.Session.{Stack, most_tasks, most_height}
 use Rattle.model.specs.Image.{Reading, unreadable, read_as, read_more, read_tasks}
 use Rattle.model.proofs.Logic.{and-decides, leb-decides}

@@ -8,7 +8,7 @@ use lib.Dec.{leb, eqb}
 use lib.ListN.{length, get_or}
 use lib.Seq.{get_or-drop}
 use borrow.Author.Tests.{leb-true, le-leb, lt-leb}
-use Rattle.model.specs.Lists.{if◌then◌else◌}
+use Rattle.std.specs.Prelude.{if◌then◌else◌}
 use Rattle.model.specs.Session.{state, most_tasks, is_edition}
 use Rattle.model.specs.Image.{body_in, trailer_in, image_shaped, Reading, unreadable, read_as, read_tasks, is_readable, tasks_read, image_readable, session_in}
 use Rattle.model.proofs.Logic.{and_left}

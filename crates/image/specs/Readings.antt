@@ -1,6 +1,5 @@
 -- What is read from an image, as it is stored.
-use Rattle.std.specs.Prelude.{ℕ, ◌+◌, Bool, true, false, List, get_or, take, drop}
-use Rattle.model.specs.Lists.{if◌then◌else◌}
+use Rattle.std.specs.Prelude.{ℕ, ◌+◌, Bool, true, false, List, get_or, take, drop, if◌then◌else◌}
 use Rattle.model.specs.Session.{Stack, stack, state}
 use Rattle.model.specs.Image.{Reading, unreadable, read_as, image_readable, session_in}
 use Rattle.session.specs.declared.Session.{Session}

@@ -2,8 +2,7 @@
 // all calls share.
 #![tactic(auto)]
 
-ghost use Rattle.std.specs.Prelude.{◌≡◌};
-ghost use Rattle.model.specs.Lists.{if◌then◌else◌};
+ghost use Rattle.std.specs.Prelude.{◌≡◌, if◌then◌else◌};
 ghost use Rattle.model.specs.Answers.{look_at, answer_by};
 ghost use Rattle.model.specs.Calls.{Call};
 ghost use Rattle.model.specs.Table.{table_refusal};

@@ -1,7 +1,6 @@
 -- What is printed of a whole input, as far as a buffer has room for it. Of the player's text no line is begun for which there is
 -- less room than the longest line needs; those of `explain` and `depth` are written whole or not at all.
-use Rattle.std.specs.Prelude.{ℕ, ◌*◌, ◌≤◌, Bool, List, [], leb, length}
-use Rattle.model.specs.Lists.{if◌then◌else◌}
+use Rattle.std.specs.Prelude.{ℕ, ◌*◌, ◌≤◌, Bool, List, [], leb, length, if◌then◌else◌}
 use Rattle.model.specs.Session.{fresh}
 use Rattle.model.specs.Answers.{refused}
 use Rattle.model.specs.Player.{line_of, text_of, records_in, starts_with_table, table_in, record_bytes, longest_line}

@@ -1,6 +1,5 @@
 -- The numbers that the arguments of `load` are, and those that it prints.
-use Rattle.std.specs.Prelude.{ℕ, ◌+◌, ◌-◌, ◌*◌, List, [], ◌∷◌, ltb}
-use Rattle.model.specs.Lists.{if◌then◌else◌}
+use Rattle.std.specs.Prelude.{ℕ, ◌+◌, ◌-◌, ◌*◌, List, [], ◌∷◌, ltb, if◌then◌else◌}
 use Rattle.load_files.specs.declared.Number.{Number}
 use Rattle.load_files.specs.declared.Number.TheVariants.{Is, Nothing}
 

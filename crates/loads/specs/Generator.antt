@@ -1,7 +1,6 @@
 -- Document 02, request 8: the generator, its records and its states.
-use Rattle.std.specs.Prelude.{ℕ, zero, suc, ◌+◌, ◌/◌, ◌%◌, List, [], ◌++◌, eqb}
+use Rattle.std.specs.Prelude.{ℕ, zero, suc, ◌+◌, ◌/◌, ◌%◌, List, [], ◌++◌, eqb, if◌then◌else◌}
 use Rattle.std.specs.Int.Bits.{bit_xor}
-use Rattle.model.specs.Lists.{if◌then◌else◌}
 use Rattle.model.specs.Flags.{seven_of}
 use Rattle.records.specs.Records.{bytes_of_record}
 

@@ -11,7 +11,8 @@ use borrow.Author.Tests.{not-false}
 use Rattle.model.specs.declared.Change.{Change}
 use Rattle.model.specs.declared.Effect.{Effect}
 use Rattle.model.specs.declared.Mark.{Mark}
-use Rattle.model.specs.Lists.{if◌then◌else◌, is_empty, find, omit, sum_of}
+use Rattle.std.specs.Prelude.{if◌then◌else◌}
+use Rattle.model.specs.Lists.{is_empty, find, omit, sum_of}
 use Rattle.model.specs.Refusals.{refusal}
 use Rattle.model.specs.Table.{table_refusal}
 use Rattle.model.specs.Session.{Stack, State, stack, no_stack, task_at, front, height, count, screens_in, fresh, most_height}

@@ -13,7 +13,8 @@ use Rattle.model.specs.declared.Choice.{Choice}
 use Rattle.model.specs.declared.Effect.{Effect}
 use Rattle.model.specs.declared.Flags.{Flags}
 use Rattle.model.specs.declared.Mark.{Mark}
-use Rattle.model.specs.Lists.{if◌then◌else◌, to_front}
+use Rattle.std.specs.Prelude.{if◌then◌else◌}
+use Rattle.model.specs.Lists.{to_front}
 use Rattle.model.specs.Refusals.{refusal}
 use Rattle.model.specs.Session.{Stack, State, stack, on_screens, set_no_history, task_at, front, front_screen, count}
 use Rattle.model.specs.Flags.{flags_of}

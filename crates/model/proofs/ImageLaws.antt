@@ -10,7 +10,8 @@ use lib.Dec.{leb}
 use lib.ListN.{length, get_or, take, drop, length-append, length-drop, take-append-drop}
 use lib.Seq.{take_at, drop_at, take-append_seam, drop-append_seam, length-take-le}
 use borrow.Author.Tests.{le-leb, not-false}
-use Rattle.model.specs.Lists.{if◌then◌else◌, All}
+use Rattle.std.specs.Prelude.{if◌then◌else◌}
+use Rattle.model.specs.Lists.{All}
 use Rattle.model.specs.Refusals.{refusal}
 use Rattle.model.specs.Table.{size_of, most_screens, table_shaped, table_checks, table_refusal}
 use Rattle.model.specs.Session.{Stack, State, stack, height, count, most_tasks, most_height, is_edition, sound}

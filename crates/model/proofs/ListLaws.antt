@@ -6,7 +6,8 @@ use mathlib.Core.List.{List, [], ◌∷◌, ◌++◌, map}
 use native.Mathlib.Nat.{le-suc, not-suc-le-zero, le_of_suc-le-suc}
 use native.Mathlib.Omega.{arith}
 use lib.ListN.{length, get_or, take, drop, set}
-use Rattle.model.specs.Lists.{if◌then◌else◌, is_empty, is_place, further, find, omit, put_second, to_front, on_first, All, Pairwise}
+use Rattle.std.specs.Prelude.{if◌then◌else◌}
+use Rattle.model.specs.Lists.{is_empty, is_place, further, find, omit, put_second, to_front, on_first, All, Pairwise}
 
 -- ---- places
 

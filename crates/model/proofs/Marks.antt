@@ -13,7 +13,8 @@ use borrow.Author.Tests.{lt-leb}
 use Rattle.model.specs.declared.Change.{Change}
 use Rattle.model.specs.declared.Effect.{Effect}
 use Rattle.model.specs.declared.Mark.{Mark}
-use Rattle.model.specs.Lists.{if◌then◌else◌, is_empty, is_place, further, find, omit, put_second, to_front, All}
+use Rattle.std.specs.Prelude.{if◌then◌else◌}
+use Rattle.model.specs.Lists.{is_empty, is_place, further, find, omit, put_second, to_front, All}
 use Rattle.model.specs.Session.{Stack, State, stack, no_stack, on_screens, on_tasks, set_no_history, task_at, front, count}
 use Rattle.model.specs.Search.{holds}
 use Rattle.model.specs.Effects.{move, changed, change_front, put_new, carry_out, without_task, task_left, close}

@@ -6,7 +6,8 @@ use mathlib.Core.Bool.{Bool, true, false}
 use mathlib.Core.List.{List, [], ◌∷◌}
 use native.Mathlib.Omega.{arith}
 use Rattle.model.specs.declared.Effect.{Effect}
-use Rattle.model.specs.Lists.{if◌then◌else◌, is_empty, sum_of}
+use Rattle.std.specs.Prelude.{if◌then◌else◌}
+use Rattle.model.specs.Lists.{is_empty, sum_of}
 use Rattle.model.specs.Session.{Stack, State, stack, no_stack, on_screens, task_at, front, count}
 use Rattle.model.specs.Effects.{move, changed, change_front, put_new, carry_out, task_left, close}
 use Rattle.model.proofs.ListLaws.{to_front-length}

@@ -13,7 +13,8 @@ use Rattle.model.specs.declared.Flags.{Flags}
 use Rattle.model.specs.declared.Found.{Found}
 use Rattle.model.specs.declared.Group.{Group}
 use Rattle.model.specs.declared.Rule.{Rule}
-use Rattle.model.specs.Lists.{if◌then◌else◌, is_empty, first, on_first}
+use Rattle.std.specs.Prelude.{if◌then◌else◌}
+use Rattle.model.specs.Lists.{is_empty, first, on_first}
 use Rattle.model.specs.Refusals.{refusal}
 use Rattle.model.specs.Table.{table_refusal}
 use Rattle.model.specs.Session.{Stack, State, on_screens, set_no_history, sound}

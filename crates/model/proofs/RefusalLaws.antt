@@ -5,7 +5,8 @@ use mathlib.Core.Path.{◌≡◌, refl, ◌∙◌, ap}
 use mathlib.Core.Bool.{Bool, true, false, not}
 use mathlib.Core.List.{List, [], ◌∷◌, ◌++◌}
 use native.Mathlib.Omega.{arith}
-use Rattle.model.specs.Lists.{if◌then◌else◌, first, All}
+use Rattle.std.specs.Prelude.{if◌then◌else◌}
+use Rattle.model.specs.Lists.{first, All}
 use Rattle.model.specs.Refusals.{Check, check, accepted, refusal}
 use Rattle.model.specs.Table.{table_checks, table_refusal}
 use Rattle.model.specs.Calls.{checks_in}

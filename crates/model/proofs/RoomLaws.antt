@@ -11,7 +11,8 @@ use Rattle.model.specs.declared.Rule.{Rule}
 use Rattle.model.specs.declared.Choice.{Choice}
 use Rattle.model.specs.declared.Change.{Change}
 use Rattle.model.specs.declared.Effect.{Effect}
-use Rattle.model.specs.Lists.{if◌then◌else◌, is_empty}
+use Rattle.std.specs.Prelude.{if◌then◌else◌}
+use Rattle.model.specs.Lists.{is_empty}
 use Rattle.model.specs.Refusals.{check, refusal}
 use Rattle.model.specs.Table.{size_of, table_refusal}
 use Rattle.model.specs.Session.{Stack, State, no_stack, task_at, front, height, count, most_tasks, most_height, sound}

@@ -9,7 +9,8 @@ use lib.Dec.{eqb}
 use Rattle.model.specs.declared.Flags.{Flags}
 use Rattle.model.specs.declared.Group.{Group}
 use Rattle.model.specs.declared.Rule.{Rule}
-use Rattle.model.specs.Lists.{if◌then◌else◌, first, pairwise, All, Pairwise, FirstFit}
+use Rattle.std.specs.Prelude.{if◌then◌else◌}
+use Rattle.model.specs.Lists.{first, pairwise, All, Pairwise, FirstFit}
 use Rattle.model.specs.Refusals.{Check, accepted, refusal}
 use Rattle.model.specs.Session.{State, sound}
 use Rattle.model.specs.Rules.{rules_of, group_of, sought_by, fits, choose_in, choose}

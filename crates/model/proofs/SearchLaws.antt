@@ -10,7 +10,8 @@ use lib.Dec.{ltb, eqb}
 use lib.ListN.{length, get_or}
 use borrow.Author.Tests.{ltb-true, ltb-false}
 use Rattle.model.specs.declared.Found.{Found}
-use Rattle.model.specs.Lists.{if◌then◌else◌, is_place, find, All}
+use Rattle.std.specs.Prelude.{if◌then◌else◌}
+use Rattle.model.specs.Lists.{is_place, find, All}
 use Rattle.model.specs.Table.{affinity_of, is_single_instance}
 use Rattle.model.specs.Session.{Stack, no_stack}
 use Rattle.model.specs.Search.{has_root, akin, has_affinity, is_found, seek_root, seek_affinity, seeks_by_root, seek, holds}

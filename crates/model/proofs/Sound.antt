@@ -8,7 +8,8 @@ use native.Mathlib.Omega.{arith}
 use lib.ListN.{length}
 use lib.Dec.{leb, ltb, eqb}
 use borrow.Author.Tests.{ne_eqb}
-use Rattle.model.specs.Lists.{if◌then◌else◌, all, pairwise, All, Pairwise}
+use Rattle.std.specs.Prelude.{if◌then◌else◌}
+use Rattle.model.specs.Lists.{all, pairwise, All, Pairwise}
 use Rattle.model.specs.Table.{size_of, main_screen, is_single_instance, roots_once}
 use Rattle.model.specs.Session.{Stack, State, task_at, height, count, is_alone, height_fits, screens_known, instance_alone, task_sound, roots_differ, main_sound, edition_sound, no_history_sound, sound, most_tasks, most_height, is_edition, edition_kept}
 use Rattle.model.proofs.Logic.{Decides, and-decides, not-decides, leb-decides, ltb-decides, eqb-decides, self-decides, false-decides, all-decides, pairwise-decides}

@@ -12,7 +12,8 @@ use Rattle.model.specs.declared.Found.{Found}
 use Rattle.model.specs.declared.Group.{Group}
 use Rattle.model.specs.declared.Rule.{Rule}
 use Rattle.model.specs.declared.Choice.{Choice}
-use Rattle.model.specs.Lists.{if◌then◌else◌, is_empty, is_place, find, first}
+use Rattle.std.specs.Prelude.{if◌then◌else◌}
+use Rattle.model.specs.Lists.{is_empty, is_place, find, first}
 use Rattle.model.specs.Refusals.{refusal}
 use Rattle.model.specs.Table.{size_of, affinity_of, is_single_task, is_single_instance, roots_once}
 use Rattle.model.specs.Session.{Stack, State, no_stack, task_at, front, front_screen, count, most_tasks}

@@ -1,13 +1,13 @@
 -- Document 01, "Calls" and "Refusals": each call, its checks, the session and the answer that it gives. Launch names an edition
 -- (document 02, request 4), and a start may leave no history (request 7).
-use Rattle.std.specs.Prelude.{ℕ, zero, suc, pred, ◌+◌, Bool, true, false, not, ◌&&◌, ◌||◌, List, [], ◌∷◌, ◌++◌, map, ltb, eqb, length, drop}
+use Rattle.std.specs.Prelude.{ℕ, zero, suc, pred, ◌+◌, Bool, true, false, not, ◌&&◌, ◌||◌, List, [], ◌∷◌, ◌++◌, map, ltb, eqb, length, drop, if◌then◌else◌}
 use Rattle.model.specs.declared.Answer.{Answer}
 use Rattle.model.specs.declared.Choice.{Choice}
 use Rattle.model.specs.declared.Change.{Change}
 use Rattle.model.specs.declared.Effect.{Effect}
 use Rattle.model.specs.declared.Flags.{Flags}
 use Rattle.model.specs.declared.Rule.{Rule}
-use Rattle.model.specs.Lists.{if◌then◌else◌, is_empty, is_place, find, on_first}
+use Rattle.model.specs.Lists.{is_empty, is_place, find, on_first}
 use Rattle.model.specs.Refusals.{Check, check, refusal}
 use Rattle.model.specs.Table.{size_of, main_screen, table_checks}
 use Rattle.model.specs.Session.{Stack, State, stack, state, set_no_history, task_at, front, height, count, most_tasks, most_height, is_edition, sound}

@@ -1,11 +1,11 @@
 -- Document 01, "Calls": move, clear to B, lift, new, empty, push; what each rule does, by edition (document 02, request 4); and
 -- closing a screen.
 -- Screens may be of any kind: `is_b` tells which of them are B, and `new_b` is the B that is pushed.
-use Rattle.std.specs.Prelude.{ℕ, suc, pred, Bool, ◌&&◌, List, [], ◌∷◌, eqb, ltb, set, drop}
+use Rattle.std.specs.Prelude.{ℕ, suc, pred, Bool, ◌&&◌, List, [], ◌∷◌, eqb, ltb, set, drop, if◌then◌else◌}
 use Rattle.model.specs.declared.Rule.{Rule}
 use Rattle.model.specs.declared.Change.{Change}
 use Rattle.model.specs.declared.Effect.{Effect}
-use Rattle.model.specs.Lists.{if◌then◌else◌, is_empty, further, find, omit, to_front, on_first}
+use Rattle.model.specs.Lists.{is_empty, further, find, omit, to_front, on_first}
 use Rattle.model.specs.Session.{Stack, State, stack, on_screens, on_tasks, on_main, on_edition, set_no_history, task_at, count, edition_kept}
 
 -- what R9 does with the front task: "lift"; and "Edition 7 ..: where R9 fits and the front task is the main one, the task is

@@ -1,8 +1,7 @@
 -- Document 02, request 1, "Agents want the reason under each start": the player's text with a line under each start. How the line
 -- looks is ours; the document does not say.
-use Rattle.std.specs.Prelude.{ℕ, ◌+◌, ◌*◌, Bool, true, false, List, [], ◌∷◌, ◌++◌}
+use Rattle.std.specs.Prelude.{ℕ, ◌+◌, ◌*◌, Bool, true, false, List, [], ◌∷◌, ◌++◌, if◌then◌else◌}
 use Rattle.model.specs.declared.Reason.{Reason}
-use Rattle.model.specs.Lists.{if◌then◌else◌}
 use Rattle.model.specs.Texts.{ascii}
 use Rattle.model.specs.Session.{State, fresh}
 use Rattle.model.specs.Answers.{refused}

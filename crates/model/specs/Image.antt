@@ -1,7 +1,6 @@
 -- Document 01, "Image", and refusals 5, 6 and 7; "the image carries" the edition "in the byte that was 8" (02,
 -- request 4), and the No-History mark in "bit 7 of the image's m byte" (02, request 7).
-use Rattle.std.specs.Prelude.{ℕ, zero, suc, ◌+◌, ◌-◌, ◌*◌, ◌/◌, ◌%◌, Bool, true, false, not, ◌&&◌, List, [], ◌∷◌, ◌++◌, leb, eqb, length, get_or, take, drop}
-use Rattle.model.specs.Lists.{if◌then◌else◌}
+use Rattle.std.specs.Prelude.{ℕ, zero, suc, ◌+◌, ◌-◌, ◌*◌, ◌/◌, ◌%◌, Bool, true, false, not, ◌&&◌, List, [], ◌∷◌, ◌++◌, leb, eqb, length, get_or, take, drop, if◌then◌else◌}
 use Rattle.model.specs.Refusals.{Check, check}
 use Rattle.model.specs.Session.{Stack, State, stack, state, height, count, most_tasks, most_height, is_edition, sound}
 

@@ -1,10 +1,9 @@
 -- The mark of a finishing start as a position, read off the effect: the shorter way that code takes.
 -- proofs/Marks.antt shows that it is the position of the screen whose mark travels (specs/Calls.antt).
-use Rattle.std.specs.Prelude.{ℕ, Bool, leb}
+use Rattle.std.specs.Prelude.{ℕ, Bool, leb, if◌then◌else◌}
 use Rattle.model.specs.declared.Change.{Change}
 use Rattle.model.specs.declared.Effect.{Effect}
 use Rattle.model.specs.declared.Mark.{Mark}
-use Rattle.model.specs.Lists.{if◌then◌else◌}
 
 -- where the marked screen stands after the start is a `Mark`: nowhere, or behind k tasks and below i screens.
 -- Here after a change of its own task; the test tells whether the marked screen is B

@@ -1,7 +1,7 @@
 -- Document 02, request 7, "No-History screens": what is promised of the mark. Their proofs are in proofs/NoHistoryLaws.antt.
-use Rattle.std.specs.Prelude.{ℕ, ◌-◌, ◌*◌, ◌≡◌, Bool, true, false, ◌&&◌, ◌||◌, List, [], ◌∷◌, eqb}
+use Rattle.std.specs.Prelude.{ℕ, ◌-◌, ◌*◌, ◌≡◌, Bool, true, false, ◌&&◌, ◌||◌, List, [], ◌∷◌, eqb, if◌then◌else◌}
 use Rattle.model.specs.declared.Reason.{Reason}
-use Rattle.model.specs.Lists.{if◌then◌else◌, is_place, find}
+use Rattle.model.specs.Lists.{is_place, find}
 use Rattle.model.specs.Session.{State}
 use Rattle.model.specs.Flags.{NOH, bit, flags_of}
 use Rattle.model.specs.Calls.{start, finishing_start, call}

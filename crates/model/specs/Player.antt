@@ -1,7 +1,6 @@
 -- Document 01, "Player": how its input is read, and the text that it prints, byte for byte.
-use Rattle.std.specs.Prelude.{ℕ, ◌+◌, ◌*◌, ◌/◌, ◌%◌, Bool, ◌&&◌, ◌||◌, List, [], ◌∷◌, ◌++◌, leb, ltb, eqb, length, take, drop}
+use Rattle.std.specs.Prelude.{ℕ, ◌+◌, ◌*◌, ◌/◌, ◌%◌, Bool, ◌&&◌, ◌||◌, List, [], ◌∷◌, ◌++◌, leb, ltb, eqb, length, take, drop, if◌then◌else◌}
 use Rattle.model.specs.declared.Answer.{Answer}
-use Rattle.model.specs.Lists.{if◌then◌else◌}
 use Rattle.model.specs.Table.{size_of, most_screens}
 use Rattle.model.specs.Session.{State, fresh}
 use Rattle.model.specs.Answers.{Outcome, outcome, refused, numbers_of}

@@ -1,11 +1,11 @@
 -- Document 01, "Calls": which of the rules R1 to R18 a start uses.
-use Rattle.std.specs.Prelude.{ℕ, Bool, true, not, ◌&&◌, ◌||◌, List, [], ◌∷◌, eqb}
+use Rattle.std.specs.Prelude.{ℕ, Bool, true, not, ◌&&◌, ◌||◌, List, [], ◌∷◌, eqb, if◌then◌else◌}
 use Rattle.model.specs.declared.Choice.{Choice}
 use Rattle.model.specs.declared.Flags.{Flags}
 use Rattle.model.specs.declared.Found.{Found}
 use Rattle.model.specs.declared.Group.{Group}
 use Rattle.model.specs.declared.Rule.{Rule}
-use Rattle.model.specs.Lists.{if◌then◌else◌, first}
+use Rattle.model.specs.Lists.{first}
 use Rattle.model.specs.Table.{is_single_top, is_single_task, is_single_instance}
 use Rattle.model.specs.Session.{State, Stack, task_at, front, front_screen, top}
 use Rattle.model.specs.Search.{place_of, is_found, is_found_by_root, seek_root, seek, holds}

@@ -1,7 +1,7 @@
 -- Document 01, "Calls": the searches for a task, and for a screen in a task; and how the editions of document 02 seek.
-use Rattle.std.specs.Prelude.{ℕ, Bool, true, false, not, ◌&&◌, ◌||◌, List, eqb}
+use Rattle.std.specs.Prelude.{ℕ, Bool, true, false, not, ◌&&◌, ◌||◌, List, eqb, if◌then◌else◌}
 use Rattle.model.specs.declared.Found.{Found}
-use Rattle.model.specs.Lists.{if◌then◌else◌, is_place, find}
+use Rattle.model.specs.Lists.{is_place, find}
 use Rattle.model.specs.Table.{affinity_of, is_single_task, is_single_instance}
 use Rattle.model.specs.Session.{Stack}
 

@@ -1,8 +1,7 @@
 -- One plain sentence for each number that a reason tells, as agents read it (document 02, request 1).
-use Rattle.std.specs.Prelude.{ℕ, List, [], ◌∷◌, eqb, get_or}
+use Rattle.std.specs.Prelude.{ℕ, List, [], ◌∷◌, eqb, get_or, if◌then◌else◌}
 use Prim.Native.String.{String}
 use Rattle.model.specs.declared.Reason.{Reason}
-use Rattle.model.specs.Lists.{if◌then◌else◌}
 use Rattle.model.specs.Texts.{ascii}
 
 -- the sentences of R1 to R18, each behind as many others as its number says

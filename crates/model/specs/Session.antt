@@ -1,8 +1,8 @@
 -- Document 01, "Session": tasks, limits, soundness; and document 02, request 4: the edition, and request 7: the No-History mark.
 -- A task is here a `Stack` and a session a `State`; `Task` and `Session` are the structs that store them.
 -- What stands in a task may be of any kind A: screens are numbers, and a finishing start puts marked ones there.
-use Rattle.std.specs.Prelude.{ℕ, zero, suc, pred, Bool, false, not, ◌&&◌, ◌||◌, List, [], ◌∷◌, leb, ltb, eqb, length, get_or}
-use Rattle.model.specs.Lists.{all, pairwise, sum_of, if◌then◌else◌}
+use Rattle.std.specs.Prelude.{ℕ, zero, suc, pred, Bool, false, not, ◌&&◌, ◌||◌, List, [], ◌∷◌, leb, ltb, eqb, length, get_or, if◌then◌else◌}
+use Rattle.model.specs.Lists.{all, pairwise, sum_of}
 use Rattle.model.specs.Table.{size_of, main_screen, is_single_instance, roots_once}
 
 -- "The limits belong to the session: 16 tasks, 32 screens in a task."

@@ -9,7 +9,7 @@ use lib.Dec.{eqb}
 use lib.ListN.{length, get_or, take, length-append, length-reverse, length-take}
 use lib.Seq.{take-suc, length-take-le}
 use borrow.Author.Tests.{eq-eqb}
-use Rattle.model.specs.Lists.{if◌then◌else◌}
+use Rattle.std.specs.Prelude.{if◌then◌else◌}
 use Rattle.session.specs.Stored.{pad}
 use Rattle.session.proofs.Padding.{take-pad, pad-push}
 use Rattle.panels.specs.Operations.{most_panels, without, remove_topmost}

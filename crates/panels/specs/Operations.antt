@@ -1,6 +1,6 @@
 -- Document 02, request 14: panels and the operations of a step, over lists. Panels stand bottom first.
-use Rattle.std.specs.Prelude.{ℕ, Bool, false, ◌&&◌, ◌||◌, List, [], ◌∷◌, ◌++◌, reverse, eqb, leb, ltb, length}
-use Rattle.model.specs.Lists.{if◌then◌else◌, all}
+use Rattle.std.specs.Prelude.{ℕ, Bool, false, ◌&&◌, ◌||◌, List, [], ◌∷◌, ◌++◌, reverse, eqb, leb, ltb, length, if◌then◌else◌}
+use Rattle.model.specs.Lists.{all}
 
 -- "up to 8 panels (numbers 0 to 255, last one on top)"
 abbrev pub most_panels : ℕ

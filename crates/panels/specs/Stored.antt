@@ -1,6 +1,5 @@
 -- Panels as they are stored: 8, bottom first, 0 beyond.
-use Rattle.std.specs.Prelude.{ℕ, ◌+◌, ◌≤◌, ◌≡◌, List, length, take, set, replicate}
-use Rattle.model.specs.Lists.{if◌then◌else◌}
+use Rattle.std.specs.Prelude.{ℕ, ◌+◌, ◌≤◌, ◌≡◌, List, length, take, set, replicate, if◌then◌else◌}
 use Rattle.session.specs.Stored.{pad}
 use Rattle.panels.specs.Operations.{most_panels, Operation, carried_out, makes_nine}
 use Rattle.panels.specs.declared.Panels.{Panels}

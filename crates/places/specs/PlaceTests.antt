@@ -1,6 +1,6 @@
 -- Soundness of a place of what is stored, cut into the tests that the code makes.
-use Rattle.std.specs.Prelude.{ℕ, ◌+◌, Bool, not, ◌&&◌, List, [], ◌∷◌, leb, ltb, eqb, take}
-use Rattle.model.specs.Lists.{all, if◌then◌else◌}
+use Rattle.std.specs.Prelude.{ℕ, ◌+◌, Bool, not, ◌&&◌, List, [], ◌∷◌, leb, ltb, eqb, take, if◌then◌else◌}
+use Rattle.model.specs.Lists.{all}
 use Rattle.model.specs.Table.{size_of, is_single_instance}
 use Rattle.model.specs.Session.{most_height, task_sound}
 use Rattle.session.specs.declared.Task.{Task}

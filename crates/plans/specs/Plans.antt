@@ -1,7 +1,7 @@
 -- Plans: of a refused call, and of what comes in front and then loses the marked screen, which Back does too.
-use Rattle.std.specs.Prelude.{ℕ, zero, suc, ◌+◌, ◌-◌, ◌<◌, ◌≡◌, Bool, true, false, not, ◌&&◌, eqb, ltb, leb}
+use Rattle.std.specs.Prelude.{ℕ, zero, suc, ◌+◌, ◌-◌, ◌<◌, ◌≡◌, Bool, true, false, not, ◌&&◌, eqb, ltb, leb, if◌then◌else◌}
 use Rattle.model.specs.declared.Mark.{Mark}
-use Rattle.model.specs.Lists.{if◌then◌else◌, omit}
+use Rattle.model.specs.Lists.{omit}
 use Rattle.model.specs.Session.{stack, most_tasks, edition_kept}
 use Rattle.model.specs.Effects.{main_without}
 use Rattle.model.specs.Marks.{closed_at}

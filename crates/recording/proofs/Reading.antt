@@ -7,7 +7,7 @@ use native.Mathlib.Omega.{arith}
 use lib.ListN.{length, get_or, take, drop, length-drop}
 use lib.Seq.{drop-drop, get_or-drop}
 use borrow.Author.Tests.{le-leb, lt-leb}
-use Rattle.model.specs.Lists.{if◌then◌else◌}
+use Rattle.std.specs.Prelude.{if◌then◌else◌}
 use Rattle.model.specs.Calls.{Call}
 use Rattle.records.specs.Records.{word_at}
 use Rattle.recording.specs.CallBytes.{image_length, call_of, first_image, first_call, first_whole, first_calls, calls_in}

@@ -1,7 +1,6 @@
 -- A list of calls as bytes. Kinds 1 to 5 are the player's records (document 01, "Player"); kind 6 is a restore, whose word is
 -- the length of an image, and the image's bytes follow. Every byte string reads as some list of calls.
-use Rattle.std.specs.Prelude.{ℕ, zero, suc, ◌+◌, Bool, List, [], ◌∷◌, ◌++◌, leb, eqb, length, get_or, take, drop}
-use Rattle.model.specs.Lists.{if◌then◌else◌}
+use Rattle.std.specs.Prelude.{ℕ, zero, suc, ◌+◌, Bool, List, [], ◌∷◌, ◌++◌, leb, eqb, length, get_or, take, drop, if◌then◌else◌}
 use Rattle.model.specs.Calls.{Call, restore}
 use Rattle.model.specs.Player.{Request, unplayable, asks, request_of, word_of}
 

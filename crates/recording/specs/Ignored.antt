@@ -1,6 +1,5 @@
 -- The records in a list of calls that are no call: where they stand.
-use Rattle.std.specs.Prelude.{ℕ, zero, suc, ◌+◌, Bool, ◌||◌, List, [], ◌++◌, eqb, ltb, length, get_or, drop}
-use Rattle.model.specs.Lists.{if◌then◌else◌}
+use Rattle.std.specs.Prelude.{ℕ, zero, suc, ◌+◌, Bool, ◌||◌, List, [], ◌++◌, eqb, ltb, length, get_or, drop, if◌then◌else◌}
 use Rattle.notes.specs.Places.{place_if}
 use Rattle.recording.specs.CallBytes.{restore_kind, first_image, first_whole}
 

@@ -1,6 +1,5 @@
 -- One call of a list that is given as bytes, made on a stored session; and how many bytes a record takes.
-use Rattle.std.specs.Prelude.{ℕ, ◌+◌, min, List, [], length}
-use Rattle.model.specs.Lists.{if◌then◌else◌}
+use Rattle.std.specs.Prelude.{ℕ, ◌+◌, min, List, [], length, if◌then◌else◌}
 use Rattle.session.specs.declared.Session.{Session}
 use Rattle.calls.specs.declared.Reply.{Reply}
 use Rattle.recording.specs.CallBytes.{first_image, first_call, first_whole}

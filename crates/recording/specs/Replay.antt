@@ -1,6 +1,6 @@
 -- What a list of calls in bytes leaves, made from a fresh session.
-use Rattle.std.specs.Prelude.{ℕ, ◌≤◌, ◌≡◌, ◌↔◌, Bool, true, List, eqb, length}
-use Rattle.model.specs.Lists.{if◌then◌else◌, All}
+use Rattle.std.specs.Prelude.{ℕ, ◌≤◌, ◌≡◌, ◌↔◌, Bool, true, List, eqb, length, if◌then◌else◌}
+use Rattle.model.specs.Lists.{All}
 use Rattle.model.specs.Table.{table_refusal}
 use Rattle.model.specs.Session.{State, fresh}
 use Rattle.model.specs.Image.{longest_image}

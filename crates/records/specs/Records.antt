@@ -1,7 +1,6 @@
 -- A record as bytes, and what it asks for: document 01, "records of 6 bytes: kind (1 launch, 2 start, 3 finishing start, 4 Back,
 -- 5 look), screen, flag word high byte first".
-use Rattle.std.specs.Prelude.{ℕ, ◌+◌, ◌/◌, ◌%◌, Bool, true, false, List, [], ◌∷◌, eqb, ltb, length, get_or}
-use Rattle.model.specs.Lists.{if◌then◌else◌}
+use Rattle.std.specs.Prelude.{ℕ, ◌+◌, ◌/◌, ◌%◌, Bool, true, false, List, [], ◌∷◌, eqb, ltb, length, get_or, if◌then◌else◌}
 use Rattle.model.specs.Calls.{launch, start, finishing_start, back, look}
 use Rattle.model.specs.Player.{Request, unplayable, asks, word_of}
 use Rattle.records.specs.declared.Asked.{Asked}

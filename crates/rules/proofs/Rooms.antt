@@ -10,7 +10,8 @@ use Rattle.model.specs.declared.Flags.{Flags}
 use Rattle.model.specs.declared.Found.{Found}
 use Rattle.model.specs.declared.Group.{Group}
 use Rattle.model.specs.declared.Rule.{Rule}
-use Rattle.model.specs.Lists.{if◌then◌else◌, All, first}
+use Rattle.std.specs.Prelude.{if◌then◌else◌}
+use Rattle.model.specs.Lists.{All, first}
 use Rattle.model.specs.Refusals.{check, accepted, refusal}
 use Rattle.model.specs.Session.{State, count, most_tasks, most_height}
 use Rattle.model.specs.Search.{place_of}

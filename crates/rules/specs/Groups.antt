@@ -1,11 +1,10 @@
 -- The rules of a group as the code goes through them, by values: what they ask of the flags, the stack that they read, the main
 -- place, the screen that is started, and what was found. "Nothing found" is asked before the rules that need a task.
-use Rattle.std.specs.Prelude.{ℕ, not, ◌&&◌, ◌||◌, List, eqb}
+use Rattle.std.specs.Prelude.{ℕ, not, ◌&&◌, ◌||◌, List, eqb, if◌then◌else◌}
 use Rattle.model.specs.declared.Flags.{Flags}
 use Rattle.model.specs.declared.Found.{Found}
 use Rattle.model.specs.declared.Group.{Group}
 use Rattle.model.specs.declared.Rule.{Rule}
-use Rattle.model.specs.Lists.{if◌then◌else◌}
 use Rattle.model.specs.Table.{is_single_top}
 use Rattle.model.specs.Session.{Stack, top}
 use Rattle.model.specs.Search.{place_of, is_found, is_found_by_root, holds}

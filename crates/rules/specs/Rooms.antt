@@ -1,7 +1,6 @@
 -- The check for room by what is stored.
-use Rattle.std.specs.Prelude.{ℕ, ◌&&◌, eqb}
+use Rattle.std.specs.Prelude.{ℕ, ◌&&◌, eqb, if◌then◌else◌}
 use Rattle.model.specs.declared.Effect.{Effect}
-use Rattle.model.specs.Lists.{if◌then◌else◌}
 use Rattle.model.specs.Session.{most_tasks, most_height}
 use Rattle.model.specs.Calls.{is_push}
 

@@ -2,8 +2,7 @@
 // take the group of rules and what they ask of the flags as values.
 #![tactic(auto)]
 
-ghost use Rattle.std.specs.Prelude.{ℕ, ◌+◌, ◌*◌, ◌≤◌, ◌<◌, ◌≡◌, ◌&&◌, ◌||◌, eqb, length};
-ghost use Rattle.model.specs.Lists.{if◌then◌else◌};
+ghost use Rattle.std.specs.Prelude.{ℕ, ◌+◌, ◌*◌, ◌≤◌, ◌<◌, ◌≡◌, ◌&&◌, ◌||◌, eqb, length, if◌then◌else◌};
 ghost use Rattle.model.specs.Table.{is_single_instance};
 ghost use Rattle.model.specs.Session.{State, front_screen, most_height};
 ghost use Rattle.model.specs.Search.{place_of, is_found, is_found_by_root, holds};

@@ -1,9 +1,9 @@
 // The searches: for a task, from the front; for a screen in a task, from the top.
 #![tactic(auto)]
 
-ghost use Rattle.std.specs.Prelude.{◌+◌, ◌*◌, ◌<◌, ◌≤◌, ◌≡◌, ◌||◌, eqb, length, take};
+ghost use Rattle.std.specs.Prelude.{◌+◌, ◌*◌, ◌<◌, ◌≤◌, ◌≡◌, ◌||◌, eqb, length, take, if◌then◌else◌};
 ghost use Rattle.model.specs.Session.{most_tasks, most_height};
-ghost use Rattle.model.specs.Lists.{if◌then◌else◌, find};
+ghost use Rattle.model.specs.Lists.{find};
 ghost use Rattle.model.specs.Search.{akin, seeks_by_root};
 ghost use Rattle.session.specs.Stored.{view, view_task, roots_of};
 ghost use Rattle.search.specs.Numbers.{found_of, sought_in};

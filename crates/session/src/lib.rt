@@ -1,9 +1,8 @@
 // Sessions as they are stored, by value: plain bytes, the same for callers in C and Rust.
 #![tactic(auto)]
 
-ghost use Rattle.std.specs.Prelude.{◌<◌, ◌≤◌, ◌≡◌, true, set};
+ghost use Rattle.std.specs.Prelude.{◌<◌, ◌≤◌, ◌≡◌, true, set, if◌then◌else◌};
 ghost use Rattle.model.specs.Session.{top as top_of, most_height, is_edition, screens_in};
-ghost use Rattle.model.specs.Lists.{if◌then◌else◌};
 ghost use Rattle.session.specs.Stored.{fresh_session, view, view_task, with_screens, storage_blank, pushed, popped};
 
 // A task: the screen that created it, and its screens, bottom first.

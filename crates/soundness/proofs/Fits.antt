@@ -7,7 +7,8 @@ use native.Mathlib.Omega.{arith}
 use lib.Dec.{leb, ltb, eqb}
 use lib.ListN.{length, take, drop, length-take, length-map, get_or-map}
 use borrow.Author.Tests.{eqb-true, eq-eqb, ne_eqb}
-use Rattle.model.specs.Lists.{all, pairwise, if◌then◌else◌}
+use Rattle.std.specs.Prelude.{if◌then◌else◌}
+use Rattle.model.specs.Lists.{all, pairwise}
 use Rattle.model.specs.Table.{size_of, roots_once}
 use Rattle.model.specs.Session.{most_tasks, most_height, edition_kept, edition_sound, no_history_sound, task_sound, roots_differ, main_sound, sound}
 use Rattle.model.proofs.Logic.{Decides, and-decides, leb-decides, ltb-decides, eqb-decides, self-decides, all-decides, same_test, and_left, and_right, All-map}

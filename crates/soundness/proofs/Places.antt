@@ -9,7 +9,8 @@ use lib.Dec.{ltb}
 use lib.ListN.{length, get_or, set, take, drop, replicate, length-set, length-drop, length-map, length-replicate, get_or-map}
 use lib.Seq.{get_or-set_same, get_or-set_other, set-get_or, get_or-take, get_or-drop, length-take-le, ext_get_or}
 use borrow.Author.Tests.{ltb-true, ltb-false, lt-ltb, le-ltb, ne_eqb}
-use Rattle.model.specs.Lists.{all, All, if◌then◌else◌}
+use Rattle.std.specs.Prelude.{if◌then◌else◌}
+use Rattle.model.specs.Lists.{all, All}
 use Rattle.model.specs.Table.{table_refusal}
 use Rattle.model.specs.Session.{most_tasks, edition_sound, no_history_sound}
 use Rattle.model.proofs.Logic.{refuted, contradiction, and_left, and_right, All-at}

@@ -8,7 +8,8 @@ use native.Mathlib.Omega.{arith}
 use lib.Dec.{eqb}
 use lib.ListN.{length, get_or, take, drop}
 use borrow.Author.Tests.{eq-eqb, eqb-true}
-use Rattle.model.specs.Lists.{all, if◌then◌else◌}
+use Rattle.std.specs.Prelude.{if◌then◌else◌}
+use Rattle.model.specs.Lists.{all}
 use Rattle.model.proofs.Logic.{Decides}
 use Rattle.model.proofs.Walks.{sum-zero}
 use Rattle.places.specs.PlaceTests.{total, no_sum}

@@ -1,6 +1,5 @@
 -- What an input begins with, by the player's definition of an input that starts with a table.
-use Rattle.std.specs.Prelude.{ℕ, ◌+◌, ◌*◌, ◌&&◌, List, leb}
-use Rattle.model.specs.Lists.{if◌then◌else◌}
+use Rattle.std.specs.Prelude.{ℕ, ◌+◌, ◌*◌, ◌&&◌, List, leb, if◌then◌else◌}
 use Rattle.model.specs.Table.{size_of, most_screens}
 use Rattle.model.specs.Player.{starts_with_table}
 use Rattle.table.specs.declared.Beginning.{Beginning}

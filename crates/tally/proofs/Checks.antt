@@ -6,7 +6,7 @@ use native.Mathlib.Omega.{arith}
 use native.Mathlib.Nat.{mul-le-mul_left}
 use lib.Dec.{eqb, leb}
 use borrow.Author.Tests.{eqb-true}
-use Rattle.model.specs.Lists.{if◌then◌else◌}
+use Rattle.std.specs.Prelude.{if◌then◌else◌}
 use Rattle.model.specs.Session.{most_height}
 use Rattle.model.proofs.Logic.{Decides, and-decides, eqb-decides, leb-decides, ltb-decides, self-decides, same_test}
 use Rattle.tally.specs.declared.Tally.{Tally}

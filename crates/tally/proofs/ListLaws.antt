@@ -8,7 +8,8 @@ use lib.Dec.{eqb, leb}
 use lib.ListN.{length, length-append}
 use borrow.Author.Tests.{leb-true}
 use Rattle.model.specs.declared.Answer.{Answer}
-use Rattle.model.specs.Lists.{if◌then◌else◌, sum_of, All}
+use Rattle.std.specs.Prelude.{if◌then◌else◌}
+use Rattle.model.specs.Lists.{sum_of, All}
 use Rattle.model.specs.Session.{most_height}
 use Rattle.model.proofs.SumLaws.{sum-most}
 use Rattle.tally.specs.declared.Tally.{Tally}

@@ -1,7 +1,7 @@
 -- Document 02, requests 6 and 11: the numbers of the depth report, over a list of answers.
-use Rattle.std.specs.Prelude.{ℕ, zero, suc, ◌+◌, ◌-◌, ◌*◌, ◌/◌, ◌%◌, ◌≤◌, max, ◌≡◌, Bool, not, ◌||◌, List, [], ◌∷◌, eqb, leb, ltb, length, take}
+use Rattle.std.specs.Prelude.{ℕ, zero, suc, ◌+◌, ◌-◌, ◌*◌, ◌/◌, ◌%◌, ◌≤◌, max, ◌≡◌, Bool, not, ◌||◌, List, [], ◌∷◌, eqb, leb, ltb, length, take, if◌then◌else◌}
 use Rattle.model.specs.declared.Answer.{Answer}
-use Rattle.model.specs.Lists.{if◌then◌else◌, sum_of}
+use Rattle.model.specs.Lists.{sum_of}
 use Rattle.model.specs.Session.{most_height}
 use Rattle.tally.specs.declared.Report.{Report}
 

@@ -4,7 +4,7 @@ use mathlib.Core.Bool.{not, ◌&&◌}
 use lib.Dec.{eqb}
 use borrow.Author.Rules.{rules}
 use Rattle.model.specs.declared.Rule.{Rule}
-use Rattle.model.specs.Lists.{if◌then◌else◌}
+use Rattle.std.specs.Prelude.{if◌then◌else◌}
 use Rattle.model.specs.Session.{top}
 use Rattle.model.specs.Search.{place_of, is_found_by_root, holds}
 use Rattle.session.specs.Stored.{view_task}
