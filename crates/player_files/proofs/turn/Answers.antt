@@ -1,5 +1,5 @@
 -- A block has 10,000 records at most, and all of it is said.
-use Rattle.std.proofs.Common.{rules, arith, ℕ, ◌*◌, ◌≤◌, List, length, take, length-take-le}
+use Rattle.std.proofs.Common.{arith, ℕ, ◌*◌, ◌≤◌, List, length, take, length-take-le}
 use borrow.Author.Tests.{eqb-true}
 use Rattle.model.specs.Player.{records_in}
 use Rattle.model.proofs.Logic.{and_right}
@@ -26,7 +26,7 @@ returns g c =
       played = c.say-said.ensures.played;
       met = c.restores-met.ensures;
       few = met-few (records_in block) c.restores-met.ensures
-      (few _ _ c.read_block-read.ensures.0 (omega (arith, c.read_block-read.auto.buffer, c.requires.input_len)));
+          (few _ _ c.read_block-read.ensures.0 (omega (arith, c.read_block-read.auto.buffer, c.requires.input_len)));
       full = λ h. eqb-true _ _ (and_right c.say-said.result.went _ h);
       keeps = c.say-said.ensures.keeps;
     }
