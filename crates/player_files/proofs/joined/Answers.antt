@@ -1,7 +1,6 @@
 -- The three ways: nothing new, nothing before, both.
 use mathlib.Core.Path.{refl}
 use native.Mathlib.Omega.{arith}
-use borrow.Author.Rules.{rules}
 use Rattle.player_files.proofs.Restoring.{joined-none, joined-first, joined-both}
 use Rattle.player_files.proofs.joined.Goals as goal
 

@@ -1,9 +1,6 @@
 -- The loop's invariant: the place that is reached, and the notes up to there.
-use borrow.Author.Rules.{rules}
-use Prim.Native.Nat.{◌-◌}
 use native.Mathlib.Omega.{arith}
-use lib.ListN.{length}
-use Rattle.player_files.proofs.Restoring.{Met, met_start, met-end, met-last, met-more}
+use Rattle.player_files.proofs.Restoring.{met_start, met-end, met-last, met-more}
 use Rattle.player_files.proofs.restores.Goals as goal
 
 pub loop-p-init : goal.loop-p-init

@@ -1,9 +1,7 @@
 -- The loop's invariant: the place that is reached, and the notes up to there.
-use borrow.Author.Rules.{rules}
 use Prim.Native.Nat.{◌-◌}
-use native.Mathlib.Omega.{arith}
 use lib.ListN.{length}
-use Rattle.player_files.proofs.Restoring.{Met, met_start, met-end, met-last, met-more}
+use Rattle.player_files.proofs.Restoring.{Met}
 use Rattle.player_files.proofs.restores.Given as goal
 
 abbrev pub invariant-loop-p : goal.invariant-loop-p

@@ -1,12 +1,9 @@
 -- The loop's invariant: the session can be played on, and so many records were met at most that no number overflows; the buffer
 -- is as long as a block. The number of blocks left falls.
-use Prim.Native.Nat.{ℕ, ◌+◌, ◌*◌, ◌≤◌}
-use mathlib.Core.Path.{◌≡◌, sym, ◌∙◌}
-use native.Mathlib.Omega.{arith}
-use borrow.Author.Rules.{rules}
-use lib.ListN.{length, length-replicate}
+use Prim.Native.Nat.{◌+◌, ◌*◌, ◌≤◌}
+use mathlib.Core.Path.{◌≡◌}
+use lib.ListN.{length}
 use Rattle.play.specs.Playable.{Playable}
-use Rattle.play.proofs.Replies.{fresh-playable}
 use Rattle.reading.specs.Blocks.{most_records}
 use Rattle.player_files.proofs.run.Given as goal
 

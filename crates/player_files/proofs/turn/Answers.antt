@@ -1,5 +1,5 @@
 -- A block has 10,000 records at most, and all of it is said.
-use Rattle.std.proofs.Common.{rules, arith, ℕ, ◌*◌, ◌≤◌, List, length, take, length-take-le}
+use Rattle.std.proofs.Common.{arith, ℕ, ◌*◌, ◌≤◌, List, length, take, length-take-le}
 use borrow.Author.Tests.{eqb-true}
 use Rattle.model.specs.Player.{records_in}
 use Rattle.model.proofs.Logic.{and_right}
