@@ -190,7 +190,9 @@ fn tell(rt: &(impl Print + Eprint), first: &[u8], second: &[u8])
     let d = endings::compare(first, second);
     let mut out = [0u8; endings::LONGEST_VERDICT];
     let long = endings::write_verdict(&mut out, d);
-    reading::print(rt, &out[..long]);
+    if let Err(why) = rt.write_all(&out[..long]) {
+        reading::fail(rt, "standard output", why);
+    }
 }
 
 // The verdict on the recordings that the arguments at two places name. What is read and written no contract can say; what a
