@@ -21,6 +21,7 @@ sys.dont_write_bytecode = True
 from recording import write_recording  # noqa: E402
 
 ROOT = os.path.dirname(os.path.dirname(os.path.abspath(__file__)))
+PROVED = "crates/{}/out"
 SECOND = "target/second/release"
 BENCH = f"{SECOND}/calls_bench"
 PROGRAMS = ["player", "explain", "depth"]
@@ -34,9 +35,10 @@ LINE = re.compile(r"(.{15}) (\S+) +([\d.]+) +\(\d+\) +([\d.]+) +\(\d+\)")
 def build():
     """The proved programs and the library, and the second navigator's."""
     quiet = dict(check=True, stdout=subprocess.DEVNULL, stderr=subprocess.DEVNULL)
-    subprocess.run(["rt", "check", *PROGRAMS], **quiet)
-    subprocess.run(["rt", "staticlib", "lent"], **quiet)
-    env = dict(os.environ, CARGO_TARGET_DIR=os.path.join(ROOT, "target/second"), LENT=os.path.join(ROOT, "target/staticlib"))
+    for name in PROGRAMS:
+        subprocess.run(["rt", "run"], cwd=f"crates/{name}", stdin=subprocess.DEVNULL, **quiet)
+    subprocess.run(["rt", "lib"], cwd="crates/lent", **quiet)
+    env = dict(os.environ, CARGO_TARGET_DIR=os.path.join(ROOT, "target/second"), LENT=os.path.join(ROOT, "crates/lent/out"))
     for manifest in ("second/Cargo.toml", "second/lent/Cargo.toml"):
         subprocess.run(["cargo", "build", "--release", "--offline", "--quiet", "--manifest-path", manifest], check=True, env=env)
 
@@ -62,7 +64,7 @@ def rounds(path, records, count):
     for number in range(count):
         print(f"round {number + 1} of {count}", file=sys.stderr)
         for name in PROGRAMS:
-            for who, folder in enumerate(("target/bin", SECOND)):
+            for who, folder in enumerate((PROVED.format(name), SECOND)):
                 keep((name, ""), who, played(f"{folder}/{name}", path) / records * 1e9)
         told = subprocess.run([BENCH], check=True, stdout=subprocess.PIPE, text=True).stdout
         for row in filter(None, map(LINE.match, told.splitlines())):
@@ -113,7 +115,7 @@ def print_instructions():
     with tempfile.NamedTemporaryFile() as file:
         write_recording(file, COUNTED_RECORDS)
         for name in PROGRAMS:
-            proved, second = (counted_records(f"{folder}/{name}", file.name) for folder in ("target/bin", SECOND))
+            proved, second = (counted_records(f"{folder}/{name}", file.name) for folder in (PROVED.format(name), SECOND))
             print(f"{name:<31} {proved:>8.0f} {second:>8.0f} {proved / second:>6.2f}", flush=True)
     for call in CALLS:
         for size in SIZES:

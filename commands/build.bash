@@ -1,5 +1,5 @@
-# How a checkout makes its programs: each is proved and built once, and kept in .built, outside of target/, under a number of
-# what it is made of. The proved programs are kept with their objects, which `install` links for other machines.
+# How a checkout makes its programs: each is proved and built once, and kept in .built, outside of the crates' out/, under a
+# number of what it is made of. The proved programs are kept with their objects, which `install` links for other machines.
 . "$here/commands/library.bash" || fail "$here/commands/library.bash cannot be read"
 
 # What a program is made of: crates, and behind -- files beside them.
@@ -12,21 +12,21 @@ parts_of() { # PROGRAM|everything
     esac
 }
 
-# The crates that some crates are made of: themselves and those that they reach.
+# The crates that some crates are made of, in the order in which rt proves them: each behind those that it reaches.
 crates_of() { # CRATE..
     awk -v wanted="$*" '
         { sub(/#.*/, ""); colon = index($0, ":") }
-        colon { name = substr($0, 1, colon - 1); gsub(/[ \t]/, "", name); below[name] = substr($0, colon + 1) }
+        colon { split(substr($0, 1, colon - 1), head, " "); below[head[1]] = substr($0, colon + 1) }
+        function reach(crate,    names, many, i) {
+            if (!(crate in below) || crate in seen) return
+            seen[crate]
+            many = split(below[crate], names, " ")
+            for (i = 1; i <= many; i++) reach(names[i])
+            print crate
+        }
         END {
             count = split(wanted, todo, " ")
-            for (i = 1; i <= count; i++) {
-                name = todo[i]
-                if (!(name in below) || name in seen) continue
-                seen[name]
-                print name
-                many = split(below[name], names, " ")
-                for (k = 1; k <= many; k++) todo[++count] = names[k]
-            }
+            for (k = 1; k <= count; k++) reach(todo[k])
         }' "$here/crates.txt"
 }
 
@@ -42,9 +42,9 @@ sources_of() { # PROGRAM|everything
         {
             [ "$1" = everything ] || printf '%s\n' "$kit"
             [ "$1" != milch ] || ! static_c || echo static
-            for crate in "${crates[@]}"; do grep "^$crate:" crates.txt; done
-            find "${crates[@]/#/crates/}" "${beside[@]}" -type f ! -path '*/must-fail/*' ! -path '*/target/*' -print0 |
-                LC_ALL=C sort -z | xargs -0 sha256sum
+            for crate in "${crates[@]}"; do grep "^$crate[ :]" crates.txt; done
+            find "${crates[@]/#/crates/}" "${beside[@]}" -type f ! -path '*/must-fail/*' ! -path '*/target/*' \
+                ! -regex 'crates/[^/]*/out/.*' -print0 | LC_ALL=C sort -z | xargs -0 sha256sum
         } | sha256sum | cut -d ' ' -f 1
     )
 }
@@ -76,21 +76,29 @@ progress() { # WHAT DONE ALL
         "$command" "$1" "$2" "$3" >&2
 }
 
-# Proves a crate and those that it is made of, builds it where it is a program, and says how far it is.
-prove() { # CRATE WHAT
-    local crate=$1 what=$2 log=$here/.built/$1.log all done=0 line
-    all=$(crates_of "$crate" | wc -l)
-    progress "$what" 0 "$all"
-    (cd "$here" && rt check "$crate" 2>&1 </dev/null) | tee "$log" | while IFS= read -r line; do
+# Proves a crate and those that it is made of, builds it, and says how far it is: a program by `rt run`, which runs it too, on
+# nothing, and the library by `rt lib`. It then stands in the folder's out/, a program's object beside it.
+prove() { # CRATE WHAT run|lib
+    local crate=$1 what=$2 how=$3 log=$here/.built/$1.log name='' line place
+    local -a order=()
+    mapfile -t order < <(crates_of "$crate")
+    progress "$what" 0 "${#order[@]}"
+    (cd "$here/crates/$crate" && rt "$how" 2>&1 </dev/null) | tee "$log" | while IFS= read -r line; do
         case $line in
-            'rt: '*' proved (unchanged'*) done=$((done + 1)) ;;
-            'rt: '*' proved ('*) done=$((done + 1)) && progress "$what" "$done" "$all" ;;
+            'crate '*': modules '*) name=${line#crate } && name=${name%%:*} ;;
+            # what was proved before has no line, so the place in the order counts
+            'logic=proved '*)
+                for place in "${!order[@]}"; do
+                    [ "${order[place]}" != "$name" ] || progress "$what" $((place + 1)) "${#order[@]}"
+                done
+                ;;
         esac
     done
     local status=$?
     [ ! -t 2 ] || printf '\n' >&2
-    if [ "$status" -ne 0 ]; then
-        grep -E '^rt: .*(NOT PROVED|FAILED)' "$log" >&2
+    # What is run is proved and built, and then the status is its own.
+    if [ "$status" -ne 0 ] && { [ "$how" = lib ] || ! grep -q "^rt: running out/$crate;" "$log"; }; then
+        grep -E '^fn [^ ]+: (not proved|no proof)|^[^ ]+: error|^rt: ' "$log" | grep -v '^rt: chose ' | cut -c 1-400 >&2
         fail "$what could not be proved and built; what rt said stands in .built/$crate.log"
     fi
 }
@@ -107,9 +115,10 @@ keep() { # PROGRAM FILE
 }
 
 make_program() { # PROGRAM
-    prove "$1" "'$1'"
-    cp "$here/target/obj/$1.o" "$built.o" || fail "'$1' could not be kept in .built"
-    keep "$1" "$here/target/bin/$1"
+    local out=$here/crates/$1/out
+    prove "$1" "'$1'" run
+    cp "$out/$1.o" "$built.o" || fail "'$1' could not be kept in .built"
+    keep "$1" "$out/$1"
 }
 
 # The program in tools/milch, and beside it the library that it is made of.
@@ -130,13 +139,22 @@ make_tool() {
 # Whether a program is there as `keep` leaves it.
 kept() { [ -x "$built" ] && { [ "$1" = milch ] || [ -f "$built.o" ]; }; } # PROGRAM
 
-# Sets `built` to the program. One build goes on at a time, under a lock which stands outside of target/, and the others wait.
+# Whether rt can work in the folders of the crates that a program is made of.
+writable() { # PROGRAM
+    local parts crate
+    parts=$(parts_of "$1")
+    for crate in $(crates_of "${parts%% --*}"); do
+        [ -w "$here/crates/$crate" ] && { [ ! -e "$here/crates/$crate/out" ] || [ -w "$here/crates/$crate/out" ]; } || return
+    done
+}
+
+# Sets `built` to the program. One build goes on at a time, under a lock which stands outside of out/, and the others wait.
 build() { # PROGRAM
     local program=$1 kit number lock
     number_of "$program"
     built=$here/.built/$program-$number
     ! kept "$program" || return 0
-    if ! { mkdir -p "$here/.built" "$here/target" && [ -w "$here/.built" ] && [ -w "$here/target" ] &&
+    if ! { mkdir -p "$here/.built" && [ -w "$here/.built" ] && writable "$program" &&
         exec {lock}>>"$here/.built/lock"; } 2>/dev/null; then
         fail "'$program' has yet to be built from these sources, and $here cannot be written"
     fi

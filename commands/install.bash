@@ -22,11 +22,12 @@ free_for() { # DIR
 
 # Links the proved programs for other machines: their objects with the kit's C code and a C library.
 link_programs() { # FOLDER
-    local program kit_code
-    kit_code=$(dirname "$(readlink -f "$(command -v rt)")")/../lib/libos_c.a
-    [ -r "$kit_code" ] || fail "the kit has no $kit_code"
+    local program kit code
+    kit=$(dirname "$(readlink -f "$(command -v rt)")")/../c
+    for code in libos_c.a liblibc_c.a; do [ -r "$kit/$code" ] || fail "the kit has no $kit/$code"; done
     for program in player explain depth load same chart; do
-        cc -static -o "$1/$program" "${made[$program]}.o" "$kit_code" >&2 || fail "'$program' cannot be linked"
+        cc -static -o "$1/$program" "${made[$program]}.o" "$kit/libos_c.a" "$kit/liblibc_c.a" >&2 ||
+            fail "'$program' cannot be linked"
     done
 }
 

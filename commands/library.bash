@@ -1,16 +1,12 @@
-# The library for programs in C and Rust, from what `rt staticlib lent` writes.
+# The library for programs in C and Rust, from what `rt lib` writes.
 
 # Makes it in a folder, which may be moved as a whole.
 make_library() { # FOLDER
-    local folder=$1 log=$here/.built/library.log
-    prove lent 'the library'
-    (cd "$here" && rt staticlib lent) >"$log" 2>&1 </dev/null || {
-        tail -n 5 "$log" >&2
-        fail 'the library could not be built; what rt said stands in .built/library.log'
-    }
+    local folder=$1
+    prove lent 'the library' lib
     { mkdir -p "$folder/include" "$folder/lib/pkgconfig" &&
         cp "$here/bindings/c/milchkompass.h" "$folder/include/" &&
-        cp "$here/target/staticlib/liblent.a" "$folder/lib/libmilchkompass.a" &&
+        cp "$here/crates/lent/out/liblent.a" "$folder/lib/libmilchkompass.a" &&
         package >"$folder/lib/pkgconfig/milchkompass.pc"; } || fail "$folder cannot be written"
 }
 

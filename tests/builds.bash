@@ -2,30 +2,49 @@
 # built here.
 
 mkdir "$work/copy" "$work/kit" "$work/programs" "$work/copy/tools"
-cp -R milch commands crates crates.txt sample.recording bindings "$work/copy"
+cp -R milch commands crates.txt sample.recording bindings "$work/copy"
+for crate in crates/*; do # but for what rt keeps in out/, which is large
+    mkdir -p "$work/copy/$crate"
+    find "$crate" -mindepth 1 -maxdepth 1 ! -name out -exec cp -R -t "$work/copy/$crate" {} +
+done
 cp -R tools/milch "$work/copy/tools"
 for program in player same explain depth load chart milch; do cp "$(kept "$program")" "$work/programs/$program"; done
 for program in player same explain depth load chart; do cp .built/"$program"-*.o "$work/programs/$program.o"; done
-# It notes each build, reads its standard input, takes a second, and fails beside another one. Two files make it fail, and
-# make it change a source.
+# It notes each build, reads its standard input, takes a second, and fails beside another one. It says of each crate what rt
+# says, of a library on standard output and of a program on standard error, and as a program that is run on nothing ends with a
+# status of its own. Two files make it fail, and make it change a source.
 cat >"$work/kit/rt" <<STAND_IN
 #!/usr/bin/env bash
 [ "\$1" != version ] || { cat '$work/kit/version'; exit; }
-echo "began \$2" >>'$work/builds'
-[ ! -e '$work/kit/fails' ] || { echo 'rt: model NOT PROVED (exit 1, 0 s)'; exit 1; }
-mkdir '$work/building' 2>/dev/null || { echo 'rt: model NOT PROVED'; exit 1; }
-[ ! -e '$work/kit/changes' ] || echo '// changed' >>crates/model/src/lib.rt
+crate=\${PWD##*/}
+echo "began \$1 \$crate" >>'$work/builds'
+[ "\$1" = lib ] || exec >&2
+not_proved() {
+    echo 'rt: chose --jobs 2 for model'
+    echo 'fn model::after: not proved'
+    echo 'logic=not-proved'
+    echo 'rt: the library model did not build, so nothing above it was checked'
+    exit 1
+}
+proved() { printf 'rt: chose --jobs 2 for %s\nfn %s::call: proved\ncrate %s: modules loaded=0 checked=9\nlogic=proved functions=1\n' \$1 \$1 \$1; }
+[ ! -e '$work/kit/fails' ] || not_proved
+mkdir '$work/building' 2>/dev/null || not_proved
+[ ! -e '$work/kit/changes' ] || echo '// changed' >>../model/src/lib.rt
 cat >/dev/null
 sleep 0.5
-echo 'rt: model proved (1 s)'
+proved model
 sleep 0.5
-echo 'rt: table proved (unchanged since it was last proved)'
-echo "rt: \$2 proved (1 s)"
-mkdir -p target/bin target/obj target/staticlib
-[ "\$2" = lent ] || cp "$work/programs/\$2" target/bin/
-[ "\$2" = lent ] || cp "$work/programs/\$2.o" target/obj/
-[ "\$1" != staticlib ] || echo archive >"target/staticlib/lib\$2.a"
+proved \$crate
+mkdir -p out
+if [ "\$1" = lib ]; then
+    echo archive >"out/lib\$crate.a"
+else
+    cp "$work/programs/\$crate" "$work/programs/\$crate.o" out/
+    echo "rt: running out/\$crate; to give it other input, run that file yourself"
+    status=7
+fi
 rmdir '$work/building'
+exit \${status-0}
 STAND_IN
 cat >"$work/kit/cargo" <<STAND_IN
 #!/usr/bin/env bash
@@ -69,14 +88,14 @@ many_of() { bash -c ". commands/shared.bash; crates_of $1" | wc -l; }
 many=$(many_of player)
 happens="milch: proving and building 'player' from its sources, which happens once:"
 check 'the first run says how far it is' 0 "$played" \
-    "$happens 0 of $many crates are proved"$'\n'"$happens 1 of $many crates are proved"$'\n'"$happens 3 of $many crates are proved" \
+    "$happens 0 of $many crates are proved"$'\n'"$happens 1 of $many crates are proved"$'\n'"$happens $many of $many crates are proved" \
     ./milch play sample.recording
 builds 1 'the first run builds'
 check 'the second run is silent' 0 "$played" '' ./milch play sample.recording
 find . -exec touch -d '2030-01-01' {} +
 check 'with later times' 0 "$played" '' ./milch play sample.recording
-rm -rf target
-check 'without target' 0 "$played" '' ./milch play sample.recording
+rm -rf crates/*/out
+check 'without out' 0 "$played" '' ./milch play sample.recording
 builds 1 'nothing of that is a build'
 one=$(./milch --version)
 echo '// changed' >>crates/model/src/lib.rt
@@ -93,23 +112,23 @@ builds 3 'a changed kit is a build'
 echo '// changed' >>crates/endings/src/lib.rt
 check 'a source that it is not made of changed' 0 "$played" '' ./milch play sample.recording
 
-rm -rf .built target
+rm -rf .built crates/*/out
 both="./milch play sample.recording & one=\$!; ./milch play sample.recording >/dev/null & two=\$!; ./milch same sample.recording sample.recording >/dev/null; three=\$?; wait \$one && wait \$two && exit \$three"
 check 'three at once' 0 "$played" '*waiting for another build*' bash -c "$both"
 builds 5 'three at once are two builds, of one program each'
-rm -rf .built target
-check 'target cleared under a build' 0 "$played" '*waiting for another build*' \
-    bash -c "./milch play sample.recording >/dev/null & one=\$!; sleep 0.4; rm -rf target; ./milch play sample.recording && wait \$one"
-builds 6 'the lock is not cleared with target'
+rm -rf .built crates/*/out
+check 'out cleared under a build' 0 "$played" '*waiting for another build*' \
+    bash -c "./milch play sample.recording >/dev/null & one=\$!; sleep 0.4; rm -rf crates/*/out; ./milch play sample.recording && wait \$one"
+builds 6 'the lock is not cleared with out'
 check 'nobody waits where it is built' 0 "$played" '' bash -c "exec 9>>.built/lock; flock 9; timeout 30 ./milch play sample.recording 9>&-"
 
-# what runs is not taken away by a clearing of target
-check 'target cleared under a running one' 0 "$played" '' bash -c "{ sleep 0.5; rm -rf target; cat sample.recording; } | ./milch play -"
+# what runs is not taken away by a clearing of out
+check 'out cleared under a running one' 0 "$played" '' bash -c "{ sleep 0.5; rm -rf crates/*/out; cat sample.recording; } | ./milch play -"
 
 : >"$work/kit/fails"
 echo '// changed again' >>crates/model/src/lib.rt
 check 'what is not proved is not run' 2 '' \
-    "$happens*"$'\n'"rt: model NOT PROVED (exit 1, 0 s)"$'\n'"milch: 'player' could not be proved and built; what rt said stands in .built/player.log" \
+    "$happens*"$'\n'"fn model::after: not proved"$'\n'"rt: the library model did not build, so nothing above it was checked"$'\n'"milch: 'player' could not be proved and built; what rt said stands in .built/player.log" \
     ./milch play sample.recording
 rm "$work/kit/fails"
 : >"$work/kit/changes"
@@ -132,9 +151,9 @@ check 'what cargo cannot build is not run' 2 '' \
     "$library*error: no such crate"$'\n'"milch: 'milch' could not be built; what cargo said stands in .built/milch.log" ./milch show sample.recording
 rm "$work/kit/cargo-fails"
 check 'the first build of the library says how far it is' 0 "$shown" \
-    "$library 0 of $many crates are proved"$'\n'"$library 1 of $many crates are proved"$'\n'"$library 3 of $many crates are proved"$'\n'"milch: building 'milch' by cargo" \
+    "$library 0 of $many crates are proved"$'\n'"$library 1 of $many crates are proved"$'\n'"$library $many of $many crates are proved"$'\n'"milch: building 'milch' by cargo" \
     ./milch show sample.recording
-builds $((before + 4)) 'the library is proved and then made, twice'
+builds $((before + 2)) 'the library is proved and made, twice'
 check 'the second run of it is silent' 0 "$shown" '' ./milch show sample.recording
 echo '// changed' >>tools/milch/src/main.rs
 mkdir "$work/no-cargo"
@@ -170,4 +189,7 @@ check 'depth of one that may not be read, among several' 2 '7 1 3 14 sample.reco
 check 'an unwritable checkout, built' 0 "$played" '' "${drop[@]}" ./milch play sample.recording
 chmod u+w . .built && rm -rf .built && chmod a-w .
 check 'an unwritable checkout, not built' 2 '' "milch: 'player' has yet to be built from these sources, and $PWD cannot be written" \
+    "${drop[@]}" ./milch play sample.recording
+chmod u+w . && mkdir .built && chmod 777 .built && chmod a-w .
+check 'a crate that rt cannot work in, not built' 2 '' "milch: 'player' has yet to be built from these sources, and $PWD cannot be written" \
     "${drop[@]}" ./milch play sample.recording

@@ -6,7 +6,7 @@ use std::path::Path;
 fn main() {
     println!("cargo:rerun-if-env-changed=LENT");
     let Ok(folder) = env::var("LENT") else {
-        panic!("set LENT to the folder of liblent.a, absolute (`rt staticlib lent`)");
+        panic!("set LENT to the folder of liblent.a, absolute (crates/lent/out, by `rt lib`)");
     };
     let library = Path::new(&folder).join("liblent.a");
     println!("cargo:rerun-if-changed={}", library.display());

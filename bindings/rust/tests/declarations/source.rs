@@ -60,10 +60,12 @@ pub fn public_functions() -> Vec<(String, String)> {
     found
 }
 
-/// The text of all libraries; a program has no `lib.rt`.
+/// The text of all libraries, without derives; a program has no `lib.rt`.
 fn libraries() -> String {
     let text = |folder: PathBuf| fs::read_to_string(folder.join("src/lib.rt")).ok();
-    entries("crates").filter_map(text).collect()
+    let all: String = entries("crates").filter_map(text).collect();
+    let lines = all.lines().filter(|line| !line.starts_with("#[derive("));
+    lines.map(|line| format!("{line}\n")).collect()
 }
 
 /// `name: type` for each part of a list.

@@ -122,13 +122,13 @@ fn proved_refusals() {
         .map(Refusal::to_string)
         .collect();
     of_a_start.push(String::new());
-    assert_eq!(sentences("refusalSentence k =", "\n\n"), of_a_start);
+    assert_eq!(sentences("refusal_sentence k =", "\n\n"), of_a_start);
 }
 
 /// The sentences of R1 to R18 are the definitions', in their order.
 #[test]
 fn rules() {
-    let defined = sentences("ruleSentences =", "[]");
+    let defined = sentences("rule_sentences =", "[]");
     let displayed: Vec<String> = Rule::ALL.iter().map(Rule::to_string).collect();
     assert_eq!(defined[0], "");
     assert_eq!(defined[1..], displayed);

@@ -75,7 +75,10 @@ impl Options {
 
     /// The program that is named, or else the player.
     fn program(&self) -> (PathBuf, Kind) {
-        let player = || (PathBuf::from("target/bin/player"), Kind::Lines(push_line));
+        let player = || {
+            let own = PathBuf::from("crates/player/out/player");
+            (own, Kind::Lines(push_line))
+        };
         self.program.clone().unwrap_or_else(player)
     }
 }
