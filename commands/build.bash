@@ -98,7 +98,7 @@ prove() { # CRATE WHAT run|lib
     [ ! -t 2 ] || printf '\n' >&2
     # What is run is proved and built, and then the status is its own.
     if [ "$status" -ne 0 ] && { [ "$how" = lib ] || ! grep -q "^rt: running out/$crate;" "$log"; }; then
-        grep -E '^fn [^ ]+: (not proved|no proof)|^[^ ]+: error|^rt: ' "$log" | grep -v '^rt: chose ' | cut -c 1-400 >&2
+        grep -E '^fn [^ ]+: (not proved|no proof)|^[^ ]+: error|^rt: ' "$log" | grep -vE '^rt: (chose |.*: begins with |.*waiting )' | cut -c 1-400 >&2
         fail "$what could not be proved and built; what rt said stands in .built/$crate.log"
     fi
 }

@@ -20,6 +20,7 @@ crate=\${PWD##*/}
 echo "began \$1 \$crate" >>'$work/builds'
 [ "\$1" = lib ] || exec >&2
 not_proved() {
+    echo 'rt: model: begins with what a check kept in /elsewhere/crates/model'
     echo 'rt: chose --jobs 2 for model'
     echo 'fn model::after: not proved'
     echo 'logic=not-proved'
