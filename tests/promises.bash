@@ -6,7 +6,7 @@ declare -A contracts=()
 contract_of() { # CRATE FUNCTION
     contract=${contracts[$1::$2]-}
     [ -z "$contract" ] || return 0
-    contract=$(cat "crates/$1/src/"*.rt | awk -v name="fn $2(" 'index($0, name) { on = 1 } on { print } on && /^ *\{$/ { exit }')
+    contract=$(cat "crates/$1/src/"*.rt | awk -v name="fn $2[(<]" '$0 ~ name { on = 1 } on { print } on && /^ *\{$/ { exit }')
     contracts[$1::$2]=$contract
 }
 # The words in backticks of a text.

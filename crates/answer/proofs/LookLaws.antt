@@ -8,7 +8,7 @@ use lib.ListN.{length, get_or}
 use Rattle.model.specs.declared.Answer.{Answer}
 use Rattle.model.specs.Lists.{All}
 use Rattle.model.specs.Session.{Stack, State, height, top, most_tasks, most_height}
-use Rattle.model.specs.Answers.{look_at, refused, answer_by}
+use Rattle.model.specs.Answers.{look_at, refused}
 use Rattle.model.proofs.Logic.{All-at}
 use Rattle.model.proofs.Sound.{TaskSound, Sound}
 use Rattle.session.specs.declared.Task.{Task}
@@ -20,6 +20,11 @@ use Rattle.session.proofs.TaskLaws.{view-height}
 use Rattle.answer.specs.Seen.{Seen, answer_of}
 
 -- ---- by the refusal
+
+-- the answer of a call with the refusal k (0 if none), which is a where it is accepted
+abbrev pub answer_by : ℕ → Answer → Answer
+answer_by zero a = a
+answer_by (suc k) a = refused (suc k)
 
 pub answer-refused : (a : Answer) (k : ℕ) → (k ≡ 0 → ⊥) → refused k ≡ answer_by k a
 answer-refused a zero n = absurd (n refl)

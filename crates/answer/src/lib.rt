@@ -51,7 +51,7 @@ pub fn look_at(s: Session) -> Answer
     of_front(t, s.n, s.main, 0, s.edition, s.no_history)
 }
 
-// The answer of a refused call: its number and zeros.
+// The answer of a refused call: its number and zeros. A number, since the C interface has a byte there.
 pub fn refused(refusal: u8) -> Answer
     ensures { result ≡ refused_answer refusal }
 {

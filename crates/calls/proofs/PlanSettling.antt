@@ -6,108 +6,85 @@ use mathlib.Core.List.{List, [], ◌++◌}
 use native.Mathlib.Omega.{arith}
 use lib.Dec.{leb}
 use borrow.Author.Tests.{ne_eqb}
-use Rattle.model.specs.Refusals.{refusal}
+use Rattle.std.specs.Prelude.{Result, Ok, Err}
+use Rattle.model.specs.declared.Flags.{Flags}
+use Rattle.model.specs.Refusals.{refusal, unless}
+use Rattle.model.specs.Rules.{choose}
 use Rattle.model.specs.Session.{most_tasks}
 use Rattle.model.specs.Flags.{flags_of}
-use Rattle.model.specs.Answers.{refused, answer_by, look_at}
-use Rattle.model.specs.Calls.{Call, chosen, launch, start, finishing_start, back, look, edition_named, launched, started, start_checks, room_checks, own_checks, closed_of, done}
+use Rattle.model.specs.Answers.{refused}
+use Rattle.model.specs.Calls.{Call, chosen, launch, back, look, edition_named, launched, started, start_checks, room_checks, own_checks, closed_of, done}
 use Rattle.model.proofs.RefusalLaws.{refusal-append-refused, refusal-append-passed}
 use Rattle.session.specs.declared.Session.{Session}
-use Rattle.session.specs.declared.Task.{Task}
 use Rattle.session.specs.Stored.{view, hold, hold_task, pad, blank_task, Ready, task_behind}
 use Rattle.session.proofs.Known.{Sized}
 use Rattle.session.proofs.StoredLaws.{held, sound-blank}
-use Rattle.answer.specs.Seen.{Seen, answer_of}
+use Rattle.answer.specs.Seen.{Seen}
 use Rattle.rules.specs.Startable.{Startable}
 use Rattle.starts.specs.Checks.{start_entry, room_refusal}
 use Rattle.starts.proofs.Entries.{start-numbers, start-split}
 use Rattle.plans.specs.declared.Plan.{Plan}
-use Rattle.plans.specs.Puts.{Puttable}
-use Rattle.plans.proofs.Puts.{put_of}
+use Rattle.plans.specs.Puts.{Puttable, put_of}
 use Rattle.plans.specs.Plans.{still_of, keeps, closes, Opens}
-use Rattle.plans.specs.Shown.{shown_by, answer_for, Showable}
 use Rattle.plans.proofs.Closes.{closed-puttable, still-put, still-puttable, back-put, back-puttable, back-opens}
-use Rattle.plans.proofs.Answered.{Uncovers, showable, answers-look, refused-showable}
-use Rattle.starts.specs.declared.Sought.{Sought}
+use Rattle.plans.proofs.Answered.{Uncovers, showable, answers-look}
 use Rattle.starts.specs.declared.Decided.{Decided}
-use Rattle.starts.specs.Steps.{or_else, SoughtFrom, Plannable, chosen_stored, plan_unless, decided_by, decided_stored}
-use Rattle.starts.proofs.Planning.{made, made_closed, start-put, start-puttable, start-uncovers, start-closes, start-accepts}
-use Rattle.starts.proofs.Seeking.{entered-startable, roomy_plan, decided-plan, decided-stored}
+use Rattle.starts.specs.Steps.{or_else, Plannable, chosen_stored, task_for, start_plan, accepted_by}
+use Rattle.starts.proofs.Planning.{made, made_closed, start-put, start-puttable, start-uncovers, start-closes}
+use Rattle.starts.proofs.Seeking.{entered-startable}
 use Rattle.calls.specs.declared.Reply.{Reply}
-use Rattle.calls.specs.StoredCalls.{reply, given_by, refusal_stored, shared_refusal, call_stored}
-use Rattle.calls.specs.CallPlans.{launch_refusal, main_task, launch_plan, back_refusal, back_mark, back_plan}
-use Rattle.calls.proofs.Settling.{shared-ready, number-shared, number-own, call-refused, own-refused, own-accepted, own-seen, own-sized, empty-view, filled-view, launch-own, launch-22, back-own, back-21}
+use Rattle.checks.specs.Shared.{shared_refusal}
+use Rattle.calls.specs.StoredCalls.{reply, start_of, refusal_stored, call_stored}
+use Rattle.calls.specs.CallPlans.{launch_refusal, main_task, launch_plan, back_refusal, back_mark, back_plan, carried_out, CanCarryOut}
+use Rattle.calls.specs.RecordPlans.{plan_in, start_decided}
+use Rattle.checks.proofs.SharedLaws.{shared-ready}
+use Rattle.calls.proofs.Settling.{number-shared, number-own, call-refused, own-refused, own-accepted, own-seen, own-sized, empty-view, filled-view, launch-own, launch-22, back-own, back-21}
 
--- a finishing start, or a start
-abbrev pub start_call : Bool → ℕ → ℕ → Call
-start_call true b w = finishing_start b w
-start_call false b w = start b w
-
--- the plan p on c gives the reply r
-pub record Gives (c : Session) (p : Plan) (r : Reply) : Type 0 where
-  pub puttable : Puttable c p
-  pub showable : Showable p (task_behind c 1)
-  pub gives : reply (put_of c p) (answer_for p (task_behind c 1)) ≡ r
+-- what is planned for c gives the reply r
+pub record Gives (c : Session) (x : Result Plan ℕ) (r : Reply) : Type 0 where
+  pub can : CanCarryOut c x
+  pub gives : carried_out c x ≡ r
 
 -- refused
-pub still-gives : (c : Session) → Sized c → (n : ℕ) → Gives c (still_of c (suc n)) (reply c (refused (suc n)))
-still-gives c z n =
-    record {
-      puttable = still-puttable c (suc n);
-      showable = refused-showable (still_of c (suc n)) (task_behind c 1) (λ q. omega (arith, q));
-      gives = ap (λ (d : Session). reply d (refused (suc n))) (still-put c z (suc n));
-    }
+pub refused-gives : (c : Session) (n : ℕ) {r : Reply} → r ≡ reply c (refused n) → Gives c (Err n) r
+refused-gives c n e = record { can = tt; gives = sym e }
 
--- the refusal of a plan is that of the call which it gives
-pub gives-refusal : (tb : List ℕ) (c : Session) (k : Call) {p : Plan} → Gives c p (call_stored tb c k) → p.refusal ≡ refusal_stored tb c k
-unfolding call_stored look_at
-gives-refusal tb c k {p} g =
-    sym (answered p.refusal p.n) ∙ ap (λ (r : Reply). r.answer.refusal) g.gives ∙ settled (refusal_stored tb c k)
-  where
-    answered : (n m : ℕ) → (answer_by n (answer_of (shown_by p.gone p.front (task_behind c 1)) m p.main p.closed p.edition p.no_history)).refusal ≡ n
-    answered zero zero = refl
-    answered zero (suc m) = refl
-    answered (suc n) m = refl
-
-    settled : (n : ℕ) → (given_by tb c k n).answer.refusal ≡ n
-    settled zero = refl
-    settled (suc n) = refl
+-- the number of a call, from m, the refusal of the shared checks, and j, that of its own
+pub plan-refusal : (tb : List ℕ) (c : Session) (k : Call) (m j : ℕ) → m ≡ shared_refusal tb c
+    → (Ready tb c → j ≡ refusal (own_checks tb (view c) k)) → or_else m j ≡ refusal_stored tb c k
+plan-refusal tb c k zero j shared own = let h = shared-ready tb c (sym shared) in own h ∙ sym (number-own tb c k h)
+plan-refusal tb c k (suc m) j shared own = sym (number-shared tb c k (suc m) (sym shared) (λ e. omega arith))
 
 -- what a plan has to be for an accepted call
 pub record Makes-by (tb : List ℕ) (c : Session) (k : Call) (p : Plan) : Type 0 where
-  pub accepted : p.refusal ≡ 0
   pub puttable : Puttable c p
   pub uncovers : Uncovers p
   pub makes : put_of c p ≡ hold (done tb (view c) k)
   pub closes : p.closed ≡ closed_of tb (view c) k
 
 module _ (tb : List ℕ) (c : Session) (z : Sized c) (k : Call) where
-  gives-refused : (n : ℕ) → call_stored tb c k ≡ reply c (refused (suc n)) → Gives c (still_of c (suc n)) (call_stored tb c k)
-  gives-refused n e = rw e (still-gives c z n)
-
   module _ (h : Ready tb c) (own : refusal (own_checks tb (view c) k) ≡ 0) where
-    gives-accepted : (p : Plan) → Makes-by tb c k p → Gives c p (call_stored tb c k)
+    gives-accepted : (p : Plan) → Makes-by tb c k p → Gives c (Ok p) (call_stored tb c k)
     gives-accepted p m =
         let sizes : Sized (put_of c p) = rw m.makes (own-sized tb c k h own) in
         let seen : Seen (put_of c p) = rw m.makes (own-seen tb c k h own) in
         record {
-          puttable = m.puttable;
-          showable = showable c z p m.accepted m.uncovers sizes seen;
-          gives = ap (reply (put_of c p)) (answers-look c z p m.accepted m.uncovers sizes seen)
+          can = (m.puttable, showable c z p m.uncovers sizes seen);
+          gives = ap (reply (put_of c p)) (answers-look c z p m.uncovers sizes seen)
               ∙ rw (m.makes, m.closes) (sym (own-accepted tb c k h own));
         }
 
   -- m is the refusal of the shared checks, j that of the call's own
   module _ (m j : ℕ) (shared : m ≡ shared_refusal tb c) (own : Ready tb c → j ≡ refusal (own_checks tb (view c) k))
       (p : Plan) (makes : Ready tb c → j ≡ 0 → Makes-by tb c k p) where
-    pub gives-plan : Gives c (plan_unless (or_else m j) c p) (call_stored tb c k)
+    pub gives-plan : Gives c (unless (or_else m j) p) (call_stored tb c k)
     gives-plan = go m j refl refl
       where
-        go : (l i : ℕ) → m ≡ l → j ≡ i → Gives c (plan_unless (or_else l i) c p) (call_stored tb c k)
-        go (suc l) i q r = gives-refused l (call-refused tb c k (suc l) (sym shared ∙ q) (λ o. omega arith))
+        go : (l i : ℕ) → m ≡ l → j ≡ i → Gives c (unless (or_else l i) p) (call_stored tb c k)
+        go (suc l) i q r = refused-gives c (suc l) (call-refused tb c k (suc l) (sym shared ∙ q) (λ o. omega arith))
         go zero (suc i) q r =
             let h = shared-ready tb c (sym shared ∙ q) in
-            gives-refused i (own-refused tb c k h (suc i) (sym (own h) ∙ r) (λ o. omega arith))
+            refused-gives c (suc i) (own-refused tb c k h (suc i) (sym (own h) ∙ r) (λ o. omega arith))
         go zero zero q r =
             let h = shared-ready tb c (sym shared ∙ q) in
             gives-accepted h (sym (own h) ∙ r) p (makes h r)
@@ -115,14 +92,13 @@ module _ (tb : List ℕ) (c : Session) (z : Sized c) (k : Call) where
 -- ---- look
 
 module _ (tb : List ℕ) (c : Session) (z : Sized c) where
-  look-makes : Ready tb c → Makes-by tb c look (still_of c 0)
+  look-makes : Ready tb c → Makes-by tb c look (still_of c)
   unfolding closed_of done
   look-makes h =
       record {
-        accepted = refl;
-        puttable = still-puttable c 0;
+        puttable = still-puttable c;
         uncovers = λ e. absurd (omega (arith, e));
-        makes = still-put c z 0 ∙ sym (held c z (sound-blank tb c h.sound));
+        makes = still-put c z ∙ sym (held c z (sound-blank tb c h.sound));
         closes = refl;
       }
 
@@ -130,13 +106,13 @@ module _ (tb : List ℕ) (c : Session) (z : Sized c) where
   unfolding own_checks refusal
   look-number = refl
 
-  pub look-gives : (m : ℕ) → m ≡ shared_refusal tb c → Gives c (still_of c m) (call_stored tb c look)
+  pub look-gives : (m : ℕ) → m ≡ shared_refusal tb c → Gives c (unless m (still_of c)) (call_stored tb c look)
   look-gives m shared =
-      rw (sym (still m)) (gives-plan tb c z look m 0 shared (λ h. sym look-number) (still_of c 0) (λ h e. look-makes h))
+      rw (sym (none m)) (gives-plan tb c z look m 0 shared (λ h. sym look-number) (still_of c) (λ h e. look-makes h))
     where
-      still : (n : ℕ) → plan_unless (or_else n 0) c (still_of c 0) ≡ still_of c n
-      still zero = refl
-      still (suc n) = refl
+      none : (n : ℕ) → unless (or_else n 0) (still_of c) ≡ unless n (still_of c)
+      none zero = refl
+      none (suc n) = refl
 
 -- ---- launch
 
@@ -165,7 +141,6 @@ module _ (tb : List ℕ) (c : Session) (z : Sized c) (v : ℕ) where
   launch-gives m shared =
       gives-plan tb c z (launch v) m (launch_refusal c.n v) shared launch-number (keeps (main_task tb) 0 1 1 (edition_named v)) (λ h e.
       record {
-        accepted = refl;
         puttable = record { few = omega arith; second = λ p. absurd (false≢true p) };
         uncovers = λ g. absurd (omega (arith, g));
         makes = launch-put h (launch-empty c.n v e);
@@ -177,10 +152,6 @@ module _ (tb : List ℕ) (c : Session) (z : Sized c) (v : ℕ) where
 back-uncovers : (c : Session) (one : Bool) → Uncovers (closes back_mark one (leb 0 1) (task_behind c 0) 0 c.n c.main c.edition)
 back-uncovers c true e = (refl, refl)
 back-uncovers c false e = absurd (omega (arith, e))
-
-back-accepted : (c : Session) (one : Bool) → (closes back_mark one (leb 0 1) (task_behind c 0) 0 c.n c.main c.edition).refusal ≡ 0
-back-accepted c true = refl
-back-accepted c false = refl
 
 -- a task stands where the check passes
 pub back_some : (n : ℕ) → back_refusal n ≡ 0 → 1 ≤ n
@@ -203,7 +174,6 @@ module _ (tb : List ℕ) (c : Session) (z : Sized c) where
         let some = back_some c.n e in
         let one = leb (task_behind c 0).height 1 in
         record {
-          accepted = back-accepted c one;
           puttable = closed-puttable c 1 (back-puttable tb c z h some (leb 0 1));
           uncovers = back-uncovers c one;
           makes = back-put tb c z h some (leb 0 1);
@@ -220,13 +190,17 @@ pub or-or : (l m n : ℕ) → or_else (or_else l m) n ≡ or_else l (or_else m n
 or-or zero m n = refl
 or-or (suc l) m n = refl
 
-unless-unless : (m n : ℕ) (c : Session) (p : Plan) → plan_unless m c (plan_unless n c p) ≡ plan_unless (or_else m n) c p
-unless-unless zero n c p = refl
-unless-unless (suc m) n c p = refl
+-- what is decided of a start for which there is room, and its plan
+module _ (tb : List ℕ) (c : Session) (b : ℕ) (f : Flags) (fin : Bool) where
+  abbrev pub roomy : Decided
+  roomy = accepted_by fin f.noh (choose tb (view c) b f).found b c (task_for tb c b f) (chosen_stored tb c b f)
+
+  abbrev pub roomy_plan : Plan
+  roomy_plan = start_plan b c (task_for tb c b f) (chosen_stored tb c b f) fin f.noh
 
 module _ (tb : List ℕ) (c : Session) (z : Sized c) (b w : ℕ) (fin : Bool) where
   abbrev does : Call
-  does = start_call fin b w
+  does = start_of fin b w
 
   abbrev entry : ℕ
   entry = refusal (start_entry tb c.n b w)
@@ -239,7 +213,7 @@ module _ (tb : List ℕ) (c : Session) (z : Sized c) (b w : ℕ) (fin : Bool) wh
   unfolding own_checks
   own-checks = go fin
     where
-      go : (f : Bool) → own_checks tb (view c) (start_call f b w) ≡ start_checks tb (view c) b w
+      go : (f : Bool) → own_checks tb (view c) (start_of f b w) ≡ start_checks tb (view c) b w
       go true = refl
       go false = refl
 
@@ -252,18 +226,17 @@ module _ (tb : List ℕ) (c : Session) (z : Sized c) (b w : ℕ) (fin : Bool) wh
       go (suc n) e = sym (refusal-append-refused n (start_entry tb c.n b w) (room_checks (chosen tb (view c) b w) (view c)) e)
 
   -- the number of a start, from m, the refusal of the shared checks
-  pub start-refusal : (m : ℕ) → m ≡ shared_refusal tb c → or_else m (or_else entry room_of) ≡ refusal_stored tb c does
-  start-refusal zero shared = let h = shared-ready tb c (sym shared) in start-number h ∙ sym (number-own tb c does h)
-  start-refusal (suc m) shared = sym (number-shared tb c does (suc m) (sym shared) (λ e. omega arith))
+  pub start-refusal : (m : ℕ) → m ≡ shared_refusal tb c → or_else (or_else m entry) room_of ≡ refusal_stored tb c does
+  start-refusal m shared = or-or m entry room_of ∙ plan-refusal tb c does m (or_else entry room_of) shared start-number
 
   -- the session that it makes
-  made-done : (f : Bool) → hold (made f tb c b (flags_of w)) ≡ hold (done tb (view c) (start_call f b w))
+  made-done : (f : Bool) → hold (made f tb c b (flags_of w)) ≡ hold (done tb (view c) (start_of f b w))
   unfolding done started
   made-done true = refl
   made-done false = refl
 
   -- the screens that it closes
-  made-closed : (f : Bool) → made_closed f tb c b (flags_of w) ≡ closed_of tb (view c) (start_call f b w)
+  made-closed : (f : Bool) → made_closed f tb c b (flags_of w) ≡ closed_of tb (view c) (start_of f b w)
   unfolding closed_of
   made-closed true = refl
   made-closed false = refl
@@ -278,19 +251,17 @@ module _ (tb : List ℕ) (c : Session) (z : Sized c) (b w : ℕ) (fin : Bool) wh
           let ok : Plannable tb c b (flags_of w) _ (chosen_stored tb c b (flags_of w)) =
           record { chosen = refl; task = refl; room = room } in
           record {
-            accepted = start-accepts z s ok fin;
             puttable = start-puttable z s ok fin;
             uncovers = start-uncovers z s ok fin;
             makes = start-put z s ok fin ∙ made-done fin;
             closes = start-closes z s ok fin ∙ made-closed fin;
           }
 
-  pub start_gives : (m : ℕ) → m ≡ shared_refusal tb c → Gives c (decided_stored (or_else m entry) tb c b (flags_of w) fin).plan (call_stored tb c does)
-  start_gives m shared =
-      rw (decided-plan tb c b (flags_of w) fin (or_else m entry), unless-unless (or_else m entry) room_of c (roomy_plan tb c b (flags_of w) fin), or-or m entry room_of)
+  pub start-gives : (m : ℕ) → m ≡ shared_refusal tb c → Gives c (plan_in (start_decided m tb c b w fin)) (call_stored tb c does)
+  start-gives m shared =
+      rw (planned (or_else (or_else m entry) room_of), or-or m entry room_of)
       (gives-plan tb c z does m (or_else entry room_of) shared start-number (roomy_plan tb c b (flags_of w) fin) start-makes)
-
-  -- by what was sought
-  pub sought-gives : (m : ℕ) → m ≡ shared_refusal tb c → {x : Sought} → SoughtFrom tb c b w m x → {t : Task} → t ≡ task_behind c x.index
-      → {d : Decided} → d ≡ decided_by fin b c t x → Gives c d.plan (call_stored tb c does)
-  sought-gives m shared s task e = rw (e, decided-stored tb c b w m z s task fin) (start_gives m shared)
+    where
+      planned : (n : ℕ) → plan_in (unless n (roomy tb c b (flags_of w) fin)) ≡ unless n (roomy_plan tb c b (flags_of w) fin)
+      planned zero = refl
+      planned (suc n) = refl

@@ -12,7 +12,7 @@ use Rattle.model.specs.Lists.{is_empty}
 use Rattle.model.specs.Refusals.{Check, check, accepted, refusal}
 use Rattle.model.specs.Table.{table_refusal, table_shaped, table_filled}
 use Rattle.model.specs.Session.{Stack, State, is_edition}
-use Rattle.model.specs.Answers.{look_at, with_closed, refused, answer_by}
+use Rattle.model.specs.Answers.{look_at, with_closed, refused}
 use Rattle.model.specs.Calls.{Call, launch, back, look, edition_named, checks_in, own_checks, closed_of, done}
 use Rattle.model.proofs.RefusalLaws.{refusal-skip, refusal-passes, refusal-append-refused, checks-bad-table, checks-unsound, checks-own}
 use Rattle.model.proofs.Keeps.{done-sound}
@@ -21,9 +21,10 @@ use Rattle.session.specs.Stored.{view, hold, sound_stored, Ready}
 use Rattle.answer.specs.Seen.{Seen}
 use Rattle.session.proofs.Known.{Sized}
 use Rattle.session.proofs.StoredLaws.{held, view-hold, view-count, hold-sound, hold-sized, sound-fits, sound-blank, blank-few, sound-view}
-use Rattle.answer.proofs.LookLaws.{answer-refused, answer-accepted, sound-seen}
+use Rattle.answer.proofs.LookLaws.{answer_by, answer-refused, answer-accepted, sound-seen}
 use Rattle.calls.specs.declared.Reply.{Reply}
-use Rattle.calls.specs.StoredCalls.{reply, given_by, refusal_stored, shared_refusal, call_stored, KeepsSound}
+use Rattle.checks.specs.Shared.{shared_refusal}
+use Rattle.calls.specs.StoredCalls.{reply, given_by, refusal_stored, call_stored, KeepsSound}
 
 -- the call k on c, which closes no screen, left the session s, with the refusal n
 pub record Left (tb : List ℕ) (c : Session) (k : Call) (n : ℕ) (s : Session) : Type 0 where
@@ -35,42 +36,7 @@ closed_none : (v : State ℕ) → with_closed 0 (look_at v) ≡ look_at v
 unfolding look_at
 closed_none v = refl
 
--- ---- the shared checks
-
-refusal-none : refusal [] ≡ 0
-unfolding refusal
-refusal-none = refl
-
 module _ (tb : List ℕ) (c : Session) where
-  pub shared-bad-table : (k : ℕ) → table_refusal tb ≡ k → (k ≡ 0 → ⊥) → shared_refusal tb c ≡ k
-  unfolding shared_refusal
-  shared-bad-table zero e n = absurd (n refl)
-  shared-bad-table (suc k) e n = checks-bad-table tb k (sound_stored tb c) [] e
-
-  pub shared-unsound : table_refusal tb ≡ 0 → sound_stored tb c ≡ false → shared_refusal tb c ≡ 20
-  unfolding shared_refusal
-  shared-unsound e f = rw f (checks-unsound tb [] e)
-
-  pub shared-passed : table_refusal tb ≡ 0 → sound_stored tb c ≡ true → shared_refusal tb c ≡ 0
-  unfolding shared_refusal refusal
-  shared-passed e f = rw f (checks-own tb [] e)
-
-  -- a call that passes them is on a sound session under a good table
-  pub checks-ready : (own : List Check) → refusal (checks_in tb (sound_stored tb c) own) ≡ 0 → Ready tb c
-  unfolding table_refusal
-  checks-ready own e =
-      let c₁ = refusal-skip 0 (not (table_shaped tb)) _ e in
-      let c₂ = refusal-skip 1 (not (table_filled tb)) _ c₁.1 in
-      let c₂₀ = refusal-skip 19 (not (sound_stored tb c)) own c₂.1 in
-      record {
-        good = refusal-passes 1 _ _ c₁.0 ∙ refusal-passes 2 _ _ c₂.0 ∙ refusal-none;
-        sound = not-false _ c₂₀.0;
-      }
-
-  pub shared-ready : shared_refusal tb c ≡ 0 → Ready tb c
-  unfolding shared_refusal
-  shared-ready e = checks-ready [] e
-
   -- ---- calls
 
   module _ (k : Call) where

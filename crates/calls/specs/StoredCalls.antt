@@ -1,10 +1,10 @@
 -- Calls on stored sessions: what the program gives for each, refused or not.
-use Rattle.std.specs.Prelude.{ℕ, ◌≡◌, true, List, []}
+use Rattle.std.specs.Prelude.{ℕ, ◌≡◌, Bool, true, false, List}
 use Rattle.model.specs.declared.Answer.{Answer}
 use Rattle.model.specs.Refusals.{refusal}
 use Rattle.model.specs.Table.{table_refusal}
 use Rattle.model.specs.Answers.{refused, settle}
-use Rattle.model.specs.Calls.{Call, checks_in, own_checks, done, answer_to, created_of}
+use Rattle.model.specs.Calls.{Call, start, finishing_start, checks_in, own_checks, done, answer_to, created_of}
 use Rattle.model.specs.Balance.{if_accepted}
 use Rattle.model.specs.Player.{Request, unplayable, asks}
 use Rattle.model.specs.Histories.{Machine}
@@ -15,13 +15,14 @@ use Rattle.calls.specs.declared.Reply.{Reply}
 abbrev pub reply : Session → Answer → Reply
 reply c a = record { session = c; answer = a }
 
+-- a finishing start, or a start
+abbrev pub start_of : Bool → ℕ → ℕ → Call
+start_of true b w = finishing_start b w
+start_of false b w = start b w
+
 -- "The checks go in the order 1, 2, 20, then those named for the call."
 unfoldable pub refusal_stored : List ℕ → Session → Call → ℕ
 refusal_stored tb c k = refusal (checks_in tb (sound_stored tb c) (own_checks tb (view c) k))
-
--- the same with none named for the call: 1, 2, 20, or 0
-unfoldable pub shared_refusal : List ℕ → Session → ℕ
-shared_refusal tb c = refusal (checks_in tb (sound_stored tb c) [])
 
 -- what a call gives with the refusal n (0 if none)
 abbrev pub given_by : List ℕ → Session → Call → ℕ → Reply

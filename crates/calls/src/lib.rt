@@ -1,25 +1,23 @@
-// Look, launch, Back and the starts on any session under any table. Each takes the refusal of the checks that all calls share
-// (0 if none), makes its own checks in document 01's order, and gives the whole call. Launch, Back and the starts are plans that
-// are put; each has the put in its own body, since the compiler copies the session once more where they share it.
+// Look, launch, Back and the starts on any session under any table. Each takes what the checks that all calls share say of it, makes
+// its own checks in document 01's order, and gives the whole call. Launch, Back and the starts are plans that are carried out.
 #![tactic(auto)]
 
-ghost use Rattle.std.specs.Prelude.{◌≤◌, ◌≡◌};
+ghost use Rattle.std.specs.Prelude.{◌≡◌};
 ghost use Rattle.model.specs.Answers.{refused as refused_answer};
 ghost use Rattle.model.specs.Calls.{Call, edition_named};
-ghost use Rattle.model.specs.Table.{table_refusal};
-ghost use Rattle.session.specs.Stored.{task_behind, Ready};
-ghost use Rattle.records.specs.Records.{is_starting, request_for};
-ghost use Rattle.plans.specs.Plans.{Opens};
-ghost use Rattle.starts.specs.Steps.{or_else};
-ghost use Rattle.calls.specs.StoredCalls.{reply, shared_refusal, call_stored, reply_stored, created_stored};
-ghost use Rattle.calls.specs.CallPlans.{launch_refusal, launch_plan, back_refusal, back_mark, back_plan};
-ghost use Rattle.calls.specs.RecordPlans.{SoughtFor, PlannedFor, launched as launched_by, decided_for};
+ghost use Rattle.model.specs.Refusals.{refusal_in, refusal_number, numbered};
+ghost use Rattle.records.specs.Records.{request_for};
+ghost use Rattle.calls.specs.StoredCalls.{reply, start_of, call_stored, reply_stored, created_stored};
+ghost use Rattle.calls.specs.CallPlans.{launch_refusal, launch_plan, back_plan, carried_out, CanCarryOut};
+ghost use Rattle.calls.specs.RecordPlans.{plan_in, created_in, unruled, decided_for};
 
-use model::{Answer, Effect, Mark};
+use checks::Checked;
+use model::{Answer, Effect, Position, Refusal};
 use plans::{Moved, Plan};
 use records::{Asked, Record};
-use session::{Session, Task};
-use starts::{Decided, Sought};
+use session::Session;
+use starts::{ByRules, Decided, Seeker};
+use table::Table;
 
 // What a call gives: the session after it, and the answer.
 #[repr(C)]
@@ -30,40 +28,30 @@ pub struct Reply {
 }
 
 // A refused call: the session as it was.
-pub fn refuse(s: Session, refusal: u8) -> Reply
-    ensures { result ≡ reply s (refused_answer refusal) }
+pub fn refuse(s: Session, refusal: Refusal) -> Reply
+    ensures { result ≡ reply s (refused_answer (refusal_number refusal)) }
 {
     Reply {
         session: s,
-        answer: answer::refused(refusal),
+        answer: answer::refused(refusal.number()),
     }
 }
 
-// Look changes nothing. The table is there for the contract, which names the whole call.
-pub fn look(table: &[u8], s: Session, shared: u8) -> Reply
-    requires { shared ≡ shared_refusal table.now s }
-    ensures { result ≡ call_stored table.now s Call.look }
+// Look changes nothing.
+pub fn look(on: &Checked<'_>) -> Reply
+    ensures { result ≡ call_stored on.now.table.now on.now.session.now Call.look }
 {
-    if shared != 0 {
-        return refuse(s, shared);
+    starts::lengths(*on.session);
+    if let Err(refusal) = on.refused {
+        return refuse(*on.session, refusal);
     }
     Reply {
-        session: s,
-        answer: answer::look_at(s),
+        session: *on.session,
+        answer: answer::look_at(*on.session),
     }
 }
 
 // ---- launch and Back
-
-// The first of the shared refusal and the call's own.
-fn first_refusal(shared: u8, own: u8) -> u8
-    ensures { result ≡ or_else shared own }
-{
-    if shared != 0 {
-        return shared;
-    }
-    own
-}
 
 // The edition that a launch names: 0 stands for 8.
 fn edition_named(edition: u8) -> u8
@@ -75,41 +63,28 @@ fn edition_named(edition: u8) -> u8
     edition
 }
 
-// A launch's own refusal: 22 where a task stands, 30 for another edition, or 0.
-pub fn launch_refusal(n: u8, edition: u8) -> u8
-    ensures { result ≡ launch_refusal n edition }
+// A launch's own checks: 22 where a task stands, 30 for another edition.
+pub fn check_launch(n: u8, edition: u8) -> Result<(), Refusal>
+    ensures { refusal_in result ≡ launch_refusal n edition }
 {
     if n != 0 {
-        return 22;
+        return Err(Refusal::TaskStands);
     }
-    if Session::is_edition(edition_named(edition)) {
-        return 0;
+    if !Session::is_edition(edition_named(edition)) {
+        return Err(Refusal::UnknownEdition);
     }
-    30
-}
-
-// A Back's own refusal: 21 where no task stands, or 0.
-fn back_refusal(n: u8) -> u8
-    ensures { result ≡ back_refusal n }
-{
-    if n == 0 {
-        return 21;
-    }
-    0
+    Ok(())
 }
 
 // The plan of a launch: on an empty session, a new task of the main screen, in the edition that is named.
-pub fn launch_plan(table: &[u8], s: Session, edition: u8, shared: u8) -> Plan
-    requires { shared ≡ 0 → table_refusal table.now ≡ 0 }
-    ensures { result ≡ launch_plan shared table.now s edition }
+pub fn launch_plan(on: &Checked<'_>, edition: u8) -> Result<Plan, Refusal>
+    ensures { numbered result ≡ launch_plan (refusal_in on.now.refused) on.now.table.now on.now.session.now edition }
 {
-    let refusal = first_refusal(shared, launch_refusal(s.n, edition));
-    if refusal != 0 {
-        return plans::still(s, refusal);
-    }
-    let b = table::main_screen(table);
-    let blank = s.tasks[0];
-    let front = effects::front_after(blank, b, Effect::New, 0);
+    starts::lengths(*on.session);
+    on.refused?;
+    check_launch(on.session.n, edition)?;
+    let main = Table::of(on.table).main_screen();
+    let front = effects::front_after(on.session.tasks[0], main, Effect::New, None);
     let moved = Moved {
         second: 0,
         shift: 0,
@@ -118,19 +93,19 @@ pub fn launch_plan(table: &[u8], s: Session, edition: u8, shared: u8) -> Plan
         edition: edition_named(edition),
         closed: 0,
     };
-    plans::closing_plan(Mark::Gone, front, moved)
+    Ok(plans::closing_plan(None, front, moved))
 }
 
 // The plan of a Back: the top screen of the front task closes, as a marked one does.
-pub fn back_plan(s: Session, shared: u8) -> Plan
-    requires { shared ≡ 0 → 1 ≤ s.n → Opens back_mark (task_behind s 0) }
-    ensures { result ≡ back_plan shared s }
+pub fn back_plan(on: &Checked<'_>) -> Result<Plan, Refusal>
+    ensures { numbered result ≡ back_plan (refusal_in on.now.refused) on.now.session.now }
 {
-    let refusal = first_refusal(shared, back_refusal(s.n));
-    if refusal != 0 {
-        return plans::still(s, refusal);
+    let s = on.session;
+    starts::lengths(*s);
+    on.refused?;
+    if s.n == 0 {
+        return Err(Refusal::NoTask);
     }
-    let front = s.tasks[0];
     let moved = Moved {
         second: 0,
         shift: 0,
@@ -139,144 +114,125 @@ pub fn back_plan(s: Session, shared: u8) -> Plan
         edition: s.edition,
         closed: 0,
     };
-    plans::closing_plan(Mark::Stands(0, 0), front, moved)
+    Ok(plans::closing_plan(Some(Position::TOP), s.tasks[0], moved))
+}
+
+// ---- whole calls
+
+// Carries out what is planned, in the session where it stands: to pass the session on and back is to copy it twice.
+pub fn carry_out(s: &mut Session, plan: Result<Plan, Refusal>) -> Answer
+    requires { CanCarryOut s.old (numbered plan) }
+    ensures { reply s.new result ≡ carried_out s.old (numbered plan) }
+{
+    match plan {
+        Ok(plan) => {
+            let answer = plans::answer_of(plan, s.tasks[1]);
+            plans::put(s, plan);
+            answer
+        }
+        Err(refusal) => answer::refused(refusal.number()),
+    }
+}
+
+// What a call gives of which this is planned. The reply stands first, and the plan is carried out in its session: a session beside
+// it is copied into it and out. Inlined, since a call of this copies the reply.
+#[inline(always)]
+pub fn reply_of(s: &Session, plan: Result<Plan, Refusal>) -> Reply
+    requires { CanCarryOut s.now (numbered plan) }
+    ensures { result ≡ carried_out s.now (numbered plan) }
+{
+    let mut reply = Reply {
+        session: *s,
+        answer: answer::refused(0),
+    };
+    reply.answer = carry_out(&mut reply.session, plan);
+    reply
 }
 
 // Launch, on an empty session, in an edition.
-pub fn launch(table: &[u8], s: Session, edition: u8, shared: u8) -> Reply
-    requires { shared ≡ shared_refusal table.now s }
-    ensures { result ≡ call_stored table.now s (Call.launch edition) }
+pub fn launch(on: &Checked<'_>, edition: u8) -> Reply
+    ensures { result ≡ call_stored on.now.table.now on.now.session.now (Call.launch edition) }
 {
-    let mut out = s;
-    let plan = launch_plan(table, s, edition, shared);
-    let second = out.tasks[1];
-    let answer = plans::answer_of(plan, second);
-    out.n = plan.n;
-    out.main = plan.main;
-    out.edition = plan.edition;
-    out.no_history = plan.no_history;
-    Reply {
-        session: plans::put(out, plan),
-        answer: answer,
-    }
+    starts::lengths(*on.session);
+    reply_of(on.session, launch_plan(on, edition))
 }
 
-// Back, on a session that is not empty. The table is there for the contract, as a look's is.
-pub fn back(table: &[u8], s: Session, shared: u8) -> Reply
-    requires { shared ≡ shared_refusal table.now s }
-    ensures { result ≡ call_stored table.now s Call.back }
+// Back, on a session that is not empty.
+pub fn back(on: &Checked<'_>) -> Reply
+    ensures { result ≡ call_stored on.now.table.now on.now.session.now Call.back }
 {
-    let mut out = s;
-    let plan = back_plan(s, shared);
-    let second = out.tasks[1];
-    let answer = plans::answer_of(plan, second);
-    out.n = plan.n;
-    out.main = plan.main;
-    out.edition = plan.edition;
-    out.no_history = plan.no_history;
-    Reply {
-        session: plans::put(out, plan),
-        answer: answer,
-    }
+    starts::lengths(*on.session);
+    reply_of(on.session, back_plan(on))
+}
+
+// ---- what was decided
+
+// Its plan.
+pub fn plan_of(decided: Result<Decided, Refusal>) -> Result<Plan, Refusal>
+    ensures { numbered result ≡ plan_in (numbered decided) }
+{
+    decided.map(|decided| decided.plan)
+}
+
+// The screens that it creates: none where it is refused.
+fn created_by(decided: Result<Decided, Refusal>) -> u8
+    ensures { result ≡ created_in (numbered decided) }
+{
+    decided.map_or(0, |decided| decided.created)
 }
 
 // ---- starts
 
-// Start of b with a flag word.
-pub fn start(table: &[u8], s: Session, b: u8, word: u32, shared: u8) -> Reply
-    requires { shared ≡ shared_refusal table.now s }
-    ensures { result ≡ call_stored table.now s (Call.start b word) }
+// Start of b with a flag word, or a finishing one: the caller closes itself. Inlined, since two calls make it, and its reply would
+// be copied to each.
+#[inline(always)]
+pub fn start<By: Seeker>(on: &Checked<'_>, b: u8, word: u32, finishing: bool) -> Reply
+    ensures { result ≡ call_stored on.now.table.now on.now.session.now (start_of finishing b word) }
 {
-    let mut out = s;
-    let sought = starts::seek(table, s, b, word, shared);
-    let i = sought.index;
-    let t = out.tasks[i];
-    let decided = starts::decide(s, t, sought, b, false);
-    let plan = decided.plan;
-    let second = out.tasks[1];
-    let answer = plans::answer_of(plan, second);
-    out.n = plan.n;
-    out.main = plan.main;
-    out.edition = plan.edition;
-    out.no_history = plan.no_history;
-    Reply {
-        session: plans::put(out, plan),
-        answer: answer,
-    }
-}
-
-// Finishing start of b with a flag word: the caller closes itself.
-pub fn finish_start(table: &[u8], s: Session, b: u8, word: u32, shared: u8) -> Reply
-    requires { shared ≡ shared_refusal table.now s }
-    ensures { result ≡ call_stored table.now s (Call.finishing_start b word) }
-{
-    let mut out = s;
-    let sought = starts::seek(table, s, b, word, shared);
-    let i = sought.index;
-    let t = out.tasks[i];
-    let decided = starts::decide(s, t, sought, b, true);
-    let plan = decided.plan;
-    let second = out.tasks[1];
-    let answer = plans::answer_of(plan, second);
-    out.n = plan.n;
-    out.main = plan.main;
-    out.edition = plan.edition;
-    out.no_history = plan.no_history;
-    Reply {
-        session: plans::put(out, plan),
-        answer: answer,
-    }
+    starts::lengths(*on.session);
+    let decided = starts::decide_start::<By>(on.table, on.session, b, word, finishing, on.refused);
+    reply_of(on.session, plan_of(decided))
 }
 
 // What a start of b with a flag word would answer; nothing is put.
-pub fn start_answer(table: &[u8], s: Session, b: u8, word: u32, shared: u8) -> Answer
-    requires { shared ≡ shared_refusal table.now s }
-    ensures { result ≡ (call_stored table.now s (Call.start b word)).answer }
+pub fn start_answer(on: &Checked<'_>, b: u8, word: u32) -> Answer
+    ensures { result ≡ (call_stored on.now.table.now on.now.session.now (Call.start b word)).answer }
 {
-    let decided = starts::decide_start(table, s, b, word, false, shared);
-    let second = s.tasks[1];
-    plans::answer_of(decided.plan, second)
+    starts::lengths(*on.session);
+    match starts::decide_start::<ByRules>(on.table, on.session, b, word, false, on.refused) {
+        Ok(decided) => plans::answer_of(decided.plan, on.session.tasks[1]),
+        Err(refusal) => refuse(*on.session, refusal).answer,
+    }
 }
 
 // ---- records
 
-// What a record seeks, by the refusal so far: only a start seeks a task.
-pub fn seek_for(table: &[u8], s: Session, r: Record, refusal: u8) -> Sought
-    requires { refusal ≡ 0 → Ready table.now s }
-    ensures { SoughtFor (is_starting r.asked) table.now s r.screen r.word refusal result }
+// What is decided of a call whose plan is this, and which creates so many screens: no rule of a start.
+fn without_rule(plan: Result<Plan, Refusal>, created: u8) -> Result<Decided, Refusal>
+    ensures { numbered result ≡ unruled created (numbered plan) }
 {
-    let asked = r.asked;
-    match asked {
-        Asked::Start | Asked::FinishingStart => starts::seek(table, s, r.screen, r.word, refusal),
-        Asked::Launch | Asked::Back | Asked::Look | Asked::Nothing => starts::none_sought(refusal),
-    }
+    plan.map(|plan| starts::without_rule(plan, created))
 }
 
-// What is decided of a launch with this plan: a screen is created where it is not refused.
-fn launched(plan: Plan) -> Decided
-    ensures { result ≡ launched_by plan }
+// What is decided of the call that a record asks for.
+pub fn decide(on: &Checked<'_>, r: Record) -> Result<Decided, Refusal>
+    ensures { numbered result ≡ decided_for r.asked on.now.table.now on.now.session.now (refusal_in on.now.refused) r.screen r.word }
 {
-    if plan.refusal != 0 {
-        return starts::without_rule(plan, 0);
-    }
-    starts::without_rule(plan, 1)
-}
-
-// What is decided of it; t is the task at the index that was sought.
-pub fn decide_for(table: &[u8], s: Session, t: Task, sought: Sought, r: Record) -> Decided
-    requires { PlannedFor (is_starting r.asked) table.now s r.screen t sought }
-    ensures { result ≡ decided_for r.asked table.now s t sought r.screen }
-{
-    let asked = r.asked;
-    match asked {
-        Asked::Launch => launched(launch_plan(table, s, r.screen, sought.refusal)),
-        Asked::Start | Asked::FinishingStart => {
-            let finishing = records::is_finishing(asked);
-            starts::decide(s, t, sought, r.screen, finishing)
+    match r.asked {
+        Some(Asked::Launch) => without_rule(launch_plan(on, r.screen), 1),
+        // One call for both kinds of a start: with one for each, the player costs a quarter more.
+        Some(Asked::Start | Asked::FinishingStart) => {
+            let finishing = matches!(r.asked, Some(Asked::FinishingStart));
+            starts::decide_start::<ByRules>(
+                on.table, on.session, r.screen, r.word, finishing, on.refused,
+            )
         }
-        Asked::Back => starts::without_rule(back_plan(s, sought.refusal), 0),
-        Asked::Look => starts::without_rule(plans::still(s, sought.refusal), 0),
-        Asked::Nothing => starts::without_rule(plans::still(s, 9), 0),
+        Some(Asked::Back) => without_rule(back_plan(on), 0),
+        Some(Asked::Look) => {
+            on.refused?;
+            Ok(starts::without_rule(plans::still(*on.session), 0))
+        }
+        None => Err(Refusal::UnknownRecord),
     }
 }
 
@@ -287,31 +243,15 @@ pub struct Made {
     pub created: u8,
 }
 
-// Makes the call that a record asks for; shared is the refusal of the checks that all calls share. It has a body of its own, so that
-// each call above has one caller: a second one costs a copy of the session.
-pub fn make(table: &[u8], s: Session, r: Record, shared: u8) -> Made
-    requires { shared ≡ shared_refusal table.now s }
-    ensures reply { result.reply ≡ reply_stored table.now s (request_for r) }
-    ensures created { result.created ≡ created_stored table.now s (request_for r) }
+// Makes the call that a record asks for.
+pub fn make(on: &Checked<'_>, r: Record) -> Made
+    ensures reply { result.reply ≡ reply_stored on.now.table.now on.now.session.now (request_for r) }
+    ensures created { result.created ≡ created_stored on.now.table.now on.now.session.now (request_for r) }
 {
-    let mut out = s;
-    let sought = seek_for(table, s, r, shared);
-    let i = sought.index;
-    let t = out.tasks[i];
-    let decided = decide_for(table, s, t, sought, r);
-    let plan = decided.plan;
-    let second = out.tasks[1];
-    let answer = plans::answer_of(plan, second);
-    out.n = plan.n;
-    out.main = plan.main;
-    out.edition = plan.edition;
-    out.no_history = plan.no_history;
-    let reply = Reply {
-        session: plans::put(out, plan),
-        answer: answer,
-    };
+    starts::lengths(*on.session);
+    let decided = decide(on, r);
     Made {
-        reply: reply,
-        created: decided.created,
+        reply: reply_of(on.session, plan_of(decided)),
+        created: created_by(decided),
     }
 }

@@ -10,7 +10,7 @@ use Rattle.model.specs.declared.Flags.{Flags}
 use Rattle.model.specs.declared.Found.{Found}
 use Rattle.model.specs.declared.Group.{Group}
 use Rattle.model.specs.declared.Rule.{Rule}
-use Rattle.std.specs.Prelude.{if◌then◌else◌}
+use Rattle.std.specs.Prelude.{if◌then◌else◌, Option}
 use Rattle.model.specs.Table.{mode_of, is_single_top, is_single_task, is_single_instance}
 use Rattle.model.specs.Session.{State, Stack, front_screen, top}
 use Rattle.model.specs.Search.{holds}
@@ -29,7 +29,7 @@ asking s n c r k = record { single = s; new_task = n; ctp = c; rtf = r; ctk = k 
 -- `false` stands for what the rules of the class do not ask
 module _ (u : Stack ℕ) (b : ℕ) where
   -- CTK, of all flags
-  task-asks : (k : Bool) (t : Found) → task_rule (asking false false false false (k && true)) u b t ≡ task_rule (asking false false false false k) u b t
+  task-asks : (k : Bool) (t : Option Found) → task_rule (asking false false false false (k && true)) u b t ≡ task_rule (asking false false false false k) u b t
   task-asks true t = refl
   task-asks false t = refl
 
@@ -55,7 +55,7 @@ module _ (u : Stack ℕ) (b : ℕ) where
       near e false false true true = refl
 
   -- CTP only without CTK, single only without both
-  apart-asks : (s c k : Bool) (m : ℕ) (t : Found)
+  apart-asks : (s c k : Bool) (m : ℕ) (t : Option Found)
       → apart_rule (asking (s && (true && not (c || k))) false (c && (true && not k)) false (k && true)) u m b t
       ≡ apart_rule (asking s false c false k) u m b t
   apart-asks s c true m t = refl
@@ -69,7 +69,7 @@ module _ (u : Stack ℕ) (b : ℕ) where
 pub record Decodes (tb : List ℕ) (v : State ℕ) (b : ℕ) (f : Flags) (e : ℕ) : Type 0 where
   pub group : group_in e ≡ group_of tb v b f
   pub sought : (g : Flags) → g.mtk ≡ (asks_in e).new_task → sought_by tb v b g (group_in e) ≡ sought_by tb v b f (group_in e)
-  pub rule : (u : Stack ℕ) (m : ℕ) (t : Found) → rule_by (group_in e) (asks_in e) u m b t ≡ rule_by (group_in e) (asks_of tb b f) u m b t
+  pub rule : (u : Stack ℕ) (m : ℕ) (t : Option Found) → rule_by (group_in e) (asks_in e) u m b t ≡ rule_by (group_in e) (asks_of tb b f) u m b t
 
 module _ (tb : List ℕ) (v : State ℕ) (b : ℕ) (f : Flags) where
   abbrev caller : Bool
@@ -106,7 +106,7 @@ module _ (tb : List ℕ) (v : State ℕ) (b : ℕ) (f : Flags) where
 
   decodes : (g : Group) → group_in entry ≡ g → group_of tb v b f ≡ g
       → ((h : Flags) → h.mtk ≡ (asks_in entry).new_task → sought_by tb v b h g ≡ sought_by tb v b f g)
-      → ((u : Stack ℕ) (m : ℕ) (t : Found) → rule_by g (asks_in entry) u m b t ≡ rule_by g (asks_of tb b f) u m b t)
+      → ((u : Stack ℕ) (m : ℕ) (t : Option Found) → rule_by g (asks_in entry) u m b t ≡ rule_by g (asks_of tb b f) u m b t)
       → Decodes tb v b f entry
   decodes g e own sought rule = record { group = e ∙ sym own; sought = rw e sought; rule = rw e rule }
 
@@ -162,11 +162,11 @@ module _ (tb : List ℕ) (v : State ℕ) (b : ℕ) (f : Flags) where
 module _ {tb : List ℕ} {v : State ℕ} {b : ℕ} {f : Flags} {e : ℕ} (d : Decodes tb v b f e) {g : Group} (group : g ≡ group_in e)
     {a : Asks} (asks : a ≡ asks_in e) where
   -- what is sought by the group, where a new task is asked for or not
-  pub found-by : {t : Found} → ((h : Flags) → h.mtk ≡ a.new_task → t ≡ sought_by tb v b h g) → t ≡ sought_by tb v b f g
+  pub found-by : {t : Option Found} → ((h : Flags) → h.mtk ≡ a.new_task → t ≡ sought_by tb v b h g) → t ≡ sought_by tb v b f g
   found-by {t} sought =
       let h : Flags = record { ntk = false; stp = false; mtk = a.new_task; ctp = false; rtf = false; ctk = false; noh = false } in
       sought h refl ∙ ap (sought_by tb v b h) group ∙ d.sought h (ap (λ (x : Asks). x.new_task) asks) ∙ ap (sought_by tb v b f) (sym group)
 
-  pub rule-by : (u : Stack ℕ) (m : ℕ) (t : Found) → rule_by g a u m b t ≡ rule_by g (asks_of tb b f) u m b t
+  pub rule-by : (u : Stack ℕ) (m : ℕ) (t : Option Found) → rule_by g a u m b t ≡ rule_by g (asks_of tb b f) u m b t
   rule-by u m t =
       (λ i. rule_by (group i) (asks i) u m b t) ∙ d.rule u m t ∙ ap (λ (x : Group). rule_by x (asks_of tb b f) u m b t) (sym group)

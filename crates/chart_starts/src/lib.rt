@@ -3,15 +3,12 @@
 #![tactic(auto)]
 
 ghost use Rattle.std.specs.Prelude.{◌≡◌};
-ghost use Rattle.session.specs.Stored.{Ready};
-ghost use Rattle.rules.specs.Startable.{Startable};
-ghost use Rattle.starts.specs.Steps.{Seeks, SoughtFrom};
 ghost use Rattle.chart_starts.specs.Decoding.{group_in, asks_in};
 
 use model::{Flags, Group};
 use rules::Asks;
 use session::Session;
-use starts::Sought;
+use starts::{Seeker, Sought};
 
 // ---- an entry
 
@@ -43,39 +40,24 @@ fn asks_in(entry: u8) -> Asks
 
 // ---- seek
 
-// What a start of b with these flags seeks, by way of the chart.
-fn seek_task(table: &[u8], s: Session, b: u8, f: Flags) -> Sought
-    requires { Startable table.now s b }
-    ensures { Seeks table.now s b f result }
-{
-    let front = s.tasks[0];
-    let caller = table::mode(table, front.top());
-    let index = flag_chart::index(table::mode(table, b), caller == 3, f);
-    let entry = flag_chart::entry(index);
-    let group = group_in(entry);
-    let asks = asks_in(entry);
-    let found = rules::sought_by(table, s, b, group, asks.new_task);
-    Sought {
-        refusal: 0,
-        index: rules::index_of(found),
-        found: found,
-        group: group,
-        asks: asks,
-        noh: f.noh,
-    }
-}
+// By way of the chart.
+pub struct ByChart;
 
-// What a start seeks; refusal is that of the checks before its own.
-pub fn seek(table: &[u8], s: Session, b: u8, word: u32, refusal: u8) -> Sought
-    requires { refusal ≡ 0 → Ready table.now s }
-    ensures { SoughtFrom table.now s b word refusal result }
-{
-    if refusal != 0 {
-        return starts::none_sought(refusal);
+impl Seeker for ByChart {
+    fn seek_task(table: &[u8], s: Session, b: u8, f: Flags) -> Sought {
+        let front = s.tasks[0];
+        let apart_caller = table::is_single_instance(table, front.top());
+        let index = flag_chart::index(table::mode(table, b), apart_caller, f);
+        let entry = flag_chart::entry(index);
+        let group = group_in(entry);
+        let asks = asks_in(entry);
+        let found = rules::sought_by(table, s, b, group, asks.new_task);
+        Sought {
+            index: rules::index_of(found),
+            found: found,
+            group: group,
+            asks: asks,
+            noh: f.noh,
+        }
     }
-    let own = starts::entry_refusal(table, s.n, b, word);
-    if own != 0 {
-        return starts::none_sought(own);
-    }
-    seek_task(table, s, b, flags::read(word))
 }

@@ -1,23 +1,21 @@
--- Closing a screen of a stored session, by the height of its task; the main place, by the tests that code makes; and that
--- Back finds a screen.
-use Prim.Native.Nat.{ℕ, suc, ◌-◌, ◌≤◌, ◌<◌, pred}
+-- Closing a screen of a stored session, by the height of its task; and that Back finds a screen.
+use Prim.Native.Nat.{ℕ, suc, ◌≤◌, ◌<◌}
 use mathlib.Core.Path.{◌≡◌, refl, sym, ◌∙◌, ap, ap₂}
 use mathlib.Core.Bool.{true, false}
 use mathlib.Core.List.{List, [], ◌∷◌}
 use native.Mathlib.Omega.{arith}
 use lib.ListN.{length, get_or, set}
-use borrow.Author.Tests.{eq-eqb, ne_eqb, lt-ltb, le-ltb}
 use Rattle.model.specs.Lists.{is_empty, omit}
 use Rattle.model.specs.Session.{Stack, stack, no_stack, on_screens, set_no_history, height, count, most_height}
-use Rattle.model.specs.Effects.{main_without, without_task, task_left, close}
+use Rattle.model.specs.Effects.{without_task, task_left, close}
 use Rattle.model.proofs.Logic.{All-at}
 use Rattle.model.proofs.ListLaws.{omit-length}
 use Rattle.model.proofs.Sound.{TaskSound}
 use Rattle.model.proofs.Close.{close-emptied, close-kept}
 use Rattle.session.specs.declared.Session.{Session}
 use Rattle.session.specs.declared.Task.{Task}
-use Rattle.session.specs.Stored.{view, view_task, hold, hold_task, no_task, with_tasks, popped, blank_above, storage_blank, Ready}
-use Rattle.session.proofs.Setters.{with_no_history}
+use Rattle.session.specs.Stored.{view, view_task, hold, hold_task, no_task, popped, blank_above, storage_blank, Ready}
+use Rattle.session.proofs.Setters.{with_tasks, with_no_history}
 use Rattle.session.proofs.Known.{Sized}
 use Rattle.session.proofs.StoredLaws.{held, hold-view_task, view-at, blank-few, sized-at, sound-blank, sound-view}
 use Rattle.session.proofs.SessionLaws.{hold-set}
@@ -25,22 +23,6 @@ use Rattle.session.proofs.TaskLaws.{hold-popped}
 use Rattle.effects.proofs.Changes.{blank-low, blank-height}
 use Rattle.effects.proofs.Fronts.{counted, stored-blank}
 use Rattle.closing.proofs.Closable.{Closable}
-
--- ---- the main place
-
-module _ (p m : ℕ) where
-  pub without-itself : m ≡ p → main_without p m ≡ 0
-  unfolding main_without
-  without-itself e = rw (eq-eqb m p e)
-
-  module _ (other : m ≡ p → ⊥) where
-    pub without-behind : p < m → main_without p m ≡ m - 1
-    unfolding main_without
-    without-behind l = let e : pred m ≡ m - 1 = omega arith in rw (ne_eqb m p other, lt-ltb p m l) e
-
-    pub without-before : m ≤ p → main_without p m ≡ m
-    unfolding main_without
-    without-before l = rw (ne_eqb m p other, le-ltb p m l)
 
 -- ---- closing a screen, also for a caller that closes in place
 

@@ -1,24 +1,21 @@
--- One gone from a padded row, as a loop leaves it; so of a stored task's screens, and of a stored session's tasks, with the
--- loop's invariant.
+-- One gone from a padded row, as a loop leaves it, and so of a stored task's screens.
 use Prim.Native.Nat.{ℕ, suc, ◌+◌, ◌-◌, ◌≤◌, ◌<◌}
 use mathlib.Core.Path.{◌≡◌, sym, ◌∙◌, ap, ap₂}
 use mathlib.Core.Bool.{true}
 use mathlib.Core.List.{List, ◌++◌, reverse, reverse-append}
 use native.Mathlib.Omega.{arith}
-use lib.ListN.{length, get_or, set, take, drop, replicate, length-drop, length-reverse}
+use lib.ListN.{length, take, drop, replicate, length-drop, length-reverse}
 use lib.Seq.{take_at, take-append-le, drop-append-le}
 use Rattle.model.specs.Lists.{omit}
-use Rattle.model.specs.Session.{stack, most_tasks, most_height}
+use Rattle.model.specs.Session.{stack, most_height}
 use Rattle.model.proofs.ListLaws.{omit-length, omit-split}
-use Rattle.session.specs.declared.Session.{Session}
 use Rattle.session.specs.declared.Task.{Task}
-use Rattle.session.specs.Stored.{view_task, hold_task, pad, no_task, blank_task, with_tasks, blank_above}
+use Rattle.session.specs.Stored.{view_task, hold_task, pad, blank_above}
 use Rattle.session.proofs.Known.{Screens32}
 use Rattle.session.proofs.Padding.{drop-pad}
 use Rattle.session.proofs.StoredLaws.{hold-view_task}
 use Rattle.session.proofs.TaskLaws.{reverse-drop, reverse-take}
 use Rattle.effects.specs.Rows.{closed_up}
-use Rattle.effects.proofs.Rows.{closing_up, close-begin, close-step, close-end}
 use Rattle.effects.proofs.Changes.{blank-low, blank-height}
 
 module _ {A : Type 0} where
@@ -61,28 +58,3 @@ screen-gone t l e k h =
     let m = t.height - 1 - k in
     hold-short t.root m k (view_task t).screens (omega arith) (omega arith)
     ∙ ap₂ (λ (j : ℕ) (u : Task). record { root = t.root; height = j - 1; screens = closed_up m k 0 u.screens }) n (hold-view_task t l e)
-
--- ---- a task gone from a session
-
--- ---- the loop that takes a task of a session away: its invariant at the beginning, after a turn and at the end
-
--- behind the first m tasks, j of those after the next one have come one place nearer
-abbrev pub closing_in : Session → ℕ → ℕ → Session
-closing_in s m j = with_tasks s (closing_up m j s.tasks)
-
-module _ (s : Session) (m : ℕ) where
-  pub closes-begin : s ≡ closing_in s m 0
-  closes-begin = ap (with_tasks s) (close-begin m s.tasks)
-
-  module _ (z : length s.tasks ≡ most_tasks) where
-    pub closes-step : (j p : ℕ) → p ≡ m + j → p + 1 < most_tasks → {o : Session} → o ≡ closing_in s m j
-        → with_tasks o (set o.tasks p (get_or o.tasks (p + 1) no_task)) ≡ closing_in s m (j + 1)
-    closes-step j p f h e =
-        ap₂ (λ (o : Session) (p : ℕ). with_tasks o (set o.tasks p (get_or o.tasks (p + 1) no_task))) e f
-        ∙ ap (with_tasks s) (close-step no_task m j s.tasks (omega arith))
-
-    pub closes-end : (k j p : ℕ) → j ≡ k → p ≡ m + k → p < most_tasks → {o : Session} → o ≡ closing_in s m j
-        → with_tasks o (set o.tasks p blank_task) ≡ with_tasks s (closed_up m k blank_task s.tasks)
-    closes-end k j p n f h e =
-        ap₂ (λ (o : Session) (p : ℕ). with_tasks o (set o.tasks p blank_task)) (e ∙ ap (closing_in s m) n) f
-        ∙ ap (with_tasks s) (close-end m k blank_task s.tasks (omega arith))

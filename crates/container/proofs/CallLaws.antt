@@ -13,9 +13,8 @@ use Rattle.model.specs.Refusals.{refusal}
 use Rattle.panels.specs.Stored.{view_panels}
 use Rattle.panels.specs.declared.Panels.{Panels}
 use Rattle.container.specs.Calls.{state, Call, back, carried, backed}
-use Rattle.container.specs.Stored.{view, hold, good_container, checks_of, refusal_at, called}
+use Rattle.container.specs.Stored.{Reply, view, hold, good_container, checks_of, refusal_at, called}
 use Rattle.container.specs.declared.Container.{Container}
-use Rattle.container.specs.declared.Reply.{Reply}
 use Rattle.container.proofs.Storing.{view-count}
 use Rattle.container.proofs.KeptLaws.{is-good}
 

@@ -1,13 +1,14 @@
 -- The check of a container: what it says, and its loop over the kept panels.
-use Prim.Native.Nat.{ℕ, zero, suc, ◌+◌, ◌≤◌, ◌<◌}
-use mathlib.Core.Path.{◌≡◌, refl, ◌∙◌}
-use mathlib.Core.Bool.{Bool, true, false, ◌||◌, false≢true}
+use Prim.Native.Nat.{ℕ, zero, suc, ◌≤◌, ◌<◌}
+use mathlib.Core.Path.{◌≡◌, refl, ap}
+use mathlib.Core.Bool.{Bool, true, false, ◌&&◌, ◌||◌, false≢true}
 use mathlib.Core.List.{List, [], ◌∷◌, map}
 use native.Mathlib.Omega.{arith}
 use lib.Dec.{ltb}
-use lib.ListN.{length, get_or, take, drop, drop_of_length-le}
-use lib.Seq.{drop-cons, get_or-take, length-take-le, take-take}
+use lib.ListN.{length, get_or, take}
+use lib.Seq.{get_or-take, length-take-le, take-take}
 use borrow.Author.Tests.{le-leb, lt-leb, ltb-true, ltb-false}
+use Rattle.std.specs.List.{list_all}
 use Rattle.model.specs.Lists.{all, All}
 use Rattle.model.proofs.Logic.{Decides, and-decides, all-decides, leb-decides, All-at}
 use Rattle.panels.specs.Operations.{most_panels}
@@ -25,6 +26,11 @@ Few q = q.count ≤ most_panels
 
 each_fits : (ks : List Panels) → Decides (all fits ks) (All Few ks)
 each_fits ks = all-decides (λ (q : Panels). leb-decides q.count most_panels) ks
+
+-- the library's word for all that fit
+pub list_all-fits : (ks : List Panels) → list_all fits ks ≡ all fits ks
+list_all-fits [] = refl
+list_all-fits (q ∷ ks) = ap (λ (b : Bool). fits q && b) (list_all-fits ks)
 
 -- what the check says
 pub record Good (c : Container) : Type 0 where
@@ -54,42 +60,20 @@ module _ (c : Container) where
           rw (le-leb c.steps most_steps (ltb-false 8 c.steps f), lt-leb c.now.count most_panels (ltb-true 8 c.now.count g))
       go false false f g h = absurd (false≢true h)
 
--- the kept panels from the i-th on fit: as far as the loop is
-module _ (c : Container) (i : ℕ) (d : Panels) (z : length c.kept ≡ 8) (b : (ltb 8 c.steps || ltb 8 c.now.count) ≡ false)
-    (v : all fits (take c.steps c.kept) ≡ all fits (drop i (take c.steps c.kept))) where
-  long : length (take c.steps c.kept) ≡ c.steps
-  long = let h = (good-first c b).0 in length-take-le c.steps c.kept (omega arith)
-
-  at_i : i < c.steps → drop i (take c.steps c.kept) ≡ get_or c.kept i d ∷ drop (i + 1) (take c.steps c.kept)
-  at_i l =
-      let n : suc i ≡ i + 1 = omega arith in
-      drop-cons (take c.steps c.kept) i d (omega (arith, long, l)) ∙ rw (get_or-take c.steps c.kept i d l, n)
-
-  last : good_container c ≡ all fits (drop i (take c.steps c.kept))
+  -- where both fit, the kept ones decide
+  pub good-kept : (ltb 8 c.steps || ltb 8 c.now.count) ≡ false → all fits (take c.steps c.kept) ≡ good_container c
   unfolding good_container
-  last = let h = good-first c b in rw (le-leb c.steps most_steps h.0, le-leb c.now.count most_panels h.1, v)
-
-  pub fits_next : i < c.steps → (get_or c.kept i d).count ≤ most_panels
-      → all fits (take c.steps c.kept) ≡ all fits (drop (i + 1) (take c.steps c.kept))
-  fits_next l h = v ∙ rw (at_i l, le-leb (get_or c.kept i d).count most_panels h)
-
-  pub fits-stop : i < c.steps → most_panels < (get_or c.kept i d).count → false ≡ good_container c
-  fits-stop l h = rw (last, at_i l, lt-leb (get_or c.kept i d).count most_panels h)
-
-  pub fits-end : c.steps ≤ i → true ≡ good_container c
-  fits-end l = rw (last, drop_of_length-le (take c.steps c.kept) {i = i} (omega (arith, long)))
+  good-kept e = let h = good-first e in rw (le-leb c.steps most_steps h.0, le-leb c.now.count most_panels h.1)
 
 -- ---- the first kept panels fit
 
-module _ (ks : List Panels) (n : ℕ) (z : length ks ≡ 8) (b : n ≤ 8) (i : ℕ) (d : Panels) (l : i < n) where
-  each_at : All Few (take n ks) → (get_or ks i d).count ≤ most_panels
-  each_at h = rw (get_or-take n ks i d l) at (All-at Few (take n ks) i d (omega (arith, l, length-take-le n ks (omega arith))) h)
-
-  pub fits-at : all fits (take n ks) ≡ true → (get_or ks i d).count ≤ most_panels
-  fits-at h = each_at ((each_fits (take n ks)).holds h)
+pub fits-at : (ks : List Panels) (i : ℕ) (d : Panels) → i < length ks → all fits ks ≡ true → (get_or ks i d).count ≤ most_panels
+fits-at ks i d l h = All-at Few ks i d l ((each_fits ks).holds h)
 
 pub kept_low : (c : Container) → length c.kept ≡ 8 → Good c → (i : ℕ) (d : Panels) → i < c.steps → (get_or c.kept i d).count ≤ most_panels
-kept_low c z g i d l = each_at c.kept c.steps z g.few i d l g.each
+kept_low c z g i d l =
+    let few = g.few in
+    rw (get_or-take c.steps c.kept i d l) at (All-at Few (take c.steps c.kept) i d (omega (arith, l, length-take-le c.steps c.kept (omega arith))) g.each)
 
 pub All-take : {A : Type 0} (P : A → Type 0) (i : ℕ) (l : List A) → All P l → All P (take i l)
 All-take P zero l h = tt

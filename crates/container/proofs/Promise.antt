@@ -18,10 +18,9 @@ use Rattle.panels.specs.Stored.{view_panels}
 use Rattle.panels.proofs.PanelLaws.{view-low}
 use Rattle.panels.proofs.OperationLaws.{carried-low}
 use Rattle.container.specs.Calls.{most_steps, State, state, Step, Call, step, back, last_of, without_last, carried, stepped, backed, counted_in}
-use Rattle.container.specs.Stored.{empty_container, view, hold, good_container, checks_of, refusal_at, called, step_of, by_container}
+use Rattle.container.specs.Stored.{Reply, empty_container, view, hold, good_container, checks_of, refusal_at, called, step_of, by_container}
 use Rattle.container.specs.Promised.{live_from, Tells, KeepsPromise, BackRestores}
 use Rattle.container.specs.declared.Container.{Container}
-use Rattle.container.specs.declared.Reply.{Reply}
 use Rattle.container.proofs.Storing.{Low, Fits, view-hold, empty-held, held_steps, held-good}
 use Rattle.container.proofs.KeptLaws.{is-good, each-low}
 use Rattle.container.proofs.CallLaws.{reply, accepted, taken}

@@ -7,11 +7,13 @@ use native.Mathlib.Omega.{arith}
 use lib.Dec.{eqb}
 use lib.ListN.{length, take}
 use borrow.Author.Tests.{eq-eqb, ne_eqb, eqb-false}
-use Rattle.std.specs.Prelude.{if◌then◌else◌}
-use Rattle.model.specs.Refusals.{refusal}
+use Rattle.std.specs.Prelude.{if◌then◌else◌, Result, Ok, Err}
+use Rattle.std.proofs.lemmas.Result.{IfOk-at_ok, IfErr-at_err}
+use Rattle.model.specs.declared.Refusal.{Refusal}
+use Rattle.model.specs.Refusals.{refusal, refusal_number}
 use Rattle.panels.specs.Operations.{most_panels, operations_in, carried_out, makes_nine, good_operations}
-use Rattle.panels.specs.Stored.{no_panels, view_panels, hold_panels, carried_or37}
-use Rattle.panels.specs.declared.Carried.{Carried}
+use Rattle.panels.specs.Stored.{view_panels, hold_panels, carried_or37}
+use Rattle.panels.specs.declared.Panels.{Panels}
 use Rattle.panels.proofs.PanelLaws.{view-held, view-low, held-count}
 use Rattle.panels.proofs.OperationLaws.{carried-low}
 use Rattle.container.specs.Calls.{most_steps, state, stepped}
@@ -45,59 +47,62 @@ pub step-36 : (r : ℕ) (l : List ℕ) (c : Container) → bad l c ≡ true → 
 unfolding refusal checks_of
 step-36 r l c t = refused (step_of r l) c 35 (rw t)
 
--- the operations gave f
-module _ (r : ℕ) (l : List ℕ) (c : Container) (p : bad l c ≡ false) (f : Carried) (e : f ≡ carried_or37 (operations_in l) (view_panels c.now)) where
-  abbrev shown : List ℕ
-  shown = carried_out (operations_in l) (view_panels c.now)
+-- what the operations give, by whether one makes nine panels
+abbrev gave : Bool → List ℕ → Result Panels Refusal
+gave nine xs = if nine then Err Refusal.PanelsFull else Ok (hold_panels xs)
 
-  abbrev nine : Bool
-  nine = makes_nine (operations_in l) (view_panels c.now)
-
-  gave : (b : Bool) → nine ≡ b → f ≡ (if b then record { panels = no_panels; refusal = 37 } else record { panels = hold_panels shown; refusal = 0 })
-  unfolding carried_or37
-  gave b m = e ∙ rw m
-
-  pub step-37 : (f.refusal ≡ 0 → ⊥) → reply c 37 ≡ called (step_of r l) c
-  unfolding refusal checks_of
-  step-37 h = go nine refl
+-- they were refused
+module _ (r : ℕ) (l : List ℕ) (c : Container) (p : bad l c ≡ false) where
+  pub step-37 : (e : Refusal) → Err e ≡ carried_or37 (operations_in l) (view_panels c.now) → reply c (refusal_number e) ≡ called (step_of r l) c
+  unfolding refusal checks_of carried_or37
+  step-37 e h = go (makes_nine (operations_in l) (view_panels c.now)) refl h
     where
-      go : (b : Bool) → nine ≡ b → reply c 37 ≡ called (step_of r l) c
-      go true m = refused (step_of r l) c 36 (rw (p, m))
-      go false m = absurd (h (ap (λ (x : Carried). x.refusal) (gave false m)))
+      go : (b : Bool) → makes_nine (operations_in l) (view_panels c.now) ≡ b
+          → Err e ≡ gave b (carried_out (operations_in l) (view_panels c.now)) → reply c (refusal_number e) ≡ called (step_of r l) c
+      go true m i =
+          let f : e ≡ Refusal.PanelsFull = IfErr-at_err (λ z. e ≡ z) i refl in
+          ap (λ (x : Refusal). reply c (refusal_number x)) f ∙ refused (step_of r l) c 36 (rw (p, m))
+      go false m i = absurd (IfOk-at_ok (λ _. ⊥) i tt)
 
-  none-nine : f.refusal ≡ 0 → nine ≡ false
-  none-nine z = go nine refl
-    where
-      go : (b : Bool) → nine ≡ b → b ≡ false
-      go true m = let n : ◌≡◌ {A = ℕ} 0 37 = sym z ∙ ap (λ (x : Carried). x.refusal) (gave true m) in absurd (omega (arith, n))
-      go false m = refl
-
--- the checks up to 37 are passed, and the operations gave f
-pub record Known (r : ℕ) (l : List ℕ) (c : Container) (f : Carried) : Type 0 where
+-- the checks up to 37 are passed, and the operations gave q
+pub record Known (r : ℕ) (l : List ℕ) (c : Container) (q : Panels) : Type 0 where
   pub passed : bad l c ≡ false
-  pub carried : f ≡ carried_or37 (operations_in l) (view_panels c.now)
-  pub accepted : f.refusal ≡ 0
+  pub carried : Ok q ≡ carried_or37 (operations_in l) (view_panels c.now)
 
-module _ {r : ℕ} {l : List ℕ} {c : Container} {f : Carried} (k : Known r l c f) where
+pub known : (r : ℕ) (l : List ℕ) (c : Container) {q : Panels} {a b : Bool} {made : Result Panels Refusal}
+    → a ≡ good_operations l → b ≡ good_container c → (not a || not b) ≡ false
+    → made ≡ carried_or37 (operations_in l) (view_panels c.now) → made ≡ Ok q → Known r l c q
+known r l c e f p h m = record { passed = rw (e, f) at p; carried = sym m ∙ h }
+
+module _ {r : ℕ} {l : List ℕ} {c : Container} {q : Panels} (k : Known r l c q) where
   pub good : Good c
   good = is-good c (both_true (good_operations l) (good_container c) k.passed).1
 
-  fine : nine r l c k.passed f k.carried ≡ false
-  fine = none-nine r l c k.passed f k.carried k.accepted
+  given : (makes_nine (operations_in l) (view_panels c.now) ≡ false) × (q ≡ hold_panels (carried_out (operations_in l) (view_panels c.now)))
+  unfolding carried_or37
+  given = go (makes_nine (operations_in l) (view_panels c.now)) k.carried
+    where
+      go : (b : Bool) → Ok q ≡ gave b (carried_out (operations_in l) (view_panels c.now))
+          → (b ≡ false) × (q ≡ hold_panels (carried_out (operations_in l) (view_panels c.now)))
+      go true i = absurd (IfErr-at_err (λ _. ⊥) i tt)
+      go false i = (refl, IfOk-at_ok (λ z. q ≡ z) i refl)
 
-  gives : f.panels ≡ hold_panels (carried_out (operations_in l) (view_panels c.now))
-  gives = ap (λ (x : Carried). x.panels) (gave r l c k.passed f k.carried false fine)
+  fine : makes_nine (operations_in l) (view_panels c.now) ≡ false
+  fine = given.0
 
-  pub shown-low : f.panels.count ≤ most_panels
+  gives : q ≡ hold_panels (carried_out (operations_in l) (view_panels c.now))
+  gives = given.1
+
+  pub shown-low : q.count ≤ most_panels
   shown-low =
-      omega (arith, held-count f.panels _ gives, carried-low (operations_in l) (view_panels c.now) fine (view-low c.now good.low))
+      omega (arith, held-count q _ gives, carried-low (operations_in l) (view_panels c.now) fine (view-low c.now good.low))
 
   pub step-38 : no_place r c.steps ≡ true → reply c 38 ≡ called (step_of r l) c
   unfolding refusal checks_of
   step-38 t = refused (step_of r l) c 37 (rw (k.passed, fine, place-test r c.steps true t))
 
   module _ (t : no_place r c.steps ≡ false) {out : Container}
-      (h : out ≡ hold (state (view_panels f.panels) (map view_panels (take c.steps c.kept)))) where
+      (h : out ≡ hold (state (view_panels q) (map view_panels (take c.steps c.kept)))) where
     passes : refusal_at (step_of r l) c ≡ 0
     unfolding refusal checks_of
     passes = rw (k.passed, fine, place-test r c.steps false t)

@@ -1,7 +1,8 @@
 -- Containers as they are stored: 8 kept panels, oldest first, 0 beyond. The checks and the calls on them.
-use Rattle.std.specs.Prelude.{ℕ, ◌+◌, Bool, true, false, not, ◌&&◌, ◌||◌, List, [], ◌∷◌, map, eqb, leb, length, take, set, replicate, if◌then◌else◌}
+use Rattle.std.specs.Prelude.{ℕ, ◌+◌, Bool, true, false, not, ◌&&◌, ◌||◌, List, [], ◌∷◌, map, eqb, leb, length, take, set, replicate, if◌then◌else◌, Result, Ok, Err}
 use Rattle.model.specs.Lists.{all}
-use Rattle.model.specs.Refusals.{Check, check, refusal}
+use Rattle.model.specs.declared.Refusal.{Refusal}
+use Rattle.model.specs.Refusals.{Check, check, refusal, refusal_number}
 use Rattle.model.specs.Histories.{Machine}
 use Rattle.session.specs.Stored.{pad}
 use Rattle.panels.specs.Operations.{most_panels, operations_in, makes_nine, good_operations}
@@ -9,7 +10,6 @@ use Rattle.panels.specs.Stored.{no_panels, view_panels, hold_panels}
 use Rattle.panels.specs.declared.Panels.{Panels}
 use Rattle.container.specs.Calls.{most_steps, State, state, Call, step, back, carried}
 use Rattle.container.specs.declared.Container.{Container}
-use Rattle.container.specs.declared.Reply.{Reply}
 
 -- "an empty container"
 abbrev pub empty_container : Container
@@ -56,11 +56,21 @@ refusal_at a c = refusal (checks_of a c)
 
 -- ---- the calls
 
+-- the container after a call, and the refusal
+pub record Reply : Type 0 where
+  pub container : Container
+  pub refusal : ℕ
+
 -- the container after a call and 0, or the refusal, "the container kept"
 unfoldable pub called : Call → Container → Reply
 called a c =
     if eqb (refusal_at a c) 0 then record { container = hold (carried a (view c)); refusal = 0 }
     else record { container = c; refusal = refusal_at a c }
+
+-- what a call makes of a container, or its refusal: then the container is as it was
+abbrev pub called_as : Container → Result Container Refusal → Reply
+called_as c (Ok next) = record { container = next; refusal = 0 }
+called_as c (Err r) = record { container = c; refusal = refusal_number r }
 
 -- recorded: 0 for no, any other byte for yes
 abbrev pub step_of : ℕ → List ℕ → Call

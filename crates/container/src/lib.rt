@@ -6,25 +6,20 @@ ghost use Rattle.model.specs.Lists.{all};
 ghost use Rattle.panels.specs.Operations.{most_panels};
 ghost use Rattle.panels.specs.Stored.{view_panels, hold_panels};
 ghost use Rattle.container.specs.Calls.{most_steps, state, Call};
-ghost use Rattle.container.specs.Stored.{empty_container, hold, with_kept, fits, good_container, called, step_of};
+ghost use Rattle.container.specs.Stored.{empty_container, hold, with_kept, fits, good_container, called, called_as, step_of};
 ghost use Rattle.container.specs.Promised.{KeepsPromise, BackRestores};
 
+use model::Refusal;
 use panels::Panels;
 
-// The panels now, how many steps are recorded, and the panels that each of them found, oldest first.
+// The panels now, how many steps are recorded, and the panels that each of them found, oldest first. An array and a count, as panels
+// are.
 #[repr(C)]
 #[derive(Clone, Copy)]
 pub struct Container {
     pub now: Panels,
     pub steps: u8,
     pub kept: [Panels; Container::STEPS],
-}
-
-// The container after a call and 0, or the container as it was and the refusal.
-#[derive(Clone, Copy)]
-pub struct Reply {
-    pub container: Container,
-    pub refusal: u8,
 }
 
 impl Container {
@@ -37,10 +32,7 @@ impl Container {
     pub fn empty() -> Container
         ensures { result ≡ empty_container }
     {
-        let none = Panels {
-            count: 0,
-            panels: [0; Panels::PANELS],
-        };
+        let none = Panels::none();
         Container {
             now: none,
             steps: 0,
@@ -52,19 +44,11 @@ impl Container {
     fn good(self) -> bool
         ensures { result ≡ good_container self }
     {
-        let n = self.steps as usize;
+        let n = usize::from(self.steps);
         if (Container::STEPS < n) | (Panels::MOST < self.now.count) {
             return false;
         }
-        let mut i: usize = 0;
-        while i < n {
-            let q = self.kept[i];
-            if Panels::MOST < q.count {
-                return false;
-            }
-            i += 1;
-        }
-        true
+        self.kept[..n].iter().all(|q| q.count <= Panels::MOST)
     }
 
     // One step more, which found these panels.
@@ -73,7 +57,7 @@ impl Container {
         requires found { found.count ≤ most_panels }
         ensures { result ≡ with_kept self (hold_panels (view_panels found)) }
     {
-        let h = self.steps as usize;
+        let h = usize::from(self.steps);
         let mut out = self;
         out.kept[h] = found.cleaned();
         out.steps = self.steps + 1;
@@ -89,78 +73,48 @@ impl Container {
     {
         let mut out = Container::empty();
         out.now = shown.cleaned();
-        let n = steps as usize;
-        let mut i: usize = 0;
-        while i < n {
-            let q = self.kept[i];
-            out = out.keep(q);
-            i += 1;
+        let n = usize::from(steps);
+        for q in &self.kept[..n] {
+            out = out.keep(*q);
         }
         out
     }
 
-    // Undoes the last recorded step.
-    pub fn back(self) -> Reply
-        ensures gives { result ≡ called Call.back self }
+    // Undoes the last recorded step: 36 for a container that is not good, 38 where no step is recorded.
+    pub fn back(self) -> Result<Container, Refusal>
+        ensures gives { called_as self result ≡ called Call.back self }
         ensures undoes { BackRestores }
         ensures promise { KeepsPromise }
     {
         if !self.good() {
-            return Reply {
-                container: self,
-                refusal: 36,
-            };
+            return Err(Refusal::StepUnsound);
         }
         let steps = self.steps;
         if steps == 0 {
-            return Reply {
-                container: self,
-                refusal: 38,
-            };
+            return Err(Refusal::StepsOrder);
         }
-        let i = (steps - 1) as usize;
-        let found = self.kept[i];
-        let out = self.settled(found, steps - 1);
-        Reply {
-            container: out,
-            refusal: 0,
-        }
+        let found = self.kept[usize::from(steps - 1)];
+        Ok(self.settled(found, steps - 1))
     }
 
-    // Carries out a step, recorded or (0) not: its operations are kind and panel in turn.
-    pub fn step(self, recorded: u8, operations: &[u8]) -> Reply
-        ensures gives { result ≡ called (step_of recorded operations.now) self }
+    // Carries out a step, recorded or (0) not: its operations are kind and panel in turn. 36 for operations or a container that are
+    // not good, 37 where one makes a ninth panel, 38 for a step that has no place. `recorded` is the C interface's byte.
+    pub fn step(self, recorded: u8, operations: &[u8]) -> Result<Container, Refusal>
+        ensures gives { called_as self result ≡ called (step_of recorded operations.now) self }
         ensures promise { KeepsPromise }
     {
         if !panels::good_operations(operations) | !self.good() {
-            return Reply {
-                container: self,
-                refusal: 36,
-            };
+            return Err(Refusal::StepUnsound);
         }
-        let found = self.now;
-        let carried = found.carry(operations);
-        if carried.refusal != 0 {
-            return Reply {
-                container: self,
-                refusal: 37,
-            };
-        }
+        let shown = self.now.carry(operations)?;
         let steps = self.steps;
         if ((recorded == 0) & (steps != 0)) | ((recorded != 0) & (steps == Container::MOST)) {
-            return Reply {
-                container: self,
-                refusal: 38,
-            };
+            return Err(Refusal::StepsOrder);
         }
-        let shown = carried.panels;
-        let mut out = self.settled(shown, steps);
-        if recorded != 0 {
-            out = out.keep(found);
+        let out = self.settled(shown, steps);
+        if recorded == 0 {
+            return Ok(out);
         }
-        Reply {
-            container: out,
-            refusal: 0,
-        }
+        Ok(out.keep(self.now))
     }
 }

@@ -18,9 +18,8 @@ use Rattle.model.proofs.ListLaws.{All-append, All-to-map}
 use Rattle.model.proofs.MachineLaws.{run-each}
 use Rattle.panels.specs.Operations.{good_count, good_operations}
 use Rattle.container.specs.Calls.{Step, Call, step, back}
-use Rattle.container.specs.Stored.{empty_container, checks_of, called, by_container}
+use Rattle.container.specs.Stored.{Reply, empty_container, checks_of, called, by_container}
 use Rattle.container.specs.declared.Container.{Container}
-use Rattle.container.specs.declared.Reply.{Reply}
 use Rattle.container.proofs.CallLaws.{refused}
 use Rattle.container_lists.specs.CallBytes.{call_of, first_calls, calls_in, Passable, EveryList}
 use Rattle.container_lists.proofs.Reading.{calls-whole}

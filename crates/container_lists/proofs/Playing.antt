@@ -2,18 +2,21 @@
 use Prim.Native.Nat.{ℕ, ◌+◌, ◌≤◌, ◌<◌}
 use mathlib.Core.Path.{◌≡◌, sym, ◌∙◌, ap}
 use mathlib.Core.List.{List}
-use lib.ListN.{length, drop}
+use lib.ListN.{length, get_or, drop}
 use borrow.Author.Tests.{eq-eqb, ne_eqb}
+use Rattle.std.specs.Prelude.{Result, Ok, Err}
+use Rattle.std.specs.List.{IsSplitAt}
+use Rattle.std.specs.Result.{result_unwrap_or}
+use Rattle.model.specs.declared.Refusal.{Refusal}
 use Rattle.model.specs.Histories.{after}
 use Rattle.model.proofs.HistoryLaws.{after-append}
 use Rattle.container.specs.Calls.{back}
-use Rattle.container.specs.Stored.{empty_container, called, step_of, by_container}
+use Rattle.container.specs.Stored.{Reply, empty_container, called, called_as, step_of, by_container}
 use Rattle.container.specs.Promised.{Promised}
 use Rattle.container.specs.declared.Container.{Container}
-use Rattle.container.specs.declared.Reply.{Reply}
 use Rattle.container.proofs.Promise.{keeps-promise}
-use Rattle.container_lists.specs.CallBytes.{call_of, calls_in}
-use Rattle.container_lists.proofs.Reading.{bytes_at, call_at, whole-at, cut_at}
+use Rattle.container_lists.specs.CallBytes.{call_of, first_bytes, first_call, calls_in}
+use Rattle.container_lists.proofs.Reading.{behind, cut-calls, calls-whole, first-whole, first-operations, others-left}
 
 -- ---- one record, by its kind
 
@@ -34,21 +37,30 @@ pub no_call : (c : Container) (k : ℕ) (l : List ℕ) → (k ≡ 1 → ⊥) →
 unfolding after call_of
 no_call c k l n m o = rw (ne_eqb k 1 n, ne_eqb k 2 m, ne_eqb k 3 o)
 
--- ---- the list up to p leaves c
+-- a refused call leaves the container
+pub left_by : (c : Container) (r : Result Container Refusal) {d : Container} → d ≡ result_unwrap_or r c → d ≡ (called_as c r).container
+left_by c (Ok next) e = e
+left_by c (Err n) e = e
 
-abbrev pub Reached : List ℕ → Container → ℕ → Type 0
-Reached l c p = after by_container empty_container (calls_in l) ≡ after by_container c (calls_in (drop p l))
+-- ---- c, and then the bytes that are left, leave what the whole list does
 
-module _ (l : List ℕ) (c : Container) (p : ℕ) (h : Reached l c p) where
-  pub reached-more : p + 2 + bytes_at l p ≤ length l → (d : Container) → d ≡ after by_container c (call_at l p) → Reached l d (p + 2 + bytes_at l p)
-  reached-more b d e =
-      let rest = calls_in (drop (p + 2 + bytes_at l p) l) in
+abbrev pub Reached : List ℕ → Container → List ℕ → Type 0
+Reached l c left = after by_container empty_container (calls_in l) ≡ after by_container c (calls_in left)
+
+module _ (l : List ℕ) (c : Container) (left : List ℕ) (h : Reached l c left) where
+  pub reached-more : {operations others : List ℕ} {n : ℕ} → 2 ≤ length left → n ≡ first_bytes left → IsSplitAt (behind left) n operations others
+      → (d : Container) → d ≡ after by_container c (call_of (get_or left 0 0) operations) → Reached l d others
+  reached-more {operations} {others} {n} long e s d k =
+      let g : d ≡ after by_container c (first_call left) =
+      k ∙ ap (λ (o : List ℕ). after by_container c (call_of (get_or left 0 0) o)) (first-operations left long e s) in
+      let rest = calls_in (drop (2 + first_bytes left) left) in
       h
-      ∙ ap (after by_container c) (whole-at l p b)
-      ∙ after-append by_container (call_at l p) rest c
-      ∙ ap (λ (x : Container). after by_container x rest) (sym e)
+      ∙ ap (after by_container c) (calls-whole left (first-whole left long e s))
+      ∙ after-append by_container (first_call left) rest c
+      ∙ ap (λ (x : Container). after by_container x rest) (sym g)
+      ∙ ap (λ (r : List ℕ). after by_container d (calls_in r)) (sym (others-left left long e s))
 
-  -- the record at p is cut
-  pub reached-end : length l < p + 2 + bytes_at l p → Promised (calls_in l) c
+  -- the record that is left is cut
+  pub reached-end : length left < 2 + first_bytes left → Promised (calls_in l) c
   unfolding after
-  reached-end b = rw (sym (h ∙ ap (after by_container c) (cut_at l p b))) (keeps-promise (calls_in l))
+  reached-end b = rw (sym (h ∙ ap (after by_container c) (cut-calls (length left) left b))) (keeps-promise (calls_in l))

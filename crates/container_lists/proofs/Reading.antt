@@ -1,17 +1,17 @@
 -- Reading a list of calls: a record at a time, by the bytes that stand at a place.
-use Prim.Native.Nat.{ℕ, zero, suc, ◌+◌, ◌*◌, ◌≤◌, ◌<◌}
+use Prim.Native.Nat.{ℕ, zero, suc, ◌+◌, ◌-◌, ◌≤◌, ◌<◌}
 use mathlib.Core.Path.{◌≡◌, refl, sym, ◌∙◌, ap}
 use mathlib.Core.List.{List, [], ◌++◌}
-use native.Mathlib.Nat.{add-zero}
 use native.Mathlib.Omega.{arith}
-use lib.ListN.{length, get_or, take, drop, length-drop}
-use lib.Seq.{drop-drop, get_or-drop}
+use lib.ListN.{length, take, drop, length-drop}
+use lib.Seq.{drop-drop, take_all}
 use borrow.Author.Tests.{le-leb, lt-leb}
 use Rattle.std.specs.Prelude.{if◌then◌else◌}
+use Rattle.std.specs.List.{IsSplitAt}
 use Rattle.container.specs.Calls.{Call}
-use Rattle.container_lists.specs.CallBytes.{call_of, first_bytes, first_call, first_whole, first_calls, calls_in}
+use Rattle.container_lists.specs.CallBytes.{first_bytes, first_call, first_whole, first_calls, calls_in}
 
-cut-calls : (n : ℕ) (l : List ℕ) → length l < 2 + first_bytes l → first_calls n l ≡ []
+pub cut-calls : (n : ℕ) (l : List ℕ) → length l < 2 + first_bytes l → first_calls n l ≡ []
 unfolding first_calls
 cut-calls zero l h = refl
 cut-calls (suc n) l h = rw (lt-leb (2 + first_bytes l) (length l) h)
@@ -35,27 +35,32 @@ calls-whole l h =
     (ap (λ (cs : List Call). first_call l ++ cs)
     (all-calls (length l) (length rest) rest (omega (arith, length-drop (2 + first_bytes l) l)) (omega arith)))
 
--- ---- at a place
+-- ---- what stands behind the first two bytes
 
-module _ (l : List ℕ) (p : ℕ) where
-  abbrev pub bytes_at : ℕ
-  bytes_at = 2 * get_or l (p + 1) 0
+abbrev pub behind : List ℕ → List ℕ
+behind l = take (length l - 2) (drop 2 l)
 
-  abbrev pub call_at : List Call
-  call_at = call_of (get_or l p 0) (take bytes_at (drop (p + 2) l))
+behind-all : (l : List ℕ) → behind l ≡ drop 2 l
+behind-all l = take_all (length l - 2) (drop 2 l) (omega (arith, length-drop 2 l))
 
-  bytes-at : first_bytes (drop p l) ≡ bytes_at
-  bytes-at = rw (get_or-drop p l 1 0)
+-- cut behind the operations of the first record
+module _ (l : List ℕ) {operations others : List ℕ} {n : ℕ} (long : 2 ≤ length l) (e : n ≡ first_bytes l) (s : IsSplitAt (behind l) n operations others) where
+  behind-length : length (behind l) ≡ length l - 2
+  behind-length = rw (behind-all l) (length-drop 2 l)
 
-  call-at : first_call (drop p l) ≡ call_at
-  call-at = rw (get_or-drop p l 0 0, get_or-drop p l 1 0, add-zero p, drop-drop 2 p l)
+  pub first-whole : 2 + first_bytes l ≤ length l
+  first-whole = omega (arith, s.0, behind-length, e, long)
 
-  -- the record at p is whole
-  pub whole-at : p + 2 + bytes_at ≤ length l → calls_in (drop p l) ≡ call_at ++ calls_in (drop (p + 2 + bytes_at) l)
-  whole-at h =
-      let n : p + (2 + bytes_at) ≡ p + 2 + bytes_at = omega arith in
-      calls-whole (drop p l) (omega (arith, bytes-at, length-drop p l)) ∙ rw (call-at, bytes-at, drop-drop (2 + bytes_at) p l, n)
+  pub others-shorter : length others < length l
+  others-shorter = omega (arith, s.4, behind-length, long)
 
-  -- or it is cut
-  pub cut_at : length l < p + 2 + bytes_at → calls_in (drop p l) ≡ []
-  cut_at h = cut-calls (length (drop p l)) (drop p l) (omega (arith, bytes-at, length-drop p l, h))
+  pub first-operations : operations ≡ take (first_bytes l) (drop 2 l)
+  first-operations = s.1 ∙ rw (e, behind-all l)
+
+  pub others-left : others ≡ drop (2 + first_bytes l) l
+  others-left = s.2 ∙ rw (e, behind-all l) (drop-drop (first_bytes l) 2 l)
+
+pub first-cut : (l : List ℕ) {n : ℕ} → 2 ≤ length l → n ≡ first_bytes l → length (behind l) < n → length l < 2 + first_bytes l
+first-cut l {n} long e h =
+    let b : length (behind l) ≡ length l - 2 = rw (behind-all l) (length-drop 2 l) in
+    omega (arith, b, e, h, long)

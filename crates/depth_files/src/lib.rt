@@ -10,14 +10,13 @@ ghost use Rattle.play.specs.Playable.{Playable};
 ghost use Rattle.reading.specs.Blocks.{most_records};
 ghost use Rattle.depth_files.specs.Turns.{Turns};
 
-use reading::BLOCK;
+use reading::{BLOCK, BLOCKS};
 use session::Session;
 use std::io::Read;
-use table::Beginning;
 use tally::Tally;
 
 // What is left after a block: how many bytes were read, the session, the tally, how many records the block has, whether
-// reading failed, and whether the input may go on.
+// reading failed, and whether the input may go on. No `Result`: `Turns` tells of the session and the tally either way.
 #[derive(Clone, Copy)]
 struct Turned {
     count: usize,
@@ -28,7 +27,7 @@ struct Turned {
     more: bool,
 }
 
-// Reads one block of records into a lent buffer and tallies it.
+// Reads one block of records into a lent buffer and tallies it. The clause on the session is handed on to `depths::tally_records`.
 fn turn<R: Read>(
     rt: &impl Eprint,
     from: &mut R,
@@ -45,13 +44,11 @@ fn turn<R: Read>(
     let got = read.count;
     let done = depths::tally_records(table, s, t, &input[..got]);
     let records = depths::count_records(&input[..got]);
-    let after = done.session;
-    let tally = done.tally;
     Turned {
         count: got,
-        session: after,
-        tally: tally,
-        records: records,
+        session: done.session,
+        tally: done.tally,
+        records,
         failed: read.failed,
         more: got == BLOCK,
     }
@@ -62,8 +59,9 @@ fn warn(rt: &impl Eprint, left: usize) {
     if left == 0 {
         return;
     }
-    let _ = rt.eprint("warning: calls behind the first 65535, which the report leaves out: ");
-    let _ = rt.eprintln(left);
+    let _ = eprintln!(rt;
+        "warning: calls behind the first 65535, which the report leaves out: {left}"
+    );
 }
 
 // Prints the report of a tally of so many calls.
@@ -75,14 +73,14 @@ fn finish(rt: &(impl Print + Eprint), t: Tally, calls: usize) {
     }
 }
 
-// Tallies block after block from a fresh session. No input reaches the number of blocks that is counted down from.
+// Tallies block after block from a fresh session. No input has as many blocks as it goes on for. The loop of `player_files` is no
+// twin: the two share `read_block`, and one for both would take what is kept, the step and both ends from the caller.
 fn run<R: Read>(rt: &(impl Print + Eprint), from: &mut R, table: &[u8]) {
     let mut s = Session::fresh();
     let mut t = Tally::none();
     let mut calls: usize = 0;
     let mut input = [0u8; BLOCK];
-    let mut left: u64 = 1000000000000000;
-    while left > 0 {
+    for _block in 0..BLOCKS {
         let r = turn(rt, from, table, s, t, &mut input);
         if r.failed {
             return;
@@ -94,7 +92,6 @@ fn run<R: Read>(rt: &(impl Print + Eprint), from: &mut R, table: &[u8]) {
             finish(rt, t, calls);
             return;
         }
-        left -= 1;
     }
 }
 
@@ -106,8 +103,7 @@ pub fn report_on<R: Read>(rt: &(impl Print + Eprint), from: &mut R) {
     if read.failed {
         return;
     }
-    let got = read.count;
-    let Beginning::Table(long) = table::beginning_of(&buffer[..got]) else {
+    let Ok(long) = table::beginning_of(&buffer[..read.count]) else {
         finish(rt, Tally::none(), 0);
         reading::warn_no_table(rt);
         return;

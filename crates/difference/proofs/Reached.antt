@@ -19,8 +19,10 @@ use Rattle.session.specs.Stored.{view, hold, Ready}
 use Rattle.session.proofs.Known.{Sized}
 use Rattle.session.proofs.StoredLaws.{held, view-hold, hold-sound, hold-sized, sound-fits, sound-blank, sound-view}
 use Rattle.calls.specs.declared.Reply.{Reply}
-use Rattle.calls.specs.StoredCalls.{shared_refusal, call_stored}
-use Rattle.calls.proofs.Settling.{shared-passed, filled-view, back-own, own-accepted}
+use Rattle.checks.specs.Shared.{shared_refusal}
+use Rattle.calls.specs.StoredCalls.{call_stored}
+use Rattle.checks.proofs.SharedLaws.{shared-passed}
+use Rattle.calls.proofs.Settling.{filled-view, back-own, own-accepted}
 use Rattle.difference.specs.Apart.{look_then_backs}
 
 -- ---- one session

@@ -1,7 +1,6 @@
 -- What b is pushed onto; and the task in front after an effect, told by the change of its screens and by its root.
 use Prim.Native.Nat.{ℕ, ◌<◌}
 use mathlib.Core.Path.{◌≡◌, refl, sym}
-use mathlib.Core.Bool.{true}
 use mathlib.Core.List.{[], ◌∷◌}
 use native.Mathlib.Omega.{arith}
 use Rattle.model.specs.declared.Change.{Change}
@@ -9,11 +8,11 @@ use Rattle.model.specs.declared.Effect.{Effect}
 use Rattle.model.specs.Session.{most_height}
 use Rattle.model.specs.Effects.{changed}
 use Rattle.session.specs.declared.Task.{Task}
-use Rattle.session.specs.Stored.{view_task, hold_task, blank_above, pushed}
+use Rattle.session.specs.Stored.{hold_task, pushed}
 use Rattle.session.proofs.Setters.{with_root}
 use Rattle.session.proofs.Known.{Screens32}
 use Rattle.session.proofs.TaskLaws.{hold-pushed}
-use Rattle.effects.specs.Carriable.{HasRoom, Alterable, Changeable}
+use Rattle.effects.specs.Carriable.{Alterable}
 use Rattle.effects.specs.Fronted.{base_of, changed_task, change_of, root_after, front_after}
 use Rattle.effects.proofs.Tags.{OneOf, of-change}
 use Rattle.effects.proofs.Changes.{blank-height, push-is}
@@ -37,18 +36,6 @@ module _ (t : Task) where
         (λ h. sym (hold-pushed t.root b [] (omega arith)), (λ h. sym (push-is t l h.0 b h.1), tt)) k
 
   -- ---- effects
-
-  alterable-by : (c : Change) → (blank_above t ≡ true) × HasRoom c (view_task t) → Alterable c t
-  alterable-by Change.Keep h = h.0
-  alterable-by Change.Renew h = tt
-  alterable-by Change.Clear h = h.0
-  alterable-by Change.Lift h = h.0
-  alterable-by Change.Push h = (h.0, h.1 refl)
-
-  pub alterable : (d : Effect) → Changeable d t → Alterable (change_of d) t
-  alterable Effect.New h = tt
-  alterable (Effect.InFront c) h = alterable-by c h
-  alterable (Effect.MoveAnd c) h = alterable-by c h
 
   pub front-is : (b : ℕ) (d : Effect) → with_root (changed_task b (change_of d) t) (root_after t.root b d) ≡ front_after b d t
   unfolding hold_task changed

@@ -16,8 +16,8 @@ use Rattle.model.proofs.Logic.{and_left, and_right, All-at, all-decides, self-de
 use Rattle.model.proofs.ListLaws.{to_front-zero, to_front-length, to_front-split}
 use Rattle.session.specs.declared.Session.{Session}
 use Rattle.session.specs.declared.Task.{Task}
-use Rattle.session.specs.Stored.{view, view_task, hold, hold_task, no_task, blank_task, with_tasks, blank_above, is_blank, storage_blank}
-use Rattle.session.proofs.Setters.{with_count, with_main}
+use Rattle.session.specs.Stored.{view, view_task, hold, hold_task, no_task, blank_task, blank_above, is_blank, storage_blank}
+use Rattle.session.proofs.Setters.{with_tasks, with_count, with_main}
 use Rattle.session.proofs.Known.{Sized}
 use Rattle.session.proofs.StoredLaws.{held, view-at, view-count, blank-few}
 use Rattle.session.proofs.SessionLaws.{hold_row, hold-set, hold-to_front}

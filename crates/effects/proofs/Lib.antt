@@ -1,5 +1,4 @@
 pub mod Rows
-pub mod Places
 pub mod Carriable
 pub mod Fronts
 pub mod Counts
@@ -7,4 +6,3 @@ pub mod Changes
 pub mod Tags
 pub mod Bases
 pub mod Carried
-pub mod Shifts

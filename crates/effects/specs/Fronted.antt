@@ -1,5 +1,5 @@
 -- An effect told by the task that stands in front after it, by how many tasks it sends one place back, and by the numbers.
-use Rattle.std.specs.Prelude.{ℕ, suc, pred, [], ◌∷◌, eqb, drop}
+use Rattle.std.specs.Prelude.{ℕ, suc, pred, [], ◌∷◌, eqb, drop, unwrap_or, Option, None}
 use Rattle.model.specs.declared.Change.{Change}
 use Rattle.model.specs.declared.Effect.{Effect}
 use Rattle.model.specs.Lists.{further, find}
@@ -7,30 +7,32 @@ use Rattle.model.specs.Session.{stack}
 use Rattle.model.specs.Effects.{main_moved, changed}
 use Rattle.session.specs.declared.Task.{Task}
 use Rattle.session.specs.Stored.{view_task, hold_task}
+use Rattle.search.specs.Above.{above_of}
 
 -- a task after a change of its screens
 abbrev pub changed_task : ℕ → Change → Task → Task
 changed_task b c t = hold_task (stack t.root (changed (eqb b) b c (view_task t).screens))
 
--- the place of the topmost b in a task that is to be cleared to it or in which it is to be lifted; 0 for any other change
-abbrev pub place_in : ℕ → Change → Task → ℕ
-place_in b Change.Keep t = 0
-place_in b Change.Renew t = 0
-place_in b Change.Clear t = find (eqb b) (view_task t).screens
-place_in b Change.Lift t = find (eqb b) (view_task t).screens
-place_in b Change.Push t = 0
+-- how many screens stand above the topmost b in a task that is to be cleared to it or in which it is to be lifted; none for any
+-- other change
+abbrev pub above_in : ℕ → Change → Task → Option ℕ
+above_in b Change.Keep t = None
+above_in b Change.Renew t = None
+above_in b Change.Clear t = above_of (find (eqb b) (view_task t).screens)
+above_in b Change.Lift t = above_of (find (eqb b) (view_task t).screens)
+above_in b Change.Push t = None
 
--- a task cleared to the screen at a place
-abbrev pub cleared_task : ℕ → Task → Task
-cleared_task place t = hold_task (stack t.root (drop (pred place) (view_task t).screens))
+-- a task cleared to the screen below so many
+abbrev pub cleared_task : Option ℕ → Task → Task
+cleared_task above t = hold_task (stack t.root (drop (unwrap_or above 0) (view_task t).screens))
 
--- how many screens a change closes in a task of height h, where the topmost b is at the place
-abbrev pub closed_in_task : Change → ℕ → ℕ → ℕ
-closed_in_task Change.Keep h place = 0
-closed_in_task Change.Renew h place = h
-closed_in_task Change.Clear h place = pred place
-closed_in_task Change.Lift h place = 0
-closed_in_task Change.Push h place = 0
+-- how many screens a change closes in a task of height h, where so many stand above the topmost b
+abbrev pub closed_in_task : Change → ℕ → Option ℕ → ℕ
+closed_in_task Change.Keep h above = 0
+closed_in_task Change.Renew h above = h
+closed_in_task Change.Clear h above = unwrap_or above 0
+closed_in_task Change.Lift h above = 0
+closed_in_task Change.Push h above = 0
 
 -- the task that a renewal or a push puts b onto
 abbrev pub base_of : Change → Task → Task
@@ -52,9 +54,9 @@ change_of Effect.New = Change.Renew
 change_of (Effect.InFront c) = c
 change_of (Effect.MoveAnd c) = c
 
--- the place of the topmost b in the task that the effect changes
-abbrev pub place_for : ℕ → Effect → Task → ℕ
-place_for b d t = place_in b (change_of d) t
+-- how many screens stand above the topmost b in the task that the effect changes
+abbrev pub above_for : ℕ → Effect → Task → Option ℕ
+above_for b d t = above_in b (change_of d) t
 
 -- the root of the task in front after it
 abbrev pub root_after : ℕ → ℕ → Effect → ℕ
@@ -69,10 +71,10 @@ front_after b (Effect.InFront c) t = changed_task b c t
 front_after b (Effect.MoveAnd c) t = changed_task b c t
 
 -- how many screens it closes in the task that it changes; a new task has none to close
-abbrev pub closed_for : Effect → ℕ → ℕ → ℕ
-closed_for Effect.New h place = 0
-closed_for (Effect.InFront c) h place = closed_in_task c h place
-closed_for (Effect.MoveAnd c) h place = closed_in_task c h place
+abbrev pub closed_for : Effect → ℕ → Option ℕ → ℕ
+closed_for Effect.New h above = 0
+closed_for (Effect.InFront c) h above = closed_in_task c h above
+closed_for (Effect.MoveAnd c) h above = closed_in_task c h above
 
 abbrev pub count_after : Effect → ℕ → ℕ
 count_after Effect.New n = suc n

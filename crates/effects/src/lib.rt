@@ -1,7 +1,7 @@
 // What a rule does to the task in front and to the numbers. Nothing is checked again: what is needed is required.
 #![tactic(auto)]
 
-ghost use Rattle.std.specs.Prelude.{◌+◌, ◌≤◌, ◌<◌, ◌≡◌, true, []};
+ghost use Rattle.std.specs.Prelude.{◌+◌, ◌≤◌, ◌<◌, ◌≡◌, true, [], IfSome};
 ghost use Rattle.model.specs.Lists.{further};
 ghost use Rattle.model.specs.Session.{stack, most_tasks, most_height};
 ghost use Rattle.model.specs.declared.Change.{Change};
@@ -10,7 +10,7 @@ ghost use Rattle.model.specs.Effects.{main_moved};
 ghost use Rattle.model.specs.Counts.{created_in, created_by};
 ghost use Rattle.session.specs.Stored.{hold_task, with_screens, blank_above};
 ghost use Rattle.effects.specs.Carriable.{Placed, Alterable, Changeable};
-ghost use Rattle.effects.specs.Fronted.{place_in, cleared_task, base_of, changed_task, closed_in_task, shift_of, change_of, place_for, root_after, front_after, closed_for, count_after, main_after};
+ghost use Rattle.effects.specs.Fronted.{above_in, cleared_task, base_of, changed_task, closed_in_task, shift_of, change_of, above_for, root_after, front_after, closed_for, count_after, main_after};
 ghost use Rattle.effects.specs.Rows.{closed_up, lowest};
 
 use model::{Change, Effect};
@@ -19,6 +19,7 @@ use session::{Session, Task};
 // ---- the main place
 
 // The main place after the task at a place came to the front.
+#[tactic(auto, unfolding(model::specs::Effects::main_moved))]
 fn main_moved(place: u8, main: u8) -> u8
     ensures { result ≡ main_moved place main }
 {
@@ -48,6 +49,7 @@ fn main_further(main: u8) -> u8
 // ---- the screens of a task
 
 // A task in which no screen stands.
+#[tactic(auto, unfolding(session::specs::Stored::hold_task, session::specs::Stored::pad))]
 fn emptied(root: u8) -> Task
     ensures { result ≡ hold_task (stack root []) }
 {
@@ -58,18 +60,16 @@ fn emptied(root: u8) -> Task
     }
 }
 
-// The h lowest screens stay.
+// The h lowest screens stay. Every place is stored, and not those above h alone, for which a copy of the task would have to wait.
 fn lowered(t: Task, h: u8) -> Task
     requires { (blank_above t ≡ true) × (h ≤ t.height) }
     ensures { result ≡ lowest h t }
 {
     let mut out = t;
     out.height = h;
-    let mut i: u8 = 0;
-    while i < Session::HEIGHT {
-        let k = i as usize;
+    for i in 0..Session::HEIGHT {
+        let k = usize::from(i);
         out.screens[k] = session::pick(i < h, out.screens[k], 0);
-        i += 1;
     }
     out
 }
@@ -79,47 +79,43 @@ pub fn closed_up(t: Task, m: u8, k: u8, b: u8) -> Task
     requires { m + k < most_height }
     ensures { result ≡ with_screens t (closed_up m k b t.screens) }
 {
+    let to = usize::from(m);
     let mut out = t;
-    let mut j: u8 = 0;
-    while j < k {
-        let i = (m + j) as usize;
-        out.screens[i] = out.screens[i + 1];
-        j += 1;
-    }
+    out.screens.copy_within(to + 1..to + 1 + usize::from(k), to);
     out.with_screen(m + k, b)
 }
 
-// The place of the topmost b, which clear and lift rely on; 0 where there is none, and for any other change.
-fn place_in(t: Task, b: u8, change: Change) -> u8
+// How many screens stand above the topmost b, which clear and lift rely on; none for any other change.
+fn above_in(t: Task, b: u8, change: Change) -> Option<u8>
     requires { Alterable change t }
-    ensures { result ≡ place_in b change t }
+    ensures { result ≡ above_in b change t }
 {
     match change {
         Change::Clear | Change::Lift => search::topmost(t, b),
-        Change::Keep | Change::Renew | Change::Push => 0,
+        Change::Keep | Change::Renew | Change::Push => None,
     }
 }
 
-// Clear to the screen at the place: all above it goes.
-fn cleared(t: Task, place: u8) -> Task
-    requires { (blank_above t ≡ true) × (place ≤ t.height) }
-    ensures { result ≡ cleared_task place t }
+// Clear to the screen below so many: all above it goes.
+fn cleared(t: Task, above: Option<u8>) -> Task
+    requires { (blank_above t ≡ true) × IfSome above (λ k. k < t.height) }
+    ensures { result ≡ cleared_task above t }
 {
-    if place == 0 {
-        return t;
+    match above {
+        Some(above) => lowered(t, t.height - above),
+        None => t,
     }
-    lowered(t, t.height + 1 - place)
 }
 
-// Lift: the topmost b, at the place, goes to the top.
-fn lifted(t: Task, b: u8, place: u8) -> Task
-    requires { (blank_above t ≡ true) × (place ≡ place_in b Change.Lift t) }
+// Lift: the topmost b, below so many, goes to the top.
+fn lifted(t: Task, b: u8, above: Option<u8>) -> Task
+    requires { (blank_above t ≡ true) × (above ≡ above_in b Change.Lift t) }
     ensures { result ≡ changed_task b Change.Lift t }
 {
-    if place == 0 {
-        return t;
+    match above {
+        Some(above) => closed_up(t, t.height - 1 - above, above, b),
+        None => t,
     }
-    closed_up(t, t.height - place, place - 1, b)
 }
 
 // What b is pushed onto: the task, emptied where it is renewed.
@@ -132,32 +128,27 @@ fn base_of(t: Task, change: Change) -> Task
     }
 }
 
-// The task after a change of its screens; the place is that of the topmost b.
-fn changed(t: Task, b: u8, change: Change, place: u8) -> Task
-    requires { Alterable change t × (place ≡ place_in b change t) }
+// The task after a change of its screens; so many stand above the topmost b.
+fn changed(t: Task, b: u8, change: Change, above: Option<u8>) -> Task
+    requires { Alterable change t × (above ≡ above_in b change t) }
     ensures { result ≡ changed_task b change t }
 {
     let base = base_of(t, change);
     match change {
         Change::Keep => t,
-        Change::Clear => cleared(t, place),
-        Change::Lift => lifted(t, b, place),
+        Change::Clear => cleared(t, above),
+        Change::Lift => lifted(t, b, above),
         Change::Renew | Change::Push => base.push(b),
     }
 }
 
-// How many screens a change closes in a task of this height: all of an emptied one, those above the place of the topmost b.
-fn closed_in(change: Change, height: u8, place: u8) -> u8
-    ensures { result ≡ closed_in_task change height place }
+// How many screens a change closes in a task of this height: all of an emptied one, those above the topmost b.
+fn closed_in(change: Change, height: u8, above: Option<u8>) -> u8
+    ensures { result ≡ closed_in_task change height above }
 {
     match change {
         Change::Renew => height,
-        Change::Clear => {
-            if place == 0 {
-                return 0;
-            }
-            place - 1
-        }
+        Change::Clear => above.unwrap_or(0),
         Change::Keep | Change::Lift | Change::Push => 0,
     }
 }
@@ -198,32 +189,32 @@ fn root_after(root: u8, b: u8, effect: Effect) -> u8
     }
 }
 
-// The place of the topmost b in the task that an effect changes, where the effect clears or lifts.
-pub fn place_for(t: Task, b: u8, effect: Effect) -> u8
+// How many screens stand above the topmost b in the task that an effect changes, where the effect clears or lifts.
+pub fn above_for(t: Task, b: u8, effect: Effect) -> Option<u8>
     requires { Changeable effect t }
-    ensures { result ≡ place_for b effect t }
+    ensures { result ≡ above_for b effect t }
 {
-    place_in(t, b, change_of(effect))
+    above_in(t, b, change_of(effect))
 }
 
-// The task in front after an effect; t is the one that it changes, and the place is that of the topmost b in it.
-pub fn front_after(t: Task, b: u8, effect: Effect, place: u8) -> Task
-    requires { Changeable effect t × (place ≡ place_for b effect t) }
+// The task in front after an effect; t is the one that it changes, and so many stand above the topmost b in it.
+pub fn front_after(t: Task, b: u8, effect: Effect, above: Option<u8>) -> Task
+    requires { Changeable effect t × (above ≡ above_for b effect t) }
     ensures { result ≡ front_after b effect t }
 {
-    let mut out = changed(t, b, change_of(effect), place);
+    let mut out = changed(t, b, change_of(effect), above);
     out.root = root_after(t.root, b, effect);
     out
 }
 
-// How many screens an effect closes in the task that it changes, by its height and the place of the topmost b.
-pub fn closed_by(effect: Effect, height: u8, place: u8) -> u8
-    ensures { result ≡ closed_for effect height place }
+// How many screens an effect closes in the task that it changes, by its height and how many stand above the topmost b.
+pub fn closed_by(effect: Effect, height: u8, above: Option<u8>) -> u8
+    ensures { result ≡ closed_for effect height above }
 {
     match effect {
         Effect::New => 0,
-        Effect::InFront(change) => closed_in(change, height, place),
-        Effect::MoveAnd(change) => closed_in(change, height, place),
+        Effect::InFront(change) => closed_in(change, height, above),
+        Effect::MoveAnd(change) => closed_in(change, height, above),
     }
 }
 
@@ -265,6 +256,7 @@ fn created_in(change: Change) -> u8
 }
 
 // How many screens an effect creates.
+#[tactic(auto, unfolding(model::specs::Counts::created_by))]
 pub fn created_by(effect: Effect) -> u8
     ensures { result ≡ created_by effect }
 {

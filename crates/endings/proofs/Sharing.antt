@@ -1,47 +1,34 @@
--- The place that is reached in a recording, and the records of a share before it.
+-- What is left of a recording, and the records of a share before it.
 use Prim.Native.Nat.{ℕ, zero, suc, ◌+◌, ◌-◌, ◌≤◌, ◌<◌}
 use mathlib.Core.Path.{◌≡◌, refl, sym, ◌∙◌, ap}
-use mathlib.Core.Bool.{Bool, true, false, not}
+use mathlib.Core.Bool.{true, false, not}
 use mathlib.Core.List.{List, [], ◌∷◌, ◌++◌, append-nil, append_assoc}
 use native.Mathlib.Nat.{add-zero}
 use native.Mathlib.Omega.{arith}
 use lib.Dec.{eqb, leb}
-use lib.ListN.{length, get_or, take, drop, length-drop, length-append, drop_of_length-le}
-use lib.Seq.{drop-drop, length-take-le}
-use borrow.Author.Tests.{leb-true, leb-false, lt-leb, le-leb, eq-eqb, ne_eqb}
+use lib.ListN.{length, get_or, take, drop, length-drop, length-append}
+use lib.Seq.{length-take-le}
+use borrow.Author.Tests.{leb-true}
+use Rattle.std.specs.Prelude.{Option, Some, None, MatchOption, is_some}
 use Rattle.model.specs.Lists.{sum_of}
 use Rattle.model.proofs.Logic.{and_left, and_right, if-elim}
-use Rattle.records.specs.Records.{word_at}
 use Rattle.notes.specs.declared.Notes.{Notes}
 use Rattle.notes.specs.Places.{place_if, Tells, noted_at}
 use Rattle.notes.proofs.Noting.{place-few, tells-noted}
-use Rattle.recording.specs.CallBytes.{restore_kind, image_length, first_image, first_whole}
+use Rattle.recording.specs.CallBytes.{restore_kind, first_image, first_whole}
 use Rattle.recording.specs.OneCall.{call_length}
 use Rattle.endings.specs.declared.Share.{Share}
 use Rattle.endings.specs.Shares.{records_among, is_in, header_of, bytes_in, numbers_in, Shares}
 
 -- ---- one record
 
--- whole or not, by the tests that code makes
+-- whole or not, by its length
+pub whole-some : (r : List ℕ) (long : Option ℕ)
+    → MatchOption long (first_whole r ≡ false) (λ n. (first_whole r ≡ true) × (n ≡ 6 + first_image r)) → is_some long ≡ first_whole r
+whole-some r None h = sym h
+whole-some r (Some n) h = sym h.0
+
 module _ (r : List ℕ) where
-  pub whole-few : length r < 6 → false ≡ first_whole r
-  whole-few h = sym (lt-leb (6 + first_image r) (length r) (omega arith))
-
-  pub whole-other : 6 ≤ length r → (get_or r 0 0 ≡ 6 → ⊥) → true ≡ first_whole r
-  unfolding image_length
-  whole-other six k = rw (ne_eqb (get_or r 0 0) 6 k) (sym (le-leb 6 (length r) six))
-
-  test-shift : (w long : ℕ) → 6 ≤ long → leb w (long - 6) ≡ leb (6 + w) long
-  test-shift w long six = go (leb w (long - 6)) refl
-    where
-      go : (b : Bool) → leb w (long - 6) ≡ b → b ≡ leb (6 + w) long
-      go true e = let h = leb-true w (long - 6) e in sym (le-leb (6 + w) long (omega arith))
-      go false e = let h = leb-false w (long - 6) e in sym (lt-leb (6 + w) long (omega arith))
-
-  pub whole-restore : 6 ≤ length r → get_or r 0 0 ≡ 6 → leb (word_at r 0) (length r - 6) ≡ first_whole r
-  unfolding image_length
-  whole-restore six k = rw (eq-eqb (get_or r 0 0) 6 k) (test-shift (word_at r 0) (length r) six)
-
   -- the six bytes before an image are there
   pub header-fits : (share : Share) → is_in share r ≡ true → header_of share ≤ length r
   header-fits Share.Images e =
@@ -72,6 +59,10 @@ call_fits l h =
     (λ e. (omega arith, leb-true (6 + first_image l) (length l) e))
     (λ e. (h, omega arith))
 
+no_length : (l : List ℕ) → length l ≡ 0 → l ≡ []
+no_length [] e = refl
+no_length (x ∷ l) e = absurd (omega arith)
+
 records-none : (n : ℕ) (l : List ℕ) → l ≡ [] → records_among n l ≡ []
 unfolding records_among
 records-none zero l e = refl
@@ -95,30 +86,28 @@ first_of (suc n) l h k =
     let d = length-drop (call_length l) l in
     record { others = n; enough = omega arith; first = records-first n l h }
 
--- ---- at a place
+-- ---- in a recording
 
--- of the records of l from a place on, n and bytes are of those in the share before the i-th, which stands at p
-pub record Passed (share : Share) (l : List ℕ) (from : ℕ) (n : Notes) (bytes i p : ℕ) : Type 0 where
-  pub inside : p ≤ length l
-  pub number : i ≤ p + 1
+-- of the records of l, n and bytes are of those in the share before the i-th, and m is left from that one on
+pub record Passed (share : Share) (l : List ℕ) (n : Notes) (bytes i : ℕ) (m : List ℕ) : Type 0 where
+  pub number : i + length m ≤ length l + 1
   pub few : n.count < i
-  pub sum : bytes ≤ p
+  pub sum : bytes + length m ≤ length l
   pub left : ℕ
-  pub enough : length (drop p l) ≤ left
+  pub enough : length m ≤ left
   pub places : List ℕ
   pub tells : Tells places n
-  pub numbers : numbers_in share 1 (records_among (length (drop from l)) (drop from l)) ≡ places ++ numbers_in share i (records_among left (drop p l))
-  pub all : sum_of (bytes_in share) (records_among (length (drop from l)) (drop from l)) ≡ bytes + sum_of (bytes_in share) (records_among left (drop p l))
+  pub numbers : numbers_in share 1 (records_among (length l) l) ≡ places ++ numbers_in share i (records_among left m)
+  pub all : sum_of (bytes_in share) (records_among (length l) l) ≡ bytes + sum_of (bytes_in share) (records_among left m)
 
-pub passed_start : (share : Share) (l : List ℕ) (from : ℕ) (n : Notes) → from ≤ length l → Tells [] n → Passed share l from n 0 1 from
-passed_start share l from n h t =
+pub passed_start : (share : Share) (l : List ℕ) (n : Notes) → Tells [] n → Passed share l n 0 1 l
+passed_start share l n t =
     let k = t.count in
     record {
-      inside = h;
       number = omega arith;
       few = omega arith;
       sum = omega arith;
-      left = length (drop from l);
+      left = length l;
       enough = omega arith;
       places = [];
       tells = t;
@@ -126,12 +115,12 @@ passed_start share l from n h t =
       all = omega arith;
     }
 
-module _ {share : Share} {l : List ℕ} {from : ℕ} {n : Notes} {bytes i p : ℕ} (h : Passed share l from n bytes i p) where
+module _ {share : Share} {l : List ℕ} {n : Notes} {bytes i : ℕ} {m : List ℕ} (h : Passed share l n bytes i m) where
   -- nothing is left
-  pub passed-end : length l ≤ p → Shares share (records_among (length (drop from l)) (drop from l)) (record { records = n; bytes = bytes })
+  pub passed-end : length m ≡ 0 → Shares share (records_among (length l) l) (record { records = n; bytes = bytes })
   unfolding numbers_in
   passed-end over =
-      let none = records-none h.left (drop p l) (drop_of_length-le l over) in
+      let none = records-none h.left m (no_length m over) in
       record {
         numbers =
             rw (h.numbers ∙ ap (λ (rs : List (List ℕ)). h.places ++ numbers_in share i rs) none ∙ append-nil h.places) h.tells;
@@ -139,42 +128,40 @@ module _ {share : Share} {l : List ℕ} {from : ℕ} {n : Notes} {bytes i p : �
       }
 
   -- one record more
-  module _ (some : p < length l) {k : ℕ} (long : k ≡ call_length (drop p l)) where
+  module _ (some : 0 < length m) {k : ℕ} (long : k ≡ call_length m) where
     abbrev r : List ℕ
-    r = take k (drop p l)
+    r = take k m
 
     pub passed-more : {n' : Notes} → n' ≡ noted_at n (is_in share r) i → {b : ℕ} → b ≡ bytes_in share r
-        → Passed share l from n' (bytes + b) (i + 1) (p + k)
+        → Passed share l n' (bytes + b) (i + 1) (drop k m)
     unfolding numbers_in
     passed-more more {b} same =
-        let d = length-drop p l in
-        let fits = call_fits (drop p l) (omega arith) in
-        let f = first_of h.left (drop p l) (omega arith) h.enough in
-        let rest : drop (call_length (drop p l)) (drop p l) ≡ drop (p + k) l = rw (← long) (drop-drop k p l) in
-        let first : records_among h.left (drop p l) ≡ r ∷ records_among f.others (drop (p + k) l) = f.first ∙ rw (rest, ← long) in
+        let d = length-drop k m in
+        let fits = call_fits m some in
+        let f = first_of h.left m some h.enough in
+        let first : records_among h.left m ≡ r ∷ records_among f.others (drop k m) = rw long f.first in
         let t = tells-noted (is_in share r) i n _ more h.places h.tells in
         let c = t.count in
         let c' = h.tells.count in
         let one = place-few (is_in share r) i in
         let a = length-append h.places (place_if (is_in share r) i) in
         let b-few = bytes-few r share in
-        let long-r : length r ≡ k = length-take-le k (drop p l) (omega arith) in
+        let long-r : length r ≡ k = length-take-le k m (omega arith) in
         let e : i + 1 ≡ suc i = omega arith in
-        let sums : sum_of (bytes_in share) (records_among h.left (drop p l)) ≡ bytes_in share r + sum_of (bytes_in share) (records_among f.others (drop (p + k) l)) =
+        let sums : sum_of (bytes_in share) (records_among h.left m) ≡ bytes_in share r + sum_of (bytes_in share) (records_among f.others (drop k m)) =
         ap (sum_of (bytes_in share)) first in
         record {
-          inside = omega arith;
           number = omega (arith, h.number);
           few = omega (arith, h.few);
           sum = omega (arith, h.sum);
           left = f.others;
-          enough = rw rest at f.enough;
+          enough = rw long f.enough;
           places = h.places ++ place_if (is_in share r) i;
           tells = t;
           numbers =
               h.numbers
               ∙ ap (λ (rs : List (List ℕ)). h.places ++ numbers_in share i rs) first
-              ∙ sym (append_assoc h.places (place_if (is_in share r) i) (numbers_in share (suc i) (records_among f.others (drop (p + k) l))))
+              ∙ sym (append_assoc h.places (place_if (is_in share r) i) (numbers_in share (suc i) (records_among f.others (drop k m))))
               ∙ rw e;
           all = omega (arith, h.all, sums);
         }

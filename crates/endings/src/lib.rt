@@ -9,7 +9,6 @@ ghost use Rattle.model.specs.Written.{written};
 ghost use Rattle.session.specs.Stored.{hold, Ready};
 ghost use Rattle.difference.specs.Apart.{most_backs, FirstApart};
 ghost use Rattle.notes.specs.Places.{Tells};
-ghost use Rattle.recording.specs.CallBytes.{first_whole};
 ghost use Rattle.endings.specs.Endings.{ending_of, ignored_in};
 ghost use Rattle.endings.specs.Shares.{is_in, header_of, bytes_in, records_of, Shares};
 ghost use Rattle.endings.specs.Verdict.{last_kind, verdict_text, longest_verdict};
@@ -26,20 +25,19 @@ fn table_end(input: &[u8]) -> usize
     ensures length { result ≡ length (table_in input.now) }
     ensures bound { result ≤ length input.now }
 {
-    let there = input.len();
-    let long = table::length_said(input);
-    if long > there {
-        return there;
-    }
-    long
+    table::length_said(input).min(input.len())
 }
 
-// The refusal of the table that a recording begins with, 0 if none. A table that is cut has the refusal 1.
+// The refusal of the table that a recording begins with, 0 if none. A table that is cut has the refusal 1. A number: it could not fail,
+// and `same` prints it.
 pub fn table_refusal(input: &[u8]) -> u8
     ensures { result ≡ table_refusal (table_in input.now) }
 {
     let end = table_end(input);
-    table::refusal(&input[..end])
+    match table::check(&input[..end]) {
+        Ok(()) => 0,
+        Err(refusal) => refusal.number(),
+    }
 }
 
 // Both recordings begin with the same table.
@@ -48,7 +46,7 @@ pub fn same_table(first: &[u8], second: &[u8]) -> bool
 {
     let i = table_end(first);
     let j = table_end(second);
-    check::same(&first[..i], &second[..j])
+    first[..i] == second[..j]
 }
 
 // A recording's records that are no call: how many, and the place of the first, counted from the recording's first byte.
@@ -62,7 +60,7 @@ pub fn ignored(input: &[u8]) -> Notes
 // ---- what its bytes are taken for
 
 // What the bytes of a record are taken for: an image, which a whole restore brings; nothing, since it is no call; an image that
-// is cut.
+// is cut. An enum and no closure of the caller's: the definitions and the text of each warning name the three.
 #[derive(Clone, Copy)]
 pub enum Share {
     Images,
@@ -77,25 +75,12 @@ pub struct Portion {
     pub bytes: usize,
 }
 
-// The record in these bytes is whole, a restore with its image.
-fn is_whole(bytes: &[u8]) -> bool
-    ensures { result ≡ first_whole bytes.now }
-{
-    if bytes.len() < 6 {
-        return false;
-    }
-    if bytes[0] != 6 {
-        return true;
-    }
-    records::word_at(bytes, 0) as usize <= bytes.len() - 6
-}
-
-// It is in the share.
+// The record in these bytes is in the share.
 fn is_in(share: Share, bytes: &[u8]) -> bool
     requires { 0 < length bytes.now }
     ensures { result ≡ is_in share bytes.now }
 {
-    let whole = is_whole(bytes);
+    let whole = recording::whole_length(bytes).is_some();
     let kind = bytes[0];
     match share {
         Share::Images => whole & (kind == 6),
@@ -126,20 +111,21 @@ fn bytes_in(share: Share, bytes: &[u8]) -> usize
     bytes.len() - header_of(share)
 }
 
-// Which records of a recording are in the share, and how many bytes.
+// Which records of a recording are in the share, and how many bytes. A loop over what is left: an iterator over records would have to
+// tell of one that is cut.
 pub fn portion_of(input: &[u8], share: Share) -> Portion
     ensures { Shares share (records_of input.now) result }
 {
     let mut met = Notes::none();
     let mut bytes: usize = 0;
     let mut i: usize = 1;
-    let mut p = table_end(input);
-    while p < input.len() {
-        let end = p + recording::call_length(&input[p..]);
-        met = met.noted(is_in(share, &input[p..end]), i);
-        bytes += bytes_in(share, &input[p..end]);
+    let mut left = &input[table_end(input)..];
+    while !left.is_empty() {
+        let (first, rest) = left.split_at(recording::call_length(left));
+        met = met.noted(is_in(share, first), i);
+        bytes += bytes_in(share, first);
         i += 1;
-        p = end;
+        left = rest;
     }
     Portion {
         records: met,
@@ -176,7 +162,7 @@ pub fn compare(first: &[u8], second: &[u8]) -> Difference
 
 // ---- text
 
-// Writes a number below 1000 in base ten. Yields the place after it.
+// Writes a number below 1000 in base ten. Yields the place after it. By hand: a lent buffer is written at a place, without a heap.
 fn write_number(out: &mut [u8], at: usize, x: u16) -> usize
     requires { (x < 1000) × (at + 4 ≤ length out.old) }
     ensures place { result ≡ at + length (decimal x) }
@@ -195,10 +181,10 @@ fn write_number(out: &mut [u8], at: usize, x: u16) -> usize
 fn last_kind(backs: u16) -> u8
     ensures { result ≡ last_kind backs }
 {
-    if backs == 0 {
-        return 5;
+    match backs {
+        0 => 5,
+        _ => 4,
     }
-    4
 }
 
 // Writes the verdict at the start of a lent buffer: that the endings are alike, or after how many Backs they are told apart,
@@ -216,8 +202,6 @@ pub fn write_verdict(out: &mut [u8], d: Difference) -> usize
     let backs = write_number(out, number, d.backs);
     let line = line::write_text(out, backs, b" Backs\n");
     let kind = last_kind(d.backs);
-    let first = d.first;
-    let second = d.second;
-    let next = line::write_line(out, line, kind, first);
-    line::write_line(out, next, kind, second)
+    let next = line::write_line(out, line, kind, d.first);
+    line::write_line(out, next, kind, d.second)
 }

@@ -12,7 +12,7 @@ mod entries;
 
 // ---- the entries
 
-// The entry at an index; 0, which is no entry, where there is none.
+// The entry at an index; 0, which is no entry, where there is none: the C interface has a byte here.
 pub fn entry(index: usize) -> u8
     ensures entry { result ≡ entry_at index }
     ensures indexed { IndexesChart }
@@ -25,27 +25,19 @@ pub fn entry(index: usize) -> u8
 
 // ---- the index
 
-fn wide(mode: u8) -> usize
-    ensures { result ≡ mode }
-{
-    mode as usize
-}
-
+// What a flag is worth in an index.
 fn worth(n: usize, set: bool) -> usize
     ensures value { result ≡ worth n set }
     ensures most { result ≤ n }
 {
-    if set {
-        return n;
-    }
-    0
+    if set { n } else { 0 }
 }
 
 // The index of a start: B's mode, whether A is single-instance, and the six flags.
 pub fn index(mode: u8, apart_caller: bool, f: Flags) -> usize
     ensures { result ≡ index_of mode apart_caller f }
 {
-    let screens = 128 * wide(mode) + worth(64, apart_caller);
+    let screens = 128 * usize::from(mode) + worth(64, apart_caller);
     let tasks = worth(32, f.ntk) + worth(16, f.stp) + worth(8, f.mtk);
     screens + tasks + worth(4, f.ctp) + worth(2, f.rtf) + worth(1, f.ctk)
 }
@@ -62,11 +54,9 @@ pub fn write(out: &mut [u8]) -> usize
     ensures text { out.new ≡ written out.old 0 chart_text }
     ensures bound { result ≤ longest_chart }
 {
-    let mut at: usize = 0;
-    let mut i: usize = 0;
-    while i < ENTRIES {
+    let mut at = 0;
+    for i in 0..ENTRIES {
         at = line::write_decimal(out, at, entry(i), b'\n');
-        i += 1;
     }
     at
 }

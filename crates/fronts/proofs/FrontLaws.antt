@@ -20,8 +20,8 @@ use Rattle.model.proofs.Logic.{if-elim}
 use Rattle.model.proofs.RefusalLaws.{refusal-skip, refusal-applies, refusal-passes, refusal-append-refused, checks-own}
 use Rattle.session.specs.declared.Session.{Session}
 use Rattle.session.specs.Stored.{view, sound_stored, Ready}
-use Rattle.calls.specs.StoredCalls.{shared_refusal}
-use Rattle.calls.proofs.Settling.{checks-ready}
+use Rattle.checks.specs.Shared.{shared_refusal}
+use Rattle.checks.proofs.SharedLaws.{checks-ready}
 use Rattle.fronts.specs.declared.FrontSet.{FrontSet}
 use Rattle.fronts.specs.Sets.{IsIn, Within}
 use Rattle.fronts.specs.Fronts.{is_known, seven_words, word_at, start_of, Brings, CouldBe, SetExactly, with_front, fronts_among, front_set, known_checks, fronts_refusal, refused_set, settle_set, fronts_stored, KnowingMore, AnyNoHistory}

@@ -55,11 +55,6 @@ ones-within (suc n) few many h = omega (arith, h 0, ones-within n (few / 2) (man
 pub size-within : (n few many : ℕ) → Within few many → ones_among n few ≤ ones_among n many
 size-within n few many h = ones-within n few many (digit-within few many h)
 
-pub ones-most : (n set : ℕ) → ones_among n set ≤ n
-unfolding ones_among
-ones-most zero set = omega arith
-ones-most (suc n) set = omega (arith, ones-most n (set / 2))
-
 half-less : (n x : ℕ) → x < 2 ^ suc n → x / 2 < 2 ^ n
 half-less n x l = omega (arith, l, pow-suc 2 n)
 

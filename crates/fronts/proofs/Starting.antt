@@ -21,6 +21,7 @@ use Rattle.session.specs.declared.Session.{Session}
 use Rattle.session.specs.Stored.{view, Ready}
 use Rattle.session.proofs.StoredLaws.{view-hold, sound-view}
 use Rattle.calls.specs.StoredCalls.{given_by, refusal_stored, call_stored}
+use Rattle.checks.proofs.SharedLaws.{checks-ready}
 use Rattle.calls.proofs.Settling.{number-own}
 use Rattle.fronts.specs.Fronts.{Brings, start_of}
 use Rattle.fronts.proofs.SetLaws.{Shows}
@@ -37,6 +38,11 @@ module _ (tb : List ℕ) (c : Session) (b f : ℕ) where
       go : (n : ℕ) → (given_by tb c (start b f) n).answer.refusal ≡ 0 → n ≡ 0
       go zero e = refl
       go (suc n) e = e
+
+  -- an accepted start is one on a sound session under a good table
+  pub accepted-ready : (start_of tb c b f).answer.refusal ≡ 0 → Ready tb c
+  unfolding refusal_stored
+  accepted-ready e = checks-ready tb c (own_checks tb (view c) (start b f)) (accepted-zero e)
 
   module _ (e : refusal_stored tb c (start b f) ≡ 0) where
     -- the session that it leaves

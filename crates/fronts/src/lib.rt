@@ -3,15 +3,17 @@
 #![tactic(auto)]
 
 ghost use Rattle.std.specs.Prelude.{◌≡◌};
-ghost use Rattle.model.specs.Refusals.{refusal as refusal_of};
-ghost use Rattle.model.specs.Table.{table_refusal};
-ghost use Rattle.calls.specs.StoredCalls.{shared_refusal};
+ghost use Rattle.model.specs.Refusals.{refusal as refusal_of, refusal_in, refusal_number, numbered, unless};
 ghost use Rattle.fronts.specs.Sets.{size_of};
-ghost use Rattle.fronts.specs.Fronts.{word_at, with_front, front_set, known_checks, refused_set, fronts_stored, SetExactly, KnowingMore, AnyNoHistory};
+ghost use Rattle.fronts.specs.Fronts.{word_at, with_front, front_set, fronts_refusal, known_checks, refused_set, fronts_stored, SetExactly, KnowingMore, AnyNoHistory};
 
+use checks::Checked;
+use model::Refusal;
 use session::Session;
+use table::Table;
 
-// A set of screens, bit k for screen k, and how many there are; or the refusal, and zeros.
+// A set of screens, bit k for screen k, and how many there are; or the refusal, and zeros. A number beside them: the C interface
+// has a byte there.
 #[repr(C)]
 #[derive(Clone, Copy)]
 pub struct FrontSet {
@@ -37,11 +39,10 @@ fn word_at(i: u32) -> u32
 // ---- the set
 
 // The set with the screen that a start of b with this word brings to the front, if it brings one.
-fn with_front(table: &[u8], s: Session, b: u8, set: u64, word: u32) -> u64
-    requires { shared_refusal table.now s ≡ 0 }
-    ensures { result ≡ with_front table.now s b set word }
+fn with_front(on: &Checked<'_>, b: u8, set: u64, word: u32) -> u64
+    ensures { result ≡ with_front on.now.table.now on.now.session.now b set word }
 {
-    let answer = calls::start_answer(table, s, b, word, 0);
+    let answer = calls::start_answer(on, b, word);
     if answer.refusal != 0 {
         return set;
     }
@@ -52,23 +53,20 @@ fn with_front(table: &[u8], s: Session, b: u8, set: u64, word: u32) -> u64
 }
 
 // The screens that the fillings bring to the front: the words of the seven that have the known values.
-fn set_of(table: &[u8], s: Session, b: u8, mask: u32, value: u32) -> u64
-    requires { shared_refusal table.now s ≡ 0 }
-    ensures { result ≡ front_set table.now s b mask value }
+fn set_of(on: &Checked<'_>, b: u8, mask: u32, value: u32) -> u64
+    ensures { result ≡ front_set on.now.table.now on.now.session.now b mask value }
 {
     let mut set: u64 = 0;
-    let mut i: u32 = 0;
-    while i < WORDS {
+    for i in 0..WORDS {
         let word = word_at(i);
         if word & mask == value {
-            set = with_front(table, s, b, set, word);
+            set = with_front(on, b, set, word);
         }
-        i += 1;
     }
     set
 }
 
-// How many screens are in a set.
+// How many screens are in a set: 64 at most, and `From` does not narrow.
 fn size_of(set: u64) -> u8
     ensures { result ≡ size_of set }
 {
@@ -77,30 +75,38 @@ fn size_of(set: u64) -> u8
 
 // ---- the call
 
-// A start's check 3, then 35: a bit of the mask outside the seven, or a value outside the mask; or 0.
-fn known_refusal(table: &[u8], b: u8, mask: u32, value: u32) -> u8
-    requires { table_refusal table.now ≡ 0 }
-    ensures { result ≡ refusal_of (known_checks table.now b mask value) }
+// A start's check 3, then 35: a bit of the mask outside the seven, or a value outside the mask.
+fn check_known(table: &Table<'_>, b: u8, mask: u32, value: u32) -> Result<(), Refusal>
+    ensures { refusal_in result ≡ refusal_of (known_checks table.now b mask value) }
 {
-    if b >= table::size(table) {
-        return 3;
+    if b >= table.size() {
+        return Err(Refusal::UnknownScreen);
     }
     if flags::has_other_bit(mask) {
-        return 35;
+        return Err(Refusal::UnknownBits);
     }
     if value & mask != value {
-        return 35;
+        return Err(Refusal::UnknownBits);
     }
-    0
+    Ok(())
+}
+
+// The set of a start of b of which the bits of the mask are known, with these values.
+fn known_set(table: &[u8], s: Session, b: u8, mask: u32, value: u32) -> Result<u64, Refusal>
+    ensures { numbered result ≡ unless (fronts_refusal table.now s b mask value) (front_set table.now s b mask value) }
+{
+    navigator::check(table, s)?;
+    check_known(&Table::of(table), b, mask, value)?;
+    Ok(set_of(&checks::passed(table, &s), b, mask, value))
 }
 
 // Refused: no set.
-fn refuse(refusal: u8) -> FrontSet
-    ensures { result ≡ refused_set refusal }
+fn refuse(refusal: Refusal) -> FrontSet
+    ensures { result ≡ refused_set (refusal_number refusal) }
 {
     FrontSet {
         set: 0,
-        refusal: refusal,
+        refusal: refusal.number(),
         count: 0,
     }
 }
@@ -113,18 +119,12 @@ pub fn fronts(table: &[u8], s: Session, b: u8, mask: u32, value: u32) -> FrontSe
     ensures more { result.refusal ≡ 0 → KnowingMore table.now s b mask value result }
     ensures bit { result.refusal ≡ 0 → AnyNoHistory table.now s b mask value result }
 {
-    let shared = navigator::shared_refusal(table, s);
-    if shared != 0 {
-        return refuse(shared);
-    }
-    let refusal = known_refusal(table, b, mask, value);
-    if refusal != 0 {
-        return refuse(refusal);
-    }
-    let set = set_of(table, s, b, mask, value);
-    FrontSet {
-        set: set,
-        refusal: 0,
-        count: size_of(set),
+    match known_set(table, s, b, mask, value) {
+        Ok(set) => FrontSet {
+            set: set,
+            refusal: 0,
+            count: size_of(set),
+        },
+        Err(refusal) => refuse(refusal),
     }
 }

@@ -8,14 +8,14 @@ use native.Mathlib.Omega.{arith}
 use lib.Dec.{leb}
 use lib.ListN.{length, get_or, set, drop, replicate, length-append, length-map, length-drop}
 use lib.Seq.{drop-length, drop-cons, drop-drop}
-use Rattle.std.specs.Prelude.{if◌then◌else◌}
+use Rattle.std.specs.Prelude.{Some, None, if◌then◌else◌}
 use Rattle.model.specs.Session.{Stack, most_tasks, most_height}
 use Rattle.model.specs.Image.{Reading, unreadable, read_as, read_more, read_tasks}
 use Rattle.model.proofs.Logic.{and-decides, leb-decides}
 use Rattle.session.specs.declared.Task.{Task}
 use Rattle.session.specs.Stored.{blank_task, hold_task, hold, pad}
 use Rattle.session.proofs.Padding.{pad-push}
-use Rattle.image.specs.Readings.{contents, task_in, unreadable_contents, contents_of}
+use Rattle.image.specs.Readings.{task_in, contents_of}
 
 -- ---- one task
 
@@ -80,14 +80,14 @@ begun-none body n =
 
 module _ {body : List ℕ} {n i at : ℕ} {stored : List Task} (b : Begun body n i at stored) where
   -- where the next task cannot be read, none can
-  stops : read_tasks (n - i) (drop at body) ≡ unreadable → (m v x : ℕ) → unreadable_contents ≡ contents_of (read_tasks n body) m v x
+  stops : read_tasks (n - i) (drop at body) ≡ unreadable → (m v x : ℕ) → None ≡ contents_of (read_tasks n body) m v x
   stops e m v x = rw (b.rest, e, onto-unreadable b.tasks)
 
   module _ (l : i < n) where
     left : n - i ≡ suc (n - (i + 1))
     left = omega arith
 
-    pub begun-cut : length body - at < 2 → (m v x : ℕ) → unreadable_contents ≡ contents_of (read_tasks n body) m v x
+    pub begun-cut : length body - at < 2 → (m v x : ℕ) → None ≡ contents_of (read_tasks n body) m v x
     begun-cut short = stops (ap (λ (k : ℕ). read_tasks k (drop at body)) left ∙ read-cut (n - (i + 1)) (drop at body) (omega (arith, length-drop at body)))
 
     module _ (whole : at + 2 ≤ length body) (h : ℕ) (e : get_or body (at + 1) 0 ≡ h) where
@@ -95,7 +95,7 @@ module _ {body : List ℕ} {n i at : ℕ} {stored : List Task} (b : Begun body n
           ≡ (if height_fits h (length body - at - 2) then read_more (task_in body at h) (read_tasks (n - (i + 1)) (drop (at + (2 + h)) body)) else unreadable)
       next = ap (λ (k : ℕ). read_tasks k (drop at body)) left ∙ read_next (n - (i + 1)) body at whole h e
 
-      pub begun-unfit : height_fits h (length body - at - 2) ≡ false → (m v x : ℕ) → unreadable_contents ≡ contents_of (read_tasks n body) m v x
+      pub begun-unfit : height_fits h (length body - at - 2) ≡ false → (m v x : ℕ) → None ≡ contents_of (read_tasks n body) m v x
       begun-unfit f = stops (rw f at next)
 
       pub begun_more : n ≤ most_tasks → height_fits h (length body - at - 2) ≡ true → (u : Task) → u ≡ hold_task (task_in body at (get_or body (at + 1) 0))
@@ -117,14 +117,14 @@ module _ {body : List ℕ} {n i at : ℕ} {stored : List Task} (b : Begun body n
     ended : n - i ≡ 0
     ended = omega arith
 
-    pub begun-over : at < length body → (m v x : ℕ) → unreadable_contents ≡ contents_of (read_tasks n body) m v x
+    pub begun-over : at < length body → (m v x : ℕ) → None ≡ contents_of (read_tasks n body) m v x
     unfolding read_tasks
     begun-over l = stops (rw (ended, drop-cons body at 0 l))
 
     pub begun-end : at ≡ length body → i ≡ n → (m v x : ℕ)
-        → contents true (record { tasks = stored; n = n; main = m; edition = v; no_history = x }) ≡ contents_of (read_tasks n body) m v x
+        → Some (record { tasks = stored; n = n; main = m; edition = v; no_history = x }) ≡ contents_of (read_tasks n body) m v x
     unfolding read_tasks hold
     begun-end e k m v x =
         let r : read_tasks n body ≡ read_as b.tasks =
         b.rest ∙ ap (read_onto b.tasks) (rw (ended, e, drop-length body)) ∙ onto-end b.tasks in
-        rw r (λ j. contents true (record { tasks = b.kept j; n = sym (b.many ∙ k) j; main = m; edition = v; no_history = x }))
+        rw r (λ j. Some (record { tasks = b.kept j; n = sym (b.many ∙ k) j; main = m; edition = v; no_history = x }))

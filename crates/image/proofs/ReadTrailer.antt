@@ -8,12 +8,12 @@ use lib.Dec.{leb, eqb}
 use lib.ListN.{length, get_or}
 use lib.Seq.{get_or-drop}
 use borrow.Author.Tests.{leb-true, le-leb, lt-leb}
-use Rattle.std.specs.Prelude.{if◌then◌else◌}
+use Rattle.std.specs.Prelude.{Some, None, if◌then◌else◌}
 use Rattle.model.specs.Session.{state, most_tasks, is_edition}
 use Rattle.model.specs.Image.{body_in, trailer_in, image_shaped, Reading, unreadable, read_as, read_tasks, is_readable, tasks_read, image_readable, session_in}
 use Rattle.model.proofs.Logic.{and_left}
-use Rattle.session.specs.Stored.{fresh_session, hold}
-use Rattle.image.specs.Readings.{contents, unreadable_contents, contents_of, read_stored}
+use Rattle.session.specs.Stored.{hold}
+use Rattle.image.specs.Readings.{contents_of, read_stored}
 
 pub shaped-short : (bytes : List ℕ) → length bytes < 6 → image_shaped bytes ≡ false
 unfolding image_shaped
@@ -41,7 +41,7 @@ unfolding image_shaped
 shaped-six bytes e = leb-true 6 (length bytes) (and_left (leb 6 (length bytes)) _ e)
 
 module _ (bytes : List ℕ) where
-  pub read-many : most_tasks < get_or bytes (end bytes + 2) 0 → unreadable_contents ≡ read_stored bytes
+  pub read-many : most_tasks < get_or bytes (end bytes + 2) 0 → None ≡ read_stored bytes
   unfolding read_stored image_readable
   read-many h = rw (trailer-at bytes 2, lt-leb (get_or bytes (end bytes + 2) 0) most_tasks h)
 
@@ -56,6 +56,6 @@ module _ (bytes : List ℕ) where
       (get_or bytes (end bytes + 3) 0 / 128))
     where
       go : (q : Reading) (m e h : ℕ)
-          → contents_of q m e h ≡ contents (is_readable q) (if is_readable q then hold (state (tasks_read q) m e h) else fresh_session)
+          → contents_of q m e h ≡ (if is_readable q then Some (hold (state (tasks_read q) m e h)) else None)
       go unreadable m e h = refl
       go (read_as ts) m e h = refl

@@ -1,5 +1,6 @@
 // Images of sessions: each task's root, height and screens, top first, and six trailer bytes. Any bytes may be read:
-// nothing is read outside of them, and reading ends.
+// nothing is read outside of them, and reading ends. A byte is widened by a cast here: a proof computes with a cast, where `from` has a
+// result of its own.
 #![tactic(auto)]
 
 ghost use Rattle.std.specs.Prelude.{◌+◌, ◌<◌, ◌≤◌, ◌≡◌, true, ◌&&◌, eqb, [], ◌∷◌, ◌++◌, length, drop};
@@ -7,19 +8,13 @@ ghost use Rattle.model.specs.Session.{most_tasks, most_height, is_edition};
 ghost use Rattle.model.specs.Image.{body_of, main_byte, trailer, image, image_shaped, read_tasks};
 ghost use Rattle.model.specs.Written.{written};
 ghost use Rattle.session.specs.Stored.{view, view_task, storage_blank, hold_task};
-ghost use Rattle.image.specs.Readings.{task_in, unreadable_contents, contents_of, read_stored};
+ghost use Rattle.image.specs.Readings.{task_in, contents_of, read_stored};
 ghost use Rattle.image.specs.Writable.{Writable};
 
 use session::{Session, Task};
 
 // The two bytes that close an image, for each edition: 6, 7 and 8.
 const CLOSING: [u8; 6] = *b"\x06\x42\x07\x42\x08\x42";
-
-fn wide(x: u8) -> usize
-    ensures { (result ≡ x) × (result < 256) }
-{
-    x as usize
-}
 
 // ---- writing
 
@@ -28,13 +23,9 @@ pub fn length(s: Session) -> usize
     requires { storage_blank s ≡ true }
     ensures { result ≡ length (image (view s)) }
 {
-    let count = s.n as usize;
     let mut sum: usize = 6;
-    let mut i: usize = 0;
-    while i < count {
-        let t = s.tasks[i];
+    for t in &s.tasks[..s.n as usize] {
         sum += 2 + t.height as usize;
-        i += 1;
     }
     sum
 }
@@ -47,11 +38,8 @@ fn write_screens(out: &mut [u8], at: usize, t: Task) -> usize
     ensures bound { result ≤ at + most_height }
 {
     let h = t.height as usize;
-    let mut i = h;
-    while i > 0 {
-        let place = at + h - i;
-        i -= 1;
-        out[place] = t.screens[i];
+    for i in 0..h {
+        out[at + i] = t.screens[h - 1 - i];
     }
     at + h
 }
@@ -82,7 +70,7 @@ fn write_trailer(out: &mut [u8], at: usize, n: u8, main: u8, edition: u8) -> usi
     ensures place { result ≡ at + 6 }
     ensures bytes { out.new ≡ written out.old at (trailer at n main edition) }
 {
-    let place = 2 * (wide(edition) - 6);
+    let place = 2 * (edition as usize - 6);
     out[at] = (at / 256) as u8;
     out[at + 1] = (at % 256) as u8;
     out[at + 2] = n;
@@ -98,13 +86,10 @@ pub fn write(s: Session, out: &mut [u8]) -> usize
     ensures length { result ≡ length (image (view s)) }
     ensures bytes { out.new ≡ image (view s) ++ drop (length (image (view s))) out.old }
 {
-    let tasks = s.n as usize;
+    let tasks = &s.tasks[..s.n as usize];
     let mut at: usize = 0;
-    let mut i: usize = 0;
-    while i < tasks {
-        let t = s.tasks[i];
-        at = write_task(out, at, t);
-        i += 1;
+    for t in tasks {
+        at = write_task(out, at, *t);
     }
     write_trailer(out, at, s.n, main_byte(s.main, s.no_history), s.edition)
 }
@@ -130,25 +115,9 @@ pub fn shaped(image: &[u8]) -> bool
         return false;
     }
     let end = long - 6;
-    let high = wide(image[end]);
-    let low = wide(image[end + 1]);
+    let high = image[end] as usize;
+    let low = image[end + 1] as usize;
     closes(image[end + 4], image[end + 5]) & (long == 256 * high + low + 6)
-}
-
-// What is read from an image: whether its tasks can be read, and the session, a fresh one if they cannot.
-#[derive(Clone, Copy)]
-pub struct Contents {
-    pub readable: bool,
-    pub session: Session,
-}
-
-fn unreadable() -> Contents
-    ensures { result ≡ unreadable_contents }
-{
-    Contents {
-        readable: false,
-        session: Session::fresh(),
-    }
 }
 
 // The task whose root stands at a place, its height and its screens behind it. The top screen comes first there, and last
@@ -164,53 +133,45 @@ fn read_task(body: &[u8], at: usize, height: u8) -> Task
         height: height,
         screens: [0; Session::SCREENS],
     };
-    let mut i: usize = 0;
-    while i < h {
+    for i in 0..h {
         out.screens[i] = body[bottom - i];
-        i += 1;
     }
     out
 }
 
-// The session that the body is of: exactly n tasks of height 1 to 32, front first.
-fn read_tasks(body: &[u8], n: u8, main: u8, edition: u8, no_history: u8) -> Contents
+// The session that the body is of, if it can be read: exactly n tasks of height 1 to 32, front first.
+fn read_tasks(body: &[u8], n: u8, main: u8, edition: u8, no_history: u8) -> Option<Session>
     requires { n ≤ most_tasks }
     ensures { result ≡ contents_of (read_tasks n body.now) main edition no_history }
 {
     let mut s = Session::fresh();
     let mut at: usize = 0;
-    let mut i: u8 = 0;
-    while i < n {
+    for i in 0..n as usize {
         if body.len() - at < 2 {
-            return unreadable();
+            return None;
         }
         let height = body[at + 1];
-        let h = wide(height);
+        let h = height as usize;
         let left = body.len() - at - 2;
         let fits = (1 <= h) & ((h <= Session::SCREENS) & (h <= left));
         if !fits {
-            return unreadable();
+            return None;
         }
-        let place = i as usize;
-        s.tasks[place] = read_task(body, at, height);
+        s.tasks[i] = read_task(body, at, height);
         at += 2 + h;
-        i += 1;
     }
     if at != body.len() {
-        return unreadable();
+        return None;
     }
     s.n = n;
     s.main = main;
     s.edition = edition;
     s.no_history = no_history;
-    Contents {
-        readable: true,
-        session: s,
-    }
+    Some(s)
 }
 
-// Reads an image: n tasks, 16 at most, the main place, the edition and the No-History mark.
-pub fn read(image: &[u8]) -> Contents
+// Reads an image, if it can be read: n tasks, 16 at most, the main place, the edition and the No-History mark.
+pub fn read(image: &[u8]) -> Option<Session>
     requires { image_shaped image.now ≡ true }
     ensures { result ≡ read_stored image.now }
 {
@@ -219,8 +180,10 @@ pub fn read(image: &[u8]) -> Contents
     let main = image[end + 3] % 128;
     let no_history = image[end + 3] / 128;
     let edition = image[end + 4];
-    if wide(n) > Session::TASKS {
-        return unreadable();
+    let few = n as usize <= Session::TASKS;
+    if few {
+        read_tasks(&image[..end], n, main, edition, no_history)
+    } else {
+        None
     }
-    read_tasks(&image[..end], n, main, edition, no_history)
 }

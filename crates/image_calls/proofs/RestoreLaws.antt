@@ -16,9 +16,11 @@ use Rattle.session.specs.declared.Session.{Session}
 use Rattle.session.specs.Stored.{view, hold, Ready}
 use Rattle.session.proofs.StoredLaws.{view-hold}
 use Rattle.calls.specs.declared.Reply.{Reply}
-use Rattle.calls.specs.StoredCalls.{reply, shared_refusal, call_stored, KeepsSound}
+use Rattle.checks.specs.Shared.{shared_refusal}
+use Rattle.calls.specs.StoredCalls.{reply, call_stored, KeepsSound}
 use Rattle.image_calls.specs.Restores.{Accepted, AcceptsImages, BringsBack, SavesAgain}
-use Rattle.calls.proofs.Settling.{shared-ready, call-refused, call_settled, call-keeps, own-accepted}
+use Rattle.checks.proofs.SharedLaws.{shared-ready}
+use Rattle.calls.proofs.Settling.{call-refused, call_settled, call-keeps, own-accepted}
 
 -- an answer names the refusal
 settled-refusal : (n : ℕ) (c d : Session) (v : State ℕ) (x : ℕ) → (settle reply n c d (with_closed x (look_at v))).answer.refusal ≡ n

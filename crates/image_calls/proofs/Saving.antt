@@ -18,9 +18,11 @@ use Rattle.session.specs.Stored.{view, sound_stored, Ready}
 use Rattle.session.proofs.Known.{Sized}
 use Rattle.session.proofs.StoredLaws.{held, sound-blank, sound-view}
 use Rattle.image_calls.specs.declared.SaveReply.{SaveReply}
-use Rattle.calls.specs.StoredCalls.{reply, shared_refusal}
+use Rattle.checks.specs.Shared.{shared_refusal}
+use Rattle.calls.specs.StoredCalls.{reply}
 use Rattle.image_calls.specs.StoredSaves.{saved, save_stored, BroughtBack, NoOtherHas}
-use Rattle.calls.proofs.Settling.{checks-ready, call_settled}
+use Rattle.checks.proofs.SharedLaws.{checks-ready}
+use Rattle.calls.proofs.Settling.{call_settled}
 
 abbrev refused_save : ℕ → List ℕ → Saved
 refused_save k d = record { refusal = k; length = 0; buffer = d }

@@ -1,11 +1,17 @@
 -- Demand 2 of document 00: "Restore, under a good table and from a sound present session, accepts exactly the images of
 -- sound sessions and brings that session back."
-use Rattle.std.specs.Prelude.{ℕ, ◌≡◌, ◌↔◌, true, List}
+use Rattle.std.specs.Prelude.{ℕ, ◌≡◌, ◌↔◌, true, List, Result}
+use Rattle.model.specs.Refusals.{refusal, unless}
 use Rattle.model.specs.Session.{State, sound}
-use Rattle.model.specs.Image.{image}
+use Rattle.model.specs.Image.{image, image_checks, session_in}
 use Rattle.session.specs.declared.Session.{Session}
 use Rattle.session.specs.Stored.{view, hold, Ready}
+use Rattle.starts.specs.Steps.{or_else}
 use Rattle.calls.specs.declared.Reply.{Reply}
+
+-- what a restore brings: refused by k, the refusal of the checks before its own, or by 5, 6 or 7, or the session of the image
+abbrev pub restored_stored : ℕ → List ℕ → List ℕ → Result Session ℕ
+restored_stored k tb bytes = unless (or_else k (refusal (image_checks tb bytes))) (hold (session_in bytes))
 
 -- the call was not refused
 abbrev pub Accepted : Reply → Type 0

@@ -1,70 +1,52 @@
-// Save, on a sound session under a good table; and restore, on any session under any table, with the refusal of the checks that
-// all calls share.
+// Save, on a sound session under a good table; and restore, on any session under any table, by what the checks that all calls share
+// say of it.
 #![tactic(auto)]
 
-ghost use Rattle.std.specs.Prelude.{◌≡◌, if◌then◌else◌};
-ghost use Rattle.model.specs.Answers.{look_at, answer_by};
+ghost use Rattle.std.specs.Prelude.{◌≡◌};
 ghost use Rattle.model.specs.Calls.{Call};
-ghost use Rattle.model.specs.Table.{table_refusal};
-ghost use Rattle.session.specs.Stored.{view, sound_stored, Ready};
-ghost use Rattle.answer.specs.Seen.{Seen};
-ghost use Rattle.calls.specs.StoredCalls.{shared_refusal, call_stored};
+ghost use Rattle.model.specs.Refusals.{refusal_in, numbered};
+ghost use Rattle.session.specs.Stored.{Ready};
+ghost use Rattle.calls.specs.StoredCalls.{call_stored};
+ghost use Rattle.image_calls.specs.Restores.{restored_stored};
 ghost use Rattle.image_calls.specs.StoredSaves.{saved, save_stored};
 
 use calls::Reply;
-use model::Answer;
+use checks::Checked;
+use model::Refusal;
 use session::Session;
 
-// The answer of a call that left this session: refused by this number, or by 0 accepted.
-fn told(refusal: u8, s: Session) -> Answer
-    requires { refusal ≡ 0 → Seen s }
-    ensures { result ≡ answer_by refusal (look_at (view s)) }
+// What a restore brings: the session read from a whole image, refused by the checks before its own, 5 where the bytes do not end as
+// an image does, 6 where no session can be read, or 7 where it is not sound.
+fn restored(on: &Checked<'_>, image: &[u8]) -> Result<Session, Refusal>
+    ensures { numbered result ≡ restored_stored (refusal_in on.now.refused) on.now.table.now image.now }
 {
-    if refusal != 0 {
-        return answer::refused(refusal);
+    on.refused?;
+    if !image::shaped(image) {
+        return Err(Refusal::ImageEnd);
     }
-    answer::look_at(s)
+    let Some(session) = image::read(image) else {
+        return Err(Refusal::ImageTasks);
+    };
+    if !soundness::sound(on.table, session) {
+        return Err(Refusal::ImageUnsound);
+    }
+    Ok(session)
 }
 
-// The refusal of what was read from an image: 6 where it could not be read, 7 where it is not sound, or 0.
-fn image_refusal(table: &[u8], readable: bool, restored: Session) -> u8
-    requires { table_refusal table.now ≡ 0 }
-    ensures { result ≡ (if readable then (if sound_stored table.now restored then 0 else 7) else 6) }
+// Restore: the session read from a whole image.
+pub fn restore(on: &Checked<'_>, image: &[u8]) -> Reply
+    ensures { result ≡ call_stored on.now.table.now on.now.session.now (Call.restore image.now) }
 {
-    if !readable {
-        return 6;
-    }
-    if !soundness::sound(table, restored) {
-        return 7;
-    }
-    0
-}
-
-// Restore: the session read from a whole image; shared is the refusal of the shared checks.
-pub fn restore(table: &[u8], s: Session, image: &[u8], shared: u8) -> Reply
-    requires { shared ≡ shared_refusal table.now s }
-    ensures { result ≡ call_stored table.now s (Call.restore image.now) }
-{
-    let mut out = s;
-    let mut refusal = shared;
-    if refusal == 0 {
-        refusal = 5;
-        if image::shaped(image) {
-            let read = image::read(image);
-            let restored = read.session;
-            refusal = image_refusal(table, read.readable, restored);
-            if refusal == 0 {
-                out = restored;
-            }
-        }
-    }
-    Reply {
-        session: out,
-        answer: told(refusal, out),
+    match restored(on, image) {
+        Ok(session) => Reply {
+            session: session,
+            answer: answer::look_at(session),
+        },
+        Err(refusal) => calls::refuse(*on.session, refusal),
     }
 }
 
-// What a save gives: its refusal, or 0 and the length of the image.
+// What a save gives: its refusal, or 0 and the length of the image. A number: the C interface has a byte there.
 #[repr(C)]
 #[derive(Clone, Copy)]
 pub struct SaveReply {
@@ -72,7 +54,7 @@ pub struct SaveReply {
     pub length: usize,
 }
 
-// A refused save: its number and length 0.
+// A refused save: its number, as the reply has it, and length 0.
 pub fn refuse_save(refusal: u8) -> SaveReply
     ensures { result ≡ record { refusal = refusal; length = 0 } }
 {
@@ -82,13 +64,14 @@ pub fn refuse_save(refusal: u8) -> SaveReply
     }
 }
 
-// Save: the image at the start of a buffer that is not shorter. The table is there for the contract.
+// Save: the image at the start of a buffer that is not shorter. The table is there for the contract, whose one clause is what
+// `checks::passed` asks: a `Checked` made by the caller is no shorter.
 pub fn save(table: &[u8], s: Session, out: &mut [u8]) -> SaveReply
     requires { Ready table.now s }
     ensures { saved result out.new ≡ save_stored table.now s out.old }
 {
     if out.len() < image::length(s) {
-        return refuse_save(8);
+        return refuse_save(Refusal::BufferShort.number());
     }
     SaveReply {
         refusal: 0,

@@ -7,10 +7,14 @@ use native.Mathlib.Omega.{arith}
 use lib.ListN.{length, take, drop, length-drop}
 use lib.Seq.{take_all}
 use borrow.Author.Tests.{le-leb, lt-leb}
+use Rattle.std.specs.Prelude.{Result, Ok}
 use borrow.Rule.Slice.PartMut.{mid_of}
 use Rattle.model.specs.Table.{size_of}
 use Rattle.model.specs.Session.{fresh}
 use Rattle.model.specs.Player.{text_of, starts_with_table, table_in, record_bytes, player_text, longest_line}
+use Rattle.table.specs.declared.NoTable.{NoTable}
+use Rattle.table.specs.Beginnings.{beginning_of}
+use Rattle.table.proofs.BeginningLaws.{told}
 use Rattle.play.specs.Fitting.{fitting}
 use Rattle.play.proofs.BlockLaws.{fitting-all}
 use Rattle.input.specs.Texts.{stop_line, stop_written, fitting_text, Roomy}
@@ -40,6 +44,10 @@ module _ (input out : List ℕ) where
   text-whole h = rw (fitting-all (record_bytes input) out h.lines, le-leb longest_line (length out) h.stop)
 
 -- ---- the parts that are lent
+
+-- the table stands in the input
+pub within : {n : ℕ} {b : Result ℕ NoTable} (l : List ℕ) → b ≡ beginning_of l → b ≡ Ok n → n ≤ length l
+within {n} l e f = let k = told l (Ok n) e f in omega arith
 
 module _ (l : List ℕ) (n : ℕ) (e : n ≡ 2 + 2 * size_of l) where
   pub table-part : take n l ≡ table_in l

@@ -1,6 +1,8 @@
 // The calls for programs in C and Rust. A slice is a pointer and a length there; a session or a tally that a call may change
 // is lent, and the call writes the new one there. Nothing is decided here: each call is the one of `navigator`, `fronts`,
-// `recording`, `loads`, `tally`, `container` or `flag_chart`, by value, and its session, tally or container is stored.
+// `recording`, `loads`, `tally`, `container` or `flag_chart`, by value, and its session, tally or container is stored. A tally and a
+// container are stored where the call is accepted: a refused one leaves them. None is generic: document 01 names the form of each, and
+// C needs a function for each.
 #![tactic(auto)]
 
 ghost use Rattle.std.specs.Prelude.{◌≡◌, ◌↔◌, true, false, take};
@@ -263,9 +265,13 @@ pub extern "C" fn milchkompass_tally_add(t: &mut Tally, refusal: u8, height: u8)
     ensures known { KnowsTallies }
     ensures joined { TalliesJoin }
 {
-    let added = Tally::add(*t, refusal, height);
-    *t = added.tally;
-    added.refusal
+    match t.add(refusal, height) {
+        Ok(next) => {
+            *t = next;
+            0
+        }
+        Err(r) => r.number(),
+    }
 }
 
 // The report of a tally: its numbers, or 31 and zeros for a tally that no list of answers gives.
@@ -293,9 +299,13 @@ pub extern "C" fn milchkompass_container_step(
     ensures stores { c.new ≡ (called (step_of recorded operations.now) c.old).container }
     ensures promise { KeepsPromise }
 {
-    let reply = Container::step(*c, recorded, operations);
-    *c = reply.container;
-    reply.refusal
+    match c.step(recorded, operations) {
+        Ok(next) => {
+            *c = next;
+            0
+        }
+        Err(r) => r.number(),
+    }
 }
 
 // Back in that container: undoes the last recorded step.
@@ -306,9 +316,13 @@ pub extern "C" fn milchkompass_container_back(c: &mut Container) -> u8
     ensures undoes { BackRestores }
     ensures promise { KeepsPromise }
 {
-    let reply = Container::back(*c);
-    *c = reply.container;
-    reply.refusal
+    match c.back() {
+        Ok(next) => {
+            *c = next;
+            0
+        }
+        Err(r) => r.number(),
+    }
 }
 
 // The container after a list of steps and Backs, from an empty one.

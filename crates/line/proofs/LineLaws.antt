@@ -1,6 +1,6 @@
 -- The text of a line, number by number: each is one to three digits and the byte behind it.
 use Prim.Native.Nat.{ℕ, ◌*◌, ◌/◌, ◌%◌, ◌≤◌, ◌<◌}
-use mathlib.Core.Path.{◌≡◌, refl, ◌∙◌, ap}
+use mathlib.Core.Path.{◌≡◌}
 use mathlib.Core.List.{List, [], ◌∷◌, ◌++◌, append_assoc}
 use native.Mathlib.Omega.{arith}
 use lib.Dec.{ltb}
@@ -10,7 +10,6 @@ use borrow.Author.Tests.{lt-ltb, le-ltb}
 use Rattle.model.specs.Player.{digit, space, newline, decimal, line_text}
 use Rattle.model.proofs.Logic.{if-elim}
 use Rattle.model.proofs.WrittenLaws.{Wrote, wrote-append}
-use Rattle.line.specs.Spaced.{spaced}
 
 -- ---- a number
 
@@ -52,26 +51,12 @@ text-length n (k ∷ ns) =
     let ih = text-length k ns in
     omega (arith, length-append (decimal n) (space ∷ line_text (k ∷ ns)))
 
--- a number and the space behind it, then the others
-pub spaced-cons : (n : ℕ) (ns : List ℕ) {d d' d'' : List ℕ} {at m r : ℕ}
-    → Wrote d at (decimal n ++ space ∷ []) d' m → m ≤ length d → Wrote d' m (spaced ns) d'' r → Wrote d at (spaced (n ∷ ns)) d'' r
-spaced-cons n ns v fits w = rw append_snoc at (wrote-append v fits w)
-
--- numbers that others follow, then the rest of the line
-pub line-spaced : (ns : List ℕ) (k : ℕ) (ks : List ℕ) {d d' d'' : List ℕ} {at m r : ℕ}
-    → Wrote d at (spaced ns) d' m → m ≤ length d → Wrote d' m (line_text (k ∷ ks)) d'' r → Wrote d at (line_text (ns ++ k ∷ ks)) d'' r
+-- a number and the space behind it, then the rest of the line
+pub line-next : (n k : ℕ) (ks : List ℕ) {d d' d'' : List ℕ} {at m r : ℕ}
+    → Wrote d at (decimal n ++ space ∷ []) d' m → m ≤ length d → Wrote d' m (line_text (k ∷ ks)) d'' r
+    → Wrote d at (line_text (n ∷ k ∷ ks)) d'' r
 unfolding line_text
-line-spaced ns k ks v fits w = rw (joined ns) at (wrote-append v fits w)
-  where
-    more : (n : ℕ) (l : List ℕ) → 1 ≤ length l → decimal n ++ space ∷ line_text l ≡ line_text (n ∷ l)
-    more n [] h = absurd (omega arith)
-    more n (j ∷ l) h = refl
-
-    joined : (ms : List ℕ) → spaced ms ++ line_text (k ∷ ks) ≡ line_text (ms ++ k ∷ ks)
-    joined [] = refl
-    joined (m ∷ ms) =
-        append_assoc (decimal m) (space ∷ spaced ms) (line_text (k ∷ ks)) ∙ ap (λ (l : List ℕ). decimal m ++ space ∷ l) (joined ms)
-        ∙ more m (ms ++ k ∷ ks) (omega (arith, length-append ms (k ∷ ks)))
+line-next n k ks v fits w = rw append_snoc at (wrote-append v fits w)
 
 -- its last number and the newline
 pub line-end : (n : ℕ) {d d' : List ℕ} {at r : ℕ}

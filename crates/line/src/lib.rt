@@ -1,10 +1,10 @@
-// Text, numbers and the player's line, byte for byte, into a lent buffer.
+// Text, numbers and the player's line, byte for byte, into a lent buffer. The buffer and the place go as a pair: with a struct of both
+// a writer's caller does not know that the buffer keeps its length, and its goals did not close.
 #![tactic(auto)]
 
 ghost use Rattle.std.specs.Prelude.{◌+◌, ◌≤◌, ◌≡◌, [], ◌∷◌, ◌++◌, length};
 ghost use Rattle.model.specs.Player.{decimal, line_of, longest_line};
 ghost use Rattle.model.specs.Written.{written};
-ghost use Rattle.line.specs.Spaced.{spaced};
 
 use model::Answer;
 
@@ -44,31 +44,25 @@ pub fn write_decimal(out: &mut [u8], at: usize, x: u8, end: u8) -> usize
     at + 4
 }
 
-// Writes four numbers, with a space behind each. Yields the place after them.
-fn write_four(out: &mut [u8], at: usize, a: u8, b: u8, c: u8, d: u8) -> usize
-    requires { at + 16 ≤ length out.old }
-    ensures place { result ≡ at + length (spaced (a ∷ b ∷ c ∷ d ∷ [])) }
-    ensures text { out.new ≡ written out.old at (spaced (a ∷ b ∷ c ∷ d ∷ [])) }
-    ensures bound { result ≤ at + 16 }
-{
-    let second = write_decimal(out, at, a, b' ');
-    let third = write_decimal(out, second, b, b' ');
-    let fourth = write_decimal(out, third, c, b' ');
-    write_decimal(out, fourth, d, b' ')
-}
-
 // The longest line: the kind and the numbers of an answer, each of at most three digits and what ends it.
 pub const LONGEST: usize = 4 * (1 + Answer::NUMBERS);
 
-// Writes the line of a record: its kind, then the answer. Yields the place after it.
+// Writes the line of a record: its kind, then the answer. Yields the place after it. A loop over the ten numbers takes twice as
+// many instructions.
 pub fn write_line(out: &mut [u8], at: usize, kind: u8, a: Answer) -> usize
     requires { at + longest_line ≤ length out.old }
     ensures place { result ≡ at + length (line_of kind a) }
     ensures text { out.new ≡ written out.old at (line_of kind a) }
     ensures bound { result ≤ at + longest_line }
 {
-    let height = write_four(out, at, kind, a.refusal, a.screen, a.root);
-    let edition = write_four(out, height, a.height, a.tasks, a.main, a.closed);
-    let no_history = write_decimal(out, edition, a.edition, b' ');
-    write_decimal(out, no_history, a.no_history, b'\n')
+    let at = write_decimal(out, at, kind, b' ');
+    let at = write_decimal(out, at, a.refusal, b' ');
+    let at = write_decimal(out, at, a.screen, b' ');
+    let at = write_decimal(out, at, a.root, b' ');
+    let at = write_decimal(out, at, a.height, b' ');
+    let at = write_decimal(out, at, a.tasks, b' ');
+    let at = write_decimal(out, at, a.main, b' ');
+    let at = write_decimal(out, at, a.closed, b' ');
+    let at = write_decimal(out, at, a.edition, b' ');
+    write_decimal(out, at, a.no_history, b'\n')
 }

@@ -1,23 +1,21 @@
 -- The numbers that the arguments of `load` are, and those that it prints.
-use Rattle.std.specs.Prelude.{ℕ, ◌+◌, ◌-◌, ◌*◌, List, [], ◌∷◌, ltb, if◌then◌else◌}
-use Rattle.load_files.specs.declared.Number.{Number}
-use Rattle.load_files.specs.declared.Number.TheVariants.{Is, Nothing}
+use Rattle.std.specs.Prelude.{ℕ, ◌+◌, ◌-◌, ◌*◌, List, [], ◌∷◌, ltb, if◌then◌else◌, Option, Some, None}
 
 -- no number of records is above it
 abbrev pub most_asked : ℕ
 most_asked = 1000000000000
 
 -- the number v with these digits behind it
-unfoldable pub number_from : ℕ → List ℕ → Number
-number_from v [] = Is v
+unfoldable pub number_from : ℕ → List ℕ → Option ℕ
+number_from v [] = Some v
 number_from v (x ∷ xs) =
-    if ltb x 48 then Nothing else
-    if ltb 57 x then Nothing else
-    if ltb most_asked (10 * v + (x - 48)) then Nothing else number_from (10 * v + (x - 48)) xs
+    if ltb x 48 then None else
+    if ltb 57 x then None else
+    if ltb most_asked (10 * v + (x - 48)) then None else number_from (10 * v + (x - 48)) xs
 
 -- what a text stands for in base ten; one without a digit for nothing
-unfoldable pub number_in : List ℕ → Number
-number_in [] = Nothing
+unfoldable pub number_in : List ℕ → Option ℕ
+number_in [] = None
 number_in (x ∷ xs) = number_from 0 (x ∷ xs)
 
 -- the character that stands in hex for a number below 16

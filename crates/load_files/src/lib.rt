@@ -4,7 +4,7 @@
 
 #![tactic(auto)]
 
-ghost use Rattle.std.specs.Prelude.{◌<◌, ◌/◌, ◌%◌, ◌^◌, ◌*◌, ◌≡◌, true, false, length};
+ghost use Rattle.std.specs.Prelude.{◌<◌, ◌/◌, ◌%◌, ◌^◌, ◌*◌, ◌≡◌, false, true, length, IfSome, IsSome};
 ghost use Rattle.reading.specs.Blocks.{most_records};
 ghost use Rattle.loads.specs.Generator.{state_after};
 ghost use Rattle.loads.specs.Loads.{load_refusal};
@@ -21,13 +21,6 @@ use std::rt::Env;
 // The most records of a load.
 const MOST: u64 = 1000000000000;
 
-// What a text stands for: a number up to the most, or none of these.
-#[derive(Clone, Copy)]
-pub enum Number {
-    Is(u64),
-    Nothing,
-}
-
 // What is written of a load: table and records, the records alone, or the last state alone.
 #[derive(Clone, Copy)]
 pub enum Part {
@@ -36,78 +29,55 @@ pub enum Part {
     State,
 }
 
-// The part that is asked for, or none that is known.
-#[derive(Clone, Copy)]
-enum Asked {
-    For(Part),
-    Nothing,
-}
-
-fn wide(x: u8) -> u64
-    ensures { result ≡ x }
-{
-    x as u64
-}
-
-// The number up to the most that digits in base ten stand for.
-fn number_in(text: &[u8]) -> Number
+// The number up to the most that digits in base ten stand for. Not by `parse`, which takes a sign too.
+fn number_in(text: &[u8]) -> Option<u64>
     ensures { result ≡ number_in text.now }
 {
-    if text.len() == 0 {
-        return Number::Nothing;
+    if text.is_empty() {
+        return None;
     }
     let mut value: u64 = 0;
-    let mut i: usize = 0;
-    while i < text.len() {
-        let digit = text[i];
-        if digit < 48 {
-            return Number::Nothing;
-        }
-        if digit > 57 {
-            return Number::Nothing;
-        }
-        value = 10 * value + wide(digit - 48);
+    for byte in text {
+        let digit = match byte {
+            b'0'..=b'9' => byte - b'0',
+            _ => return None,
+        };
+        value = 10 * value + u64::from(digit);
         if value > MOST {
-            return Number::Nothing;
+            return None;
         }
-        i += 1;
     }
-    Number::Is(value)
+    Some(value)
 }
 
 // The number that an argument is.
-fn number_asked(rt: &impl Env, place: usize) -> Number {
+fn number_asked(rt: &impl Env, place: usize) -> Option<u64> {
     let mut text = [0u8; 4096];
     let n = rt.arg(place, &mut text).unwrap_or(0);
     number_in(&text[..n])
 }
 
 // The part that the third argument names; the whole where there is none.
-fn part_asked(rt: &impl Env) -> Asked {
+fn part_asked(rt: &impl Env) -> Option<Part> {
     if !reading::has_argument(rt, 3) {
-        return Asked::For(Part::Whole);
+        return Some(Part::Whole);
     }
     let mut word = [0u8; 4096];
     let n = rt.arg(3, &mut word).unwrap_or(0);
-    if &word[..n] == b"--records".as_slice() {
-        return Asked::For(Part::Records);
+    match &word[..n] {
+        b"--records" => Some(Part::Records),
+        b"--state" => Some(Part::State),
+        _ => None,
     }
-    if &word[..n] == b"--state".as_slice() {
-        return Asked::For(Part::State);
-    }
-    Asked::Nothing
 }
 
 // ---- blocks
 
-// How many records of those that are left the next block has.
+// How many records of those that are left the next block has. By casts: `u64` and `usize` have no `From` to each other.
 fn block_of(left: u64) -> usize
     ensures { result ≡ block_of left }
 {
-    if left < (RECORDS as u64) {
-        return left as usize;
-    }
-    RECORDS
+    left.min(RECORDS as u64) as usize
 }
 
 // Makes the next block of the records that are left, at the start of the buffer.
@@ -120,49 +90,39 @@ fn make_block(table: &[u8], state: u32, left: u64, buffer: &mut [u8]) -> LoadRep
     loads::load(table, state, &mut buffer[..end])
 }
 
-// Writes a block where that is asked for, and yields whether the load goes on.
+// Writes a block where that is asked for, and yields whether the load goes on. Asked by a flag: where it is not, none fails.
 fn give(rt: &(impl Print + Eprint), writes: bool, block: &[u8]) -> bool
     ensures { writes ≡ false → result ≡ true }
 {
-    if !writes {
-        return true;
-    }
-    reading::print(rt, block)
-}
-
-// What a load came to: whether all of it was made, and the state after its last block.
-#[derive(Clone, Copy)]
-struct Ran {
-    done: bool,
-    state: u32,
+    !writes || reading::print(rt, block)
 }
 
 // Makes so many records, block after block, each from the state after the one before, and writes them where that is asked for.
-fn run(rt: &(impl Print + Eprint), table: &[u8], seed: u32, records: u64, writes: bool) -> Ran
+// Yields the last state, where all of it was made. In a `while`: each block says how many of the records it has.
+fn run(
+    rt: &(impl Print + Eprint),
+    table: &[u8],
+    seed: u32,
+    records: u64,
+    writes: bool,
+) -> Option<u32>
     requires { load_refusal table.now seed ≡ 0 }
-    ensures done { writes ≡ false → result.done ≡ true }
-    ensures last { result.done ≡ true → result.state ≡ state_after seed records }
+    ensures done { writes ≡ false → IsSome result }
+    ensures last { IfSome result (λ state. state ≡ state_after seed records) }
 {
     let mut state = seed;
     let mut left = records;
     let mut buffer = [0u8; BLOCK];
     while left > 0 {
         let made = make_block(table, state, left, &mut buffer);
-        let count = made.count;
-        let end = records::LENGTH * count;
+        let end = records::LENGTH * made.count;
         if !give(rt, writes, &buffer[..end]) {
-            return Ran {
-                done: false,
-                state: made.state,
-            };
+            return None;
         }
         state = made.state;
-        left -= count as u64;
+        left -= made.count as u64;
     }
-    Ran {
-        done: true,
-        state: state,
-    }
+    Some(state)
 }
 
 // The state after so many records.
@@ -170,11 +130,11 @@ fn last_state(rt: &(impl Print + Eprint), table: &[u8], seed: u32, records: u64)
     requires { load_refusal table.now seed ≡ 0 }
     ensures { result ≡ state_after seed records }
 {
-    let ran = run(rt, table, seed, records, false);
-    ran.state
+    run(rt, table, seed, records, false).unwrap()
 }
 
-// The digit of a state in hex at a place, counted from its last.
+// The digit of a state in hex at a place, counted from its last. By hand: `hex_digit` and the wrong version of its letters stay. It is
+// below 16, and `From` does not narrow.
 fn digit(state: u32, place: u32) -> u8
     requires { place < 8 }
     ensures { result ≡ hex_digit (state / 2 ^ (4 * place) % 16) }
@@ -188,6 +148,7 @@ fn digit(state: u32, place: u32) -> u8
 
 // Prints a state in hex.
 fn print_state(rt: &(impl Print + Eprint), state: u32) {
+    // One by one: by `map` over the places, the goal that each is below 8 did not close.
     let line = [
         digit(state, 7),
         digit(state, 6),
@@ -198,11 +159,7 @@ fn print_state(rt: &(impl Print + Eprint), state: u32) {
         digit(state, 1),
         digit(state, 0),
     ];
-    if reading::print(rt, b"0x") {
-        if reading::print(rt, &line) {
-            reading::print(rt, b"\n");
-        }
-    }
+    let _ = reading::print(rt, b"0x") && reading::print(rt, &line) && reading::print(rt, b"\n");
 }
 
 // Writes the part of a load that is asked for.
@@ -239,9 +196,8 @@ pub fn load_from<R: Read>(
         return;
     }
     let got = read.count;
-    let refusal = loads::refusal(&buffer[..got], seed);
-    if refusal != 0 {
-        let _ = eprintln!(rt; "load refused: {refusal}");
+    if let Err(refusal) = loads::check(&buffer[..got], seed) {
+        let _ = eprintln!(rt; "load refused: {}", refusal.number());
         return;
     }
     write_part(rt, &buffer[..got], seed, records, part);
@@ -253,18 +209,16 @@ pub fn load_asked<R: Read>(rt: &(impl Env + Print + Eprint), from: &mut R) -> bo
     if reading::has_argument(rt, 4) {
         return false;
     }
-    let Number::Is(seed) = number_asked(rt, 1) else {
+    let (Some(seed), Some(records), Some(part)) = (
+        number_asked(rt, 1),
+        number_asked(rt, 2),
+        part_asked(rt),
+    ) else {
         return false;
     };
-    if seed > 4294967295 {
-        return false;
-    }
-    let Number::Is(records) = number_asked(rt, 2) else {
+    let Ok(seed) = u32::try_from(seed) else {
         return false;
     };
-    let Asked::For(part) = part_asked(rt) else {
-        return false;
-    };
-    load_from(rt, from, seed as u32, records, part);
+    load_from(rt, from, seed, records, part);
     true
 }

@@ -12,10 +12,13 @@ use Rattle.model.specs.Table.{size_of, table_checks, table_refusal}
 use Rattle.model.proofs.RefusalLaws.{refusal-applies, refusal-passes, refusal-append-refused, refusal-append-passed}
 use Rattle.model.proofs.WrittenLaws.{written_start}
 use Rattle.loads.specs.Generator.{records_from}
-use Rattle.loads.specs.Loads.{seed_checks, seed_refusal, load_refusal, loaded, refused_load, fitting, filled, settle_load, load_of}
+use Rattle.loads.specs.Loads.{seed_checks, load_refusal, loaded, refused_load, fitting, filled, settle_load, load_of}
 use Rattle.loads.proofs.GeneratorLaws.{records-length}
 
 -- ---- its refusal
+
+abbrev seed_refusal : ℕ → ℕ
+seed_refusal seed = refusal (seed_checks seed)
 
 module _ (seed : ℕ) where
   pub seed-refused : seed ≡ 0 → 32 ≡ seed_refusal seed

@@ -9,9 +9,6 @@ use Rattle.loads.specs.Generator.{records_from, state_after}
 abbrev pub seed_checks : ℕ → List Check
 seed_checks seed = check 32 (eqb seed 0) ∷ []
 
-abbrev pub seed_refusal : ℕ → ℕ
-seed_refusal seed = refusal (seed_checks seed)
-
 -- "after 1 and 2"
 abbrev pub load_refusal : List ℕ → ℕ → ℕ
 load_refusal tb seed = refusal (table_checks tb ++ seed_checks seed)

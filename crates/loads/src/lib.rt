@@ -2,15 +2,19 @@
 #![tactic(auto)]
 
 ghost use Rattle.std.specs.Prelude.{◌+◌, ◌*◌, ◌≤◌, ◌≡◌, length};
+ghost use Rattle.model.specs.Refusals.{refusal_number, refusal_in};
 ghost use Rattle.model.specs.Written.{written};
 ghost use Rattle.loads.specs.Generator.{step, next, record_from, records_from, state_after};
-ghost use Rattle.loads.specs.Loads.{seed_refusal, load_refusal, loaded, refused_load, load_of};
+ghost use Rattle.loads.specs.Loads.{load_refusal, loaded, refused_load, load_of};
 ghost use Rattle.loads.specs.Promises.{GoesOn, NoneDraws};
+
+use model::Refusal;
 
 // What a step xors where the bit that it drops was 1.
 const FEEDBACK: u32 = 0x80200003;
 
-// What a load gives beside the bytes: its refusal, 0 if none, the state after the last record, and how many were made.
+// What a load gives beside the bytes: its refusal, 0 if none, the state after the last record, and how many were made. The refusal is a
+// number: the C interface has a byte there.
 #[repr(C)]
 #[derive(Clone, Copy)]
 pub struct LoadReply {
@@ -39,7 +43,7 @@ fn write_record(out: &mut [u8], at: usize, n: u8, state: u32) -> u32
     let second = step(first);
     let third = step(second);
     let kind = (first % 5 + 1) as u8;
-    let screen = (second % (n as u32)) as u8;
+    let screen = (second % u32::from(n)) as u8;
     records::write(out, at, kind, screen, third & flags::SEVEN);
     third
 }
@@ -51,41 +55,28 @@ fn fill(out: &mut [u8], count: usize, n: u8, seed: u32) -> u32
     ensures bytes { out.new ≡ written out.old 0 (records_from n seed count) }
 {
     let mut state = seed;
-    let mut i: usize = 0;
-    while i < count {
+    for i in 0..count {
         state = write_record(out, 6 * i, n, state);
-        i += 1;
     }
     state
 }
 
-// 32 for the seed 0.
-fn seed_refusal(seed: u32) -> u8
-    ensures { result ≡ seed_refusal seed }
+// Refuses a bad table, and then the seed 0.
+pub fn check(table: &[u8], seed: u32) -> Result<(), Refusal>
+    ensures { refusal_in result ≡ load_refusal table.now seed }
 {
+    table::check(table)?;
     if seed == 0 {
-        return 32;
+        return Err(Refusal::SeedZero);
     }
-    0
+    Ok(())
 }
 
-// The refusal of a load: 1 or 2 for its table, 32 for its seed, 0 if none.
-pub fn refusal(table: &[u8], seed: u32) -> u8
-    ensures { result ≡ load_refusal table.now seed }
-{
-    let of_table = table::refusal(table);
-    let of_seed = seed_refusal(seed);
-    if of_table != 0 {
-        return of_table;
-    }
-    of_seed
-}
-
-fn refuse(refusal: u8) -> LoadReply
-    ensures { result ≡ refused_load refusal }
+fn refuse(refusal: Refusal) -> LoadReply
+    ensures { result ≡ refused_load (refusal_number refusal) }
 {
     LoadReply {
-        refusal: refusal,
+        refusal: refusal.number(),
         state: 0,
         count: 0,
     }
@@ -97,15 +88,14 @@ pub fn load(table: &[u8], seed: u32, out: &mut [u8]) -> LoadReply
     ensures goes_on { GoesOn table.now seed (loaded result out.new) }
     ensures draws { NoneDraws table.now (loaded result out.new) }
 {
-    let refused = refusal(table, seed);
-    if refused != 0 {
-        return refuse(refused);
+    if let Err(refusal) = check(table, seed) {
+        return refuse(refusal);
     }
     let count = out.len() / records::LENGTH;
-    let last = fill(out, count, table::size(table), seed);
+    let state = fill(out, count, table::size(table), seed);
     LoadReply {
         refusal: 0,
-        state: last,
-        count: count,
+        state,
+        count,
     }
 }

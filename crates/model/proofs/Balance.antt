@@ -10,8 +10,8 @@ use lib.ListN.{length, take, drop, length-take, length-drop, length-append, take
 use borrow.Author.Tests.{not-false}
 use Rattle.model.specs.declared.Change.{Change}
 use Rattle.model.specs.declared.Effect.{Effect}
-use Rattle.model.specs.declared.Mark.{Mark}
-use Rattle.std.specs.Prelude.{if◌then◌else◌}
+use Rattle.model.specs.declared.Position.{Position}
+use Rattle.std.specs.Prelude.{if◌then◌else◌, Option, None, Some}
 use Rattle.model.specs.Lists.{is_empty, find, omit, sum_of}
 use Rattle.model.specs.Refusals.{refusal}
 use Rattle.model.specs.Table.{table_refusal}
@@ -23,7 +23,7 @@ use Rattle.model.specs.Counts.{created_in, created_by, closed_in, closed_by}
 use Rattle.model.specs.Answers.{outcome, settle}
 use Rattle.model.specs.Image.{Reading, unreadable, read_as, read_more, read_tasks, tasks_read, count_in, body_in, session_in}
 use Rattle.model.specs.Calls.{Call, launch, start, finishing_start, back, look, restore, chosen, effect_in, started, caller_closes, started_with, closed_with, launched, backed, own_checks, created_by_choice, closed_by_choice, closed_by_finish, created_of, closed_of, done, refusal_of, answer_to, call}
-use Rattle.model.specs.Marks.{closed_at}
+use Rattle.model.specs.Marks.{closed_at, stands_at}
 use Rattle.model.proofs.Marks.{close_at}
 use Rattle.model.proofs.MarkStands.{Stands}
 use Rattle.model.specs.Histories.{by_rules, IsNoRestore}
@@ -74,11 +74,11 @@ left-height : (xs : List ℕ) → (if is_empty xs then 0 else length xs) ≡ len
 left-height [] = refl
 left-height (x ∷ xs) = refl
 
-closed-standing : (k : Mark) (s : State ℕ) → Stands k s → standing (close_at k s) + closed_at k ≡ standing s
-closed-standing Mark.Gone s h = omega arith
-closed-standing (Mark.Stands k i) s h =
-    let xs = (task_at s.tasks (suc k)).screens in
-    omega (arith, close-measure height k i s h.0, left-height (omit i xs), omit-length i xs h.1)
+closed-standing : (k : Option Position) (s : State ℕ) → Stands k s → standing (close_at k s) + closed_at k ≡ standing s
+closed-standing None s h = omega arith
+closed-standing (Some p) s h =
+    let xs = (task_at s.tasks (suc p.behind)).screens in
+    omega (arith, close-measure height p.behind p.below s h.0, left-height (omit p.below xs), omit-length p.below xs h.1)
 
 -- ---- a call
 
@@ -119,7 +119,7 @@ module _ (tb : List ℕ) (s : State ℕ) (h : Sound tb s) where
       with-standing (caller_closes true s.no_history (chosen tb s b w).rule) b w (start-accepted tb s b w e).some
   done-standing back made e =
       let some = is_empty-length s.tasks (refusal-skip 20 (is_empty s.tasks) [] e).0 in
-      let k = closed-standing (Mark.Stands 0 0) s (some, (All-at (TaskSound tb) s.tasks 0 no_stack some h.each).filled) in
+      let k = closed-standing (stands_at 0 0) s (some, (All-at (TaskSound tb) s.tasks 0 no_stack some h.each).filled) in
       omega (arith, k)
   done-standing look made e = refl
   done-standing (restore bytes) made e = absurd made

@@ -10,7 +10,7 @@ use Rattle.model.specs.declared.Effect.{Effect}
 use Rattle.model.specs.declared.Flags.{Flags}
 use Rattle.model.specs.declared.Found.{Found}
 use Rattle.model.specs.declared.Group.{Group}
-use Rattle.model.specs.declared.Mark.{Mark}
+use Rattle.model.specs.declared.Position.{Position}
 use Rattle.model.specs.declared.Rule.{Rule}
 use Rattle.model.specs.Lists.{is_empty, first}
 use Rattle.model.specs.Refusals.{refusal}
@@ -27,13 +27,14 @@ use Rattle.model.proofs.Marks.{close_at}
 use Rattle.model.specs.Reasons.{how_found, reason_of}
 use Rattle.model.specs.Editions.{EditionSeeks, EditionKept, NamesNoEdition}
 use Rattle.model.proofs.Logic.{if-elim, first-elim, never, contradiction, and_left}
-use Rattle.model.proofs.SearchLaws.{Finds, seek-exact}
+use Rattle.model.proofs.SearchLaws.{found-cases, Finds, seek-exact}
 use Rattle.model.proofs.Sound.{Sound, sound-decides}
 use Rattle.model.proofs.Close.{close-emptied, close-kept}
 use Rattle.model.proofs.Start.{started_by, start-accepted}
 use Rattle.model.proofs.Finish.{mark_of, finished-by, with-sound}
 use Rattle.model.proofs.Keeps.{settled, call-sound}
 use Rattle.model.proofs.ImageLaws.{image_injective}
+use Rattle.std.specs.Prelude.{Option, None, Some}
 
 -- ---- how a task is sought
 
@@ -41,19 +42,18 @@ module _ (tb : List ℕ) (s : State ℕ) (b : ℕ) where
   abbrev Rooted : Type 0
   Rooted = seeks_by_root tb s.edition b ≡ true
 
-  abbrev Seeks : Rule → Found → Type 0
+  abbrev Seeks : Rule → Option Found → Type 0
   Seeks r t = EditionSeeks tb s b (reason_of (record { rule = r; found = t }))
 
   -- what is found by root was sought by root
-  by-root : (t : Found) → Finds tb s.edition b s.tasks t → how_found t ≡ 1 → Rooted
-  by-root Found.Nowhere h e = absurd (omega arith)
-  by-root (Found.ByRoot p) h e = h.0
-  by-root (Found.ByAffinity p) h e = absurd (omega arith)
+  by-root : (t : Option Found) → Finds tb s.edition b s.tasks t → how_found t ≡ 1 → Rooted
+  by-root =
+      found-cases (λ t. Finds tb s.edition b s.tasks t → how_found t ≡ 1 → Rooted) (λ h e. absurd (omega arith)) (λ p h e. h.0)
+      (λ p h e. absurd (omega arith))
 
-  is-by-root : (t : Found) → is_found_by_root t ≡ true → how_found t ≡ 1
-  is-by-root Found.Nowhere e = never (sym e)
-  is-by-root (Found.ByRoot p) e = refl
-  is-by-root (Found.ByAffinity p) e = never (sym e)
+  is-by-root : (t : Option Found) → is_found_by_root t ≡ true → how_found t ≡ 1
+  is-by-root None e = never (sym e)
+  is-by-root (Some f) e = rw e
 
   -- "except for single-instance screens, search is by affinity only"
   six-seeks : is_single_instance tb b ≡ false → is_single_task tb b ≡ false → s.edition ≡ 6 → seeks_by_root tb s.edition b ≡ false
@@ -61,10 +61,10 @@ module _ (tb : List ℕ) (s : State ℕ) (b : ℕ) where
   six-seeks i t e = rw (i, t, e)
 
   module _ (f : Flags) where
-    abbrev rule_in : Group → Found → Rule
+    abbrev rule_in : Group → Option Found → Rule
     rule_in g t = first Rule.R18 (fits tb s b f t) (rules_of g)
 
-    instance-seeks : (t : Found) → is_single_instance tb b ≡ true → Seeks (rule_in Group.Instance t) t
+    instance-seeks : (t : Option Found) → is_single_instance tb b ≡ true → Seeks (rule_in Group.Instance t) t
     unfolding rules_of fits seeks_by_root
     instance-seeks t i =
         record {
@@ -74,7 +74,7 @@ module _ (tb : List ℕ) (s : State ℕ) (b : ℕ) where
               (λ _ e. omega arith, λ _. (λ _ e. omega arith, λ _ e. omega arith));
         }
 
-    task-seeks : (t : Found) → Finds tb s.edition b s.tasks t → Seeks (rule_in Group.Task t) t
+    task-seeks : (t : Option Found) → Finds tb s.edition b s.tasks t → Seeks (rule_in Group.Task t) t
     unfolding rules_of fits
     task-seeks t h =
         record {
@@ -84,18 +84,18 @@ module _ (tb : List ℕ) (s : State ℕ) (b : ℕ) where
               (λ _ e. omega arith, λ _. (λ _ e. omega arith, λ _. (λ _ e. omega arith, λ _. (λ _ e. omega arith, λ _ e. omega arith))));
         }
 
-    near-seeks : Seeks (rule_in Group.NotApart Found.Nowhere) Found.Nowhere
+    near-seeks : Seeks (rule_in Group.NotApart None) None
     unfolding rules_of fits
     near-seeks =
         record {
           by_root = λ e. absurd (omega arith);
           never15 = λ _.
-              first-elim (λ r. number_of r ≡ 15 → ⊥) Rule.R18 (fits tb s b f Found.Nowhere) (rules_of Group.NotApart)
+              first-elim (λ r. number_of r ≡ 15 → ⊥) Rule.R18 (fits tb s b f None) (rules_of Group.NotApart)
               (λ _ e. omega arith, λ _. (λ _ e. omega arith, λ _. (λ _ e. omega arith, λ _. (λ _ e. omega arith, λ _ e. omega arith))));
         }
 
     -- R15 asks for a task that is found by root
-    apart-seeks : (t : Found) → is_single_instance tb b ≡ false → is_single_task tb b ≡ false → (how_found t ≡ 1 → Rooted)
+    apart-seeks : (t : Option Found) → is_single_instance tb b ≡ false → is_single_task tb b ≡ false → (how_found t ≡ 1 → Rooted)
         → Seeks (rule_in Group.Apart t) t
     unfolding rules_of fits
     apart-seeks t i k rooted =
@@ -123,7 +123,7 @@ module _ (tb : List ℕ) (s : State ℕ) (b : ℕ) where
     abbrev Chosen : Choice → Type 0
     Chosen c = EditionSeeks tb s b (reason_of c)
 
-    sought-by-both : (t : Found) → seek tb s.edition b s.tasks ≡ t → Finds tb s.edition b s.tasks t
+    sought-by-both : (t : Option Found) → seek tb s.edition b s.tasks ≡ t → Finds tb s.edition b s.tasks t
     sought-by-both t e = (seek-exact tb s.edition b s.tasks t).0 e
 
     choose-seeks : Chosen (choose tb s b f)
@@ -132,8 +132,8 @@ module _ (tb : List ℕ) (s : State ℕ) (b : ℕ) where
         if-elim (λ g. Chosen (choose_in tb s b f g)) (is_single_instance tb b) _ _ (λ i. instance-seeks (seek_root b s.tasks) i)
         (λ i. if-elim (λ g. Chosen (choose_in tb s b f g)) (is_single_task tb b) _ _ (λ _. task-seeks _ (sought-by-both _ refl))
         (λ k. if-elim (λ g. Chosen (choose_in tb s b f g)) (is_apart tb s b f) _ _
-        (λ _. if-elim (λ t. Seeks (rule_in Group.Apart t) t) f.mtk Found.Nowhere (seek tb s.edition b s.tasks)
-        (λ _. apart-seeks Found.Nowhere i k (λ e. absurd (omega arith)))
+        (λ _. if-elim (λ t. Seeks (rule_in Group.Apart t) t) f.mtk None (seek tb s.edition b s.tasks)
+        (λ _. apart-seeks None i k (λ e. absurd (omega arith)))
         (λ _. let t = seek tb s.edition b s.tasks in apart-seeks t i k (by-root t (sought-by-both t refl))))
         (λ _. near-seeks)))
 
@@ -160,9 +160,9 @@ closed-edition tb k i s h = go (is_empty (task_left (suc k) i s).screens) refl
     go true e = rw (close-emptied (suc k) i s e)
     go false e = same-edition tb s (close (suc k) i s) h (ap (λ (u : State ℕ). u.edition) (close-kept (suc k) i s e))
 
-close-at-edition : (tb : List ℕ) (k : Mark) (s : State ℕ) → Sound tb (close_at k s) → EditionKept s (close_at k s)
-close-at-edition tb Mark.Gone s h = same-edition tb s s h refl
-close-at-edition tb (Mark.Stands k i) s h = closed-edition tb k i s h
+close-at-edition : (tb : List ℕ) (k : Option Position) (s : State ℕ) → Sound tb (close_at k s) → EditionKept s (close_at k s)
+close-at-edition tb None s h = same-edition tb s s h refl
+close-at-edition tb (Some p) s h = closed-edition tb p.behind p.below s h
 
 module _ (tb : List ℕ) (ok : table_refusal tb ≡ 0) (s : State ℕ) (h : Sound tb s) where
   started-edition : (b w : ℕ) → (started_by (chosen tb s b w) b s).edition ≡ s.edition

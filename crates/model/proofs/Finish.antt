@@ -12,8 +12,8 @@ use Rattle.model.specs.declared.Change.{Change}
 use Rattle.model.specs.declared.Choice.{Choice}
 use Rattle.model.specs.declared.Effect.{Effect}
 use Rattle.model.specs.declared.Flags.{Flags}
-use Rattle.model.specs.declared.Mark.{Mark}
-use Rattle.std.specs.Prelude.{if◌then◌else◌}
+use Rattle.model.specs.declared.Position.{Position}
+use Rattle.std.specs.Prelude.{if◌then◌else◌, Option, None, Some}
 use Rattle.model.specs.Lists.{to_front}
 use Rattle.model.specs.Refusals.{refusal}
 use Rattle.model.specs.Session.{Stack, State, stack, on_screens, set_no_history, task_at, front, front_screen, count}
@@ -56,7 +56,7 @@ abbrev pub finished_by : Choice → ℕ → State ℕ → State ℕ
 finished_by c b s = finished_at (effect_in s c) (place_of c.found) b s
 
 -- where the front screen from before stands after the start
-abbrev pub mark_of : Choice → ℕ → State ℕ → Mark
+abbrev pub mark_of : Choice → ℕ → State ℕ → Option Position
 mark_of c b s = mark_after (effect_in s c) (place_of c.found) (eqb b (front_screen s))
 
 module _ (tb : List ℕ) (b : ℕ) (f : Flags) where
@@ -130,9 +130,9 @@ created-effect (Effect.MoveAnd c) = created-change c
 
 -- ---- soundness
 
-close-at-sound : (tb : List ℕ) (k : Mark) (s : State ℕ) → Sound tb s → Sound tb (close_at k s)
-close-at-sound tb Mark.Gone s h = h
-close-at-sound tb (Mark.Stands k i) s h = close-sound tb k i s h
+close-at-sound : (tb : List ℕ) (k : Option Position) (s : State ℕ) → Sound tb s → Sound tb (close_at k s)
+close-at-sound tb None s h = h
+close-at-sound tb (Some p) s h = close-sound tb p.behind p.below s h
 
 -- another mark, where it is one and a task stands
 marked-sound : (tb : List ℕ) (h : ℕ) (s : State ℕ) → Sound tb s → NoHistorySound (count s) h → Sound tb (set_no_history h s)

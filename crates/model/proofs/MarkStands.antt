@@ -11,22 +11,23 @@ use lib.ListN.{length, get_or, set, length-set}
 use borrow.Author.Tests.{lt-leb}
 use Rattle.model.specs.declared.Change.{Change}
 use Rattle.model.specs.declared.Effect.{Effect}
-use Rattle.model.specs.declared.Mark.{Mark}
+use Rattle.model.specs.declared.Position.{Position}
 use Rattle.model.specs.Lists.{is_empty, find, omit, put_second, to_front}
 use Rattle.model.specs.Session.{Stack, State, stack, no_stack, on_screens, on_tasks, set_no_history, height, count}
 use Rattle.model.specs.Search.{holds}
 use Rattle.model.specs.Effects.{move, changed, change_front, put_new, carry_out, without_task, task_left, close}
 use Rattle.model.specs.Counts.{created_in, created_by}
-use Rattle.model.specs.Marks.{mark_in, mark_after}
+use Rattle.model.specs.Marks.{mark_in, mark_after, stands_at}
 use Rattle.model.proofs.Logic.{if-elim}
 use Rattle.model.proofs.ListLaws.{to_front-length, on_first-length}
 use Rattle.model.proofs.Sessions.{with_tasks}
 use Rattle.model.proofs.Marks.{close_at, AbleIn, Able}
+use Rattle.std.specs.Prelude.{Option, None, Some}
 
 -- a screen stands at the position
-abbrev pub Stands : Mark → State ℕ → Type 0
-Stands Mark.Gone s = Unit {0}
-Stands (Mark.Stands k i) s = (k < count s) × (i < height (get_or s.tasks k no_stack))
+abbrev pub Stands : Option Position → State ℕ → Type 0
+Stands None s = Unit {0}
+Stands (Some p) s = (p.behind < count s) × (p.below < height (get_or s.tasks p.behind no_stack))
 
 -- a screen that stands below another top has company
 below_top : (b x : ℕ) (xs : List ℕ) → eqb b x ≡ false → holds b (x ∷ xs) ≡ true → 1 ≤ length xs
@@ -53,7 +54,7 @@ module _ (s : State ℕ) (b r x : ℕ) (xs : List ℕ) (ts : List (Stack ℕ)) w
   in-front o Change.Push same e h = (omega arith, omega arith)
 
   behind : (o : State ℕ) (c : Change) (us : List (Stack ℕ)) → 1 ≤ length us
-      → Stands (Mark.Stands 1 0) (change_front (changed (eqb b) b c) (with_tasks o (put_second (stack r (x ∷ xs)) us)))
+      → Stands (stands_at 1 0) (change_front (changed (eqb b) b c) (with_tasks o (put_second (stack r (x ∷ xs)) us)))
   unfolding change_front
   behind o c [] l = absurd (not-suc-le-zero l)
   behind o c (u ∷ us) l = (omega arith, omega arith)

@@ -12,22 +12,22 @@ use lib.ListN.{length, set, drop, length-map, get_or-map}
 use borrow.Author.Tests.{lt-leb}
 use Rattle.model.specs.declared.Change.{Change}
 use Rattle.model.specs.declared.Effect.{Effect}
-use Rattle.model.specs.declared.Mark.{Mark}
-use Rattle.std.specs.Prelude.{if◌then◌else◌}
+use Rattle.model.specs.declared.Position.{Position}
+use Rattle.std.specs.Prelude.{if◌then◌else◌, Option, None, Some}
 use Rattle.model.specs.Lists.{is_empty, is_place, further, find, omit, put_second, to_front, All}
 use Rattle.model.specs.Session.{Stack, State, stack, no_stack, on_screens, on_tasks, set_no_history, task_at, front, count}
 use Rattle.model.specs.Search.{holds}
 use Rattle.model.specs.Effects.{move, changed, change_front, put_new, carry_out, without_task, task_left, close}
 use Rattle.model.specs.Calls.{Marked, unmarked, map_screens, map_state, mark_front, place_of_mark, close_marked, closed_marked}
-use Rattle.model.specs.Marks.{mark_in, mark_after, closed_at}
+use Rattle.model.specs.Marks.{mark_in, mark_after, closed_at, stands_at}
 use Rattle.model.proofs.Logic.{All-of}
 use Rattle.model.proofs.Sessions.{with_tasks}
 use Rattle.model.proofs.ListLaws.{to_front-length, All-drop, All-toFront, All-to-map, map-omit, map-set, map-to_front, map-drop, map-on_first, find-map, is_empty-map}
 
 -- the screen at a mark's position closes
-abbrev pub close_at : {A : Type 0} → Mark → State A → State A
-close_at Mark.Gone s = s
-close_at (Mark.Stands k i) s = close (suc k) i s
+abbrev pub close_at : {A : Type 0} → Option Position → State A → State A
+close_at None s = s
+close_at (Some p) s = close (suc p.behind) p.below s
 
 -- ---- effects and closing do not look at marks
 
@@ -45,9 +45,9 @@ module _ {A B : Type 0} (f : A → B) where
       go true = rw (← (map-omit (map_screens f) (pred p) s.tasks), length-map (omit (pred p) s.tasks) (map_screens f))
       go false = rw (map-set (map_screens f) (pred p) (task_left p i s) s.tasks)
 
-  map-close-at : (k : Mark) (s : State A) → map_state f (close_at k s) ≡ close_at k (map_state f s)
-  map-close-at Mark.Gone s = refl
-  map-close-at (Mark.Stands k i) s = map-close (suc k) i s
+  map-close-at : (k : Option Position) (s : State A) → map_state f (close_at k s) ≡ close_at k (map_state f s)
+  map-close-at None s = refl
+  map-close-at (Some p) s = map-close (suc p.behind) p.below s
 
   module _ (is_b : B → Bool) (b : ℕ) (x : A) where
     map-changed : (c : Change) (xs : List A) → map f (changed (λ y. is_b (f y)) x c xs) ≡ changed is_b (f x) c (map f xs)
@@ -103,18 +103,18 @@ unheld-none [] h = refl
 unheld-none (t ∷ ts) h = rw (find-all-false is_marked t.screens h.0, unheld-none ts h.1)
 
 -- the marked screen stands at the position, or is gone: closing it closes what stands there, and so many screens
-record MarkedAt (s : State Marked) (k : Mark) : Type 0 where
+record MarkedAt (s : State Marked) (k : Option Position) : Type 0 where
   closes : close_marked s ≡ close_at k s
   counts : closed_marked s ≡ closed_at k
 
 module _ (s : State Marked) (r : ℕ) (ys : List Marked) (us : List (Stack Marked)) where
   -- the mark is in the front task
-  marked-first : (i : ℕ) → find is_marked ys ≡ suc i → MarkedAt (with_tasks s (stack r ys ∷ us)) (Mark.Stands 0 i)
+  marked-first : (i : ℕ) → find is_marked ys ≡ suc i → MarkedAt (with_tasks s (stack r ys ∷ us)) (stands_at 0 i)
   unfolding close_marked
   marked-first i e = record { closes = rw (e, e); counts = rw e }
 
   -- it is nowhere
-  marked-none : Unmarked ys → Unheld us → MarkedAt (with_tasks s (stack r ys ∷ us)) Mark.Gone
+  marked-none : Unmarked ys → Unheld us → MarkedAt (with_tasks s (stack r ys ∷ us)) None
   unfolding close_marked
   marked-none h k =
       let e = find-all-false is_marked ys h in
@@ -124,7 +124,7 @@ module _ (s : State Marked) (r : ℕ) (ys : List Marked) (us : List (Stack Marke
 -- it is on top of the second task
 marked-second : (s : State Marked) (t u : Stack Marked) (y : Marked) (ys : List Marked) (us : List (Stack Marked))
     → Unmarked t.screens → u.screens ≡ y ∷ ys → is_marked y ≡ true
-    → MarkedAt (with_tasks s (t ∷ u ∷ us)) (Mark.Stands 1 0)
+    → MarkedAt (with_tasks s (t ∷ u ∷ us)) (stands_at 1 0)
 unfolding close_marked
 marked-second s t u y ys us h e g =
     let f = find-all-false is_marked t.screens h in
@@ -195,7 +195,7 @@ module _ (s : State ℕ) (b r x : ℕ) (xs : List ℕ) (ts : List (Stack ℕ)) w
   front-mark o Change.Clear false e h = rw e (go (find is_bmarked below) (stands-below e h))
     where
       go : (n : ℕ) → is_place n ≡ true
-          → MarkedAt (with_tasks o (stack r (drop (pred (further n)) (marked_x ∷ below)) ∷ others)) Mark.Gone
+          → MarkedAt (with_tasks o (stack r (drop (pred (further n)) (marked_x ∷ below)) ∷ others)) None
       go zero g = absurd (false≢true g)
       go (suc n) g = marked-none o r (drop n below) others (All-drop (λ y. is_marked y ≡ false) n below (unmarked-all xs)) (unheld-all ts)
   front-mark o Change.Lift true e h = rw e (marked-first o r (marked_x ∷ below) others 0 refl)
@@ -206,7 +206,7 @@ module _ (s : State ℕ) (b r x : ℕ) (xs : List ℕ) (ts : List (Stack ℕ)) w
       some (y ∷ ys) g = omega arith
 
       go : (n : ℕ) → find is_bmarked below ≡ n → is_place (find is_bmarked below) ≡ true
-          → MarkedAt (with_tasks o (stack r (to_front (pred (further n)) (marked_x ∷ below)) ∷ others)) (Mark.Stands 0 1)
+          → MarkedAt (with_tasks o (stack r (to_front (pred (further n)) (marked_x ∷ below)) ∷ others)) (stands_at 0 1)
       go zero f g = absurd (false≢true (rw f at g))
       go (suc n) f g =
           marked-first o r (put_second marked_x (to_front n below)) others 1
@@ -216,7 +216,7 @@ module _ (s : State ℕ) (b r x : ℕ) (xs : List ℕ) (ts : List (Stack ℕ)) w
 
   -- a task comes before the marked one
   moved-mark : (o : State Marked) (c : Change) (us : List (Stack Marked)) → 1 ≤ length us → Unheld us
-      → MarkedAt (change_front (changed is_bmarked (unmarked b) c) (with_tasks o (put_second (stack r (marked_x ∷ below)) us))) (Mark.Stands 1 0)
+      → MarkedAt (change_front (changed is_bmarked (unmarked b) c) (with_tasks o (put_second (stack r (marked_x ∷ below)) us))) (stands_at 1 0)
   unfolding change_front
   moved-mark o c [] l h = absurd (not-suc-le-zero l)
   moved-mark o c (u ∷ us) l h =

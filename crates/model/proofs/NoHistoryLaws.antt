@@ -13,7 +13,7 @@ use Rattle.model.specs.declared.Flags.{Flags}
 use Rattle.model.specs.declared.Found.{Found}
 use Rattle.model.specs.declared.Group.{Group}
 use Rattle.model.specs.declared.Rule.{Rule}
-use Rattle.std.specs.Prelude.{if◌then◌else◌}
+use Rattle.std.specs.Prelude.{if◌then◌else◌, Option}
 use Rattle.model.specs.Lists.{is_empty, first, on_first}
 use Rattle.model.specs.Refusals.{refusal}
 use Rattle.model.specs.Table.{table_refusal}
@@ -41,7 +41,7 @@ abbrev six_of : Flags → Flags
 six_of f = record { ntk = f.ntk; stp = f.stp; mtk = f.mtk; ctp = f.ctp; rtf = f.rtf; ctk = f.ctk; noh = false }
 
 module _ (tb : List ℕ) (s : State ℕ) (b : ℕ) (f : Flags) where
-  fits-six : (t : Found) (r : Rule) → fits tb s b (six_of f) t r ≡ fits tb s b f t r
+  fits-six : (t : Option Found) (r : Rule) → fits tb s b (six_of f) t r ≡ fits tb s b f t r
   unfolding fits is_single
   fits-six t Rule.R1 = refl
   fits-six t Rule.R2 = refl

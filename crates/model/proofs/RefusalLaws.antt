@@ -7,9 +7,34 @@ use mathlib.Core.List.{List, [], ◌∷◌, ◌++◌}
 use native.Mathlib.Omega.{arith}
 use Rattle.std.specs.Prelude.{if◌then◌else◌}
 use Rattle.model.specs.Lists.{first, All}
-use Rattle.model.specs.Refusals.{Check, check, accepted, refusal}
+use Rattle.model.specs.declared.Refusal.{Refusal}
+use Rattle.model.specs.Refusals.{Check, check, accepted, refusal, refusal_number}
 use Rattle.model.specs.Table.{table_checks, table_refusal}
 use Rattle.model.specs.Calls.{checks_in}
+
+-- no refusal has the number 0
+pub number-some : (r : Refusal) → refusal_number r ≡ 0 → ⊥
+number-some Refusal.TableLength e = absurd (omega (arith, e))
+number-some Refusal.TableContents e = absurd (omega (arith, e))
+number-some Refusal.UnknownScreen e = absurd (omega (arith, e))
+number-some Refusal.UnknownFlag e = absurd (omega (arith, e))
+number-some Refusal.ImageEnd e = absurd (omega (arith, e))
+number-some Refusal.ImageTasks e = absurd (omega (arith, e))
+number-some Refusal.ImageUnsound e = absurd (omega (arith, e))
+number-some Refusal.BufferShort e = absurd (omega (arith, e))
+number-some Refusal.UnknownRecord e = absurd (omega (arith, e))
+number-some Refusal.SessionUnsound e = absurd (omega (arith, e))
+number-some Refusal.NoTask e = absurd (omega (arith, e))
+number-some Refusal.TaskStands e = absurd (omega (arith, e))
+number-some Refusal.TasksFull e = absurd (omega (arith, e))
+number-some Refusal.TaskFull e = absurd (omega (arith, e))
+number-some Refusal.UnknownEdition e = absurd (omega (arith, e))
+number-some Refusal.TallyRefused e = absurd (omega (arith, e))
+number-some Refusal.SeedZero e = absurd (omega (arith, e))
+number-some Refusal.UnknownBits e = absurd (omega (arith, e))
+number-some Refusal.StepUnsound e = absurd (omega (arith, e))
+number-some Refusal.PanelsFull e = absurd (omega (arith, e))
+number-some Refusal.StepsOrder e = absurd (omega (arith, e))
 
 -- no check applies to what is not refused
 pub refusal-skip : (k : ℕ) (b : Bool) (cs : List Check) → refusal (check (suc k) b ∷ cs) ≡ 0 → (b ≡ false) × (refusal cs ≡ 0)

@@ -9,12 +9,13 @@ use native.Mathlib.Omega.{arith}
 use lib.Dec.{ltb, eqb}
 use lib.ListN.{length, get_or}
 use borrow.Author.Tests.{ltb-true, ltb-false}
+use Rattle.model.specs.declared.By.{By}
 use Rattle.model.specs.declared.Found.{Found}
-use Rattle.std.specs.Prelude.{if◌then◌else◌}
+use Rattle.std.specs.Prelude.{if◌then◌else◌, Option, None, Some}
 use Rattle.model.specs.Lists.{is_place, find, All}
 use Rattle.model.specs.Table.{affinity_of, is_single_instance}
 use Rattle.model.specs.Session.{Stack, no_stack}
-use Rattle.model.specs.Search.{has_root, akin, has_affinity, is_found, seek_root, seek_affinity, seeks_by_root, seek, holds}
+use Rattle.model.specs.Search.{has_root, akin, has_affinity, is_found, seek_root, seek_affinity, seeks_by_root, seek, holds, root_at, affinity_at}
 use Rattle.model.proofs.Logic.{Decides, and-decides, not-decides, eqb-decides, false-decides, refuted, contradiction, All-map, All-at}
 use Rattle.model.proofs.ListLaws.{FoundAt, find_spec, find_none}
 
@@ -84,21 +85,36 @@ FirstTask P ts p = FirstPlace no_stack P ts p
 abbrev pub NoTask : (Stack ℕ → Type 0) → List (Stack ℕ) → Type 0
 NoTask P ts = All (λ t. P t → ⊥) ts
 
+-- nothing was found, or a task by root, or one by affinity
+pub found-cases : (P : Option Found → Type 0) → P None → ((p : ℕ) → P (root_at p)) → ((p : ℕ) → P (affinity_at p)) → (t : Option Found) → P t
+found-cases P n r a None = n
+found-cases P n r a (Some f) = go f.by
+  where
+    go : (by : By) → P (Some (record { place = f.place; by = by }))
+    go By.Root = r f.place
+    go By.Affinity = a f.place
+
 -- what "By root" finds among the tasks
-abbrev pub FindsByRoot : ℕ → List (Stack ℕ) → Found → Type 0
-FindsByRoot b ts Found.Nowhere = NoTask (HasRoot b) ts
-FindsByRoot b ts (Found.ByRoot p) = FirstTask (HasRoot b) ts p
-FindsByRoot b ts (Found.ByAffinity p) = ⊥
+abbrev pub FirstByRoot : ℕ → List (Stack ℕ) → By → ℕ → Type 0
+FirstByRoot b ts By.Root p = FirstTask (HasRoot b) ts p
+FirstByRoot b ts By.Affinity p = ⊥
+
+abbrev pub FindsByRoot : ℕ → List (Stack ℕ) → Option Found → Type 0
+FindsByRoot b ts None = NoTask (HasRoot b) ts
+FindsByRoot b ts (Some f) = FirstByRoot b ts f.by f.place
 
 -- no task was found by root, where the edition e seeks by root
 abbrev pub NoneByRoot : List ℕ → ℕ → ℕ → List (Stack ℕ) → Type 0
 NoneByRoot tb e b ts = seeks_by_root tb e b ≡ true → NoTask (HasRoot b) ts
 
 -- what "sought by root, then by affinity" finds in the edition e
-abbrev pub Finds : List ℕ → ℕ → ℕ → List (Stack ℕ) → Found → Type 0
-Finds tb e b ts Found.Nowhere = NoneByRoot tb e b ts × NoTask (HasAffinity tb b) ts
-Finds tb e b ts (Found.ByRoot p) = (seeks_by_root tb e b ≡ true) × FirstTask (HasRoot b) ts p
-Finds tb e b ts (Found.ByAffinity p) = NoneByRoot tb e b ts × FirstTask (HasAffinity tb b) ts p
+abbrev pub FirstBy : List ℕ → ℕ → ℕ → List (Stack ℕ) → By → ℕ → Type 0
+FirstBy tb e b ts By.Root p = (seeks_by_root tb e b ≡ true) × FirstTask (HasRoot b) ts p
+FirstBy tb e b ts By.Affinity p = NoneByRoot tb e b ts × FirstTask (HasAffinity tb b) ts p
+
+abbrev pub Finds : List ℕ → ℕ → ℕ → List (Stack ℕ) → Option Found → Type 0
+Finds tb e b ts None = NoneByRoot tb e b ts × NoTask (HasAffinity tb b) ts
+Finds tb e b ts (Some f) = FirstBy tb e b ts f.by f.place
 
 pub root-decides : (b : ℕ) (t : Stack ℕ) → Decides (has_root b t) (HasRoot b t)
 unfolding has_root
@@ -120,19 +136,21 @@ module _ (b : ℕ) (ts : List (Stack ℕ)) where
   unfolding seek_root
   seek_root-finds = go (find (has_root b) ts) refl
     where
-      go : (n : ℕ) → find (has_root b) ts ≡ n → FindsByRoot b ts (if is_place n then Found.ByRoot n else Found.Nowhere)
+      go : (n : ℕ) → find (has_root b) ts ≡ n → FindsByRoot b ts (if is_place n then root_at n else None)
       go zero e = no-root.0 e
       go (suc k) e = (finds-root k).0 e
 
-  finds-seek_root : (t : Found) → FindsByRoot b ts t → seek_root b ts ≡ t
+  finds-seek_root : (t : Option Found) → FindsByRoot b ts t → seek_root b ts ≡ t
   unfolding seek_root
-  finds-seek_root Found.Nowhere h = rw (no-root.1 h)
-  finds-seek_root (Found.ByRoot zero) h = absurd (omega (arith, h.least))
-  finds-seek_root (Found.ByRoot (suc k)) h = rw ((finds-root k).1 h)
-  finds-seek_root (Found.ByAffinity p) h = absurd h
+  finds-seek_root =
+      found-cases (λ t. FindsByRoot b ts t → seek_root b ts ≡ t) (λ h. rw (no-root.1 h)) at_root (λ p h. absurd h)
+    where
+      at_root : (p : ℕ) → FirstTask (HasRoot b) ts p → seek_root b ts ≡ root_at p
+      at_root zero h = absurd (omega (arith, h.least))
+      at_root (suc k) h = rw ((finds-root k).1 h)
 
   -- the search by root finds exactly that
-  pub seek_root-exact : (t : Found) → (seek_root b ts ≡ t) ↔ FindsByRoot b ts t
+  pub seek_root-exact : (t : Option Found) → (seek_root b ts ≡ t) ↔ FindsByRoot b ts t
   seek_root-exact t = (λ e. rw e at seek_root-finds, finds-seek_root t)
 
 module _ (tb : List ℕ) (v b : ℕ) (ts : List (Stack ℕ)) where
@@ -143,10 +161,10 @@ module _ (tb : List ℕ) (v b : ℕ) (ts : List (Stack ℕ)) where
   no-affinity = find-nowhere no_stack (affinity-decides tb b) ts
 
   -- the search, by whether it is by root, the place found by root, and the place found by affinity
-  abbrev sought : Bool → ℕ → ℕ → Found
+  abbrev sought : Bool → ℕ → ℕ → Option Found
   sought x n m =
-      if x && is_found (if is_place n then Found.ByRoot n else Found.Nowhere) then (if is_place n then Found.ByRoot n else Found.Nowhere) else
-      if is_place m then Found.ByAffinity m else Found.Nowhere
+      if x && is_found (if is_place n then root_at n else None) then (if is_place n then root_at n else None) else
+      if is_place m then affinity_at m else None
 
   seek_finds : Finds tb v b ts (seek tb v b ts)
   unfolding seek seek_root seek_affinity
@@ -161,23 +179,29 @@ module _ (tb : List ℕ) (v b : ℕ) (ts : List (Stack ℕ)) where
       go false g n e (suc j) f = (λ x. contradiction x g, (finds-affinity j).0 f)
 
   -- nothing is found by root: no root is sought, or there is none
-  only-affinity : (m : ℕ) → NoneByRoot tb v b ts → sought (seeks_by_root tb v b) (find (has_root b) ts) m ≡ (if is_place m then Found.ByAffinity m else Found.Nowhere)
+  only-affinity : (m : ℕ) → NoneByRoot tb v b ts → sought (seeks_by_root tb v b) (find (has_root b) ts) m ≡ (if is_place m then affinity_at m else None)
   only-affinity m h = go (seeks_by_root tb v b) refl
     where
-      go : (x : Bool) → seeks_by_root tb v b ≡ x → sought x (find (has_root b) ts) m ≡ (if is_place m then Found.ByAffinity m else Found.Nowhere)
+      go : (x : Bool) → seeks_by_root tb v b ≡ x → sought x (find (has_root b) ts) m ≡ (if is_place m then affinity_at m else None)
       go true g = rw ((no-root b ts).1 (h g))
       go false g = refl
 
-  finds-seek : (t : Found) → Finds tb v b ts t → seek tb v b ts ≡ t
+  finds-seek : (t : Option Found) → Finds tb v b ts t → seek tb v b ts ≡ t
   unfolding seek seek_root seek_affinity
-  finds-seek Found.Nowhere h = only-affinity (find (has_affinity tb b) ts) h.0 ∙ rw (no-affinity.1 h.1)
-  finds-seek (Found.ByRoot zero) h = absurd (omega (arith, h.1.least))
-  finds-seek (Found.ByRoot (suc k)) h = rw (h.0, (finds-root b ts k).1 h.1)
-  finds-seek (Found.ByAffinity zero) h = absurd (omega (arith, h.1.least))
-  finds-seek (Found.ByAffinity (suc k)) h = only-affinity (find (has_affinity tb b) ts) h.0 ∙ rw ((finds-affinity k).1 h.1)
+  finds-seek =
+      found-cases (λ t. Finds tb v b ts t → seek tb v b ts ≡ t)
+      (λ h. only-affinity (find (has_affinity tb b) ts) h.0 ∙ rw (no-affinity.1 h.1)) at_root at_affinity
+    where
+      at_root : (p : ℕ) → Finds tb v b ts (root_at p) → seek tb v b ts ≡ root_at p
+      at_root zero h = absurd (omega (arith, h.1.least))
+      at_root (suc k) h = rw (h.0, (finds-root b ts k).1 h.1)
+
+      at_affinity : (p : ℕ) → Finds tb v b ts (affinity_at p) → seek tb v b ts ≡ affinity_at p
+      at_affinity zero h = absurd (omega (arith, h.1.least))
+      at_affinity (suc k) h = only-affinity (find (has_affinity tb b) ts) h.0 ∙ rw ((finds-affinity k).1 h.1)
 
   -- the search by root, then by affinity, finds exactly that
-  pub seek-exact : (t : Found) → (seek tb v b ts ≡ t) ↔ Finds tb v b ts t
+  pub seek-exact : (t : Option Found) → (seek tb v b ts ≡ t) ↔ Finds tb v b ts t
   seek-exact t = (λ e. rw e at seek_finds, finds-seek t)
 
 -- "holds B": B is one of the screens

@@ -8,11 +8,12 @@ use lib.ListN.{get_or}
 use borrow.Author.Tests.{eqb-true, eqb-false, not-false, ltb-true}
 use Rattle.model.specs.declared.Change.{Change}
 use Rattle.model.specs.declared.Flags.{Flags}
+use Rattle.model.specs.declared.By.{By}
 use Rattle.model.specs.declared.Found.{Found}
 use Rattle.model.specs.declared.Group.{Group}
 use Rattle.model.specs.declared.Rule.{Rule}
 use Rattle.model.specs.declared.Choice.{Choice}
-use Rattle.std.specs.Prelude.{if◌then◌else◌}
+use Rattle.std.specs.Prelude.{if◌then◌else◌, Option, None, Some}
 use Rattle.model.specs.Lists.{is_empty, is_place, find, first}
 use Rattle.model.specs.Refusals.{refusal}
 use Rattle.model.specs.Table.{size_of, affinity_of, is_single_task, is_single_instance, roots_once}
@@ -25,7 +26,7 @@ use Rattle.model.specs.Calls.{chosen, effect_in, start_checks, makes_task, overf
 use Rattle.model.proofs.Logic.{All-map, All-of, All-at, if-elim, first-elim, never, contradiction, and_left, and_right, and-false-right, or-false-right, or-true-left}
 use Rattle.model.proofs.ListLaws.{found_at, found_none, find_none, is_empty-length}
 use Rattle.model.proofs.RefusalLaws.{refusal-skip}
-use Rattle.model.proofs.SearchLaws.{affinity-decides}
+use Rattle.model.proofs.SearchLaws.{found-cases, affinity-decides}
 use Rattle.model.proofs.Sound.{TaskSound, Sound, Plain}
 use Rattle.model.proofs.Effects.{IsPlaceIn, Takes, Suits, RootFree, Ready, carry-sound}
 
@@ -36,10 +37,13 @@ started_by c b s = carry_out (eqb b) b b (effect_in s c) (place_of c.found) s
 -- ---- what a search tells
 
 module _ (tb : List ℕ) (s : State ℕ) (b : ℕ) where
-  abbrev pub Sought : Found → Type 0
-  Sought Found.Nowhere = RootFree tb b s.tasks
-  Sought (Found.ByRoot p) = IsPlaceIn s p × ((task_at s.tasks p).root ≡ b)
-  Sought (Found.ByAffinity p) = IsPlaceIn s p × Plain tb (task_at s.tasks p).root
+  abbrev pub SoughtBy : By → ℕ → Type 0
+  SoughtBy By.Root p = IsPlaceIn s p × ((task_at s.tasks p).root ≡ b)
+  SoughtBy By.Affinity p = IsPlaceIn s p × Plain tb (task_at s.tasks p).root
+
+  abbrev pub Sought : Option Found → Type 0
+  Sought None = RootFree tb b s.tasks
+  Sought (Some f) = SoughtBy f.by f.place
 
   -- the place of a task that was found
   found-place : (q : Stack ℕ → Bool) → is_place (find q s.tasks) ≡ true → IsPlaceIn s (find q s.tasks)
@@ -52,14 +56,14 @@ module _ (tb : List ℕ) (s : State ℕ) (b : ℕ) where
   pub seek_root-sought : Sought (seek_root b s.tasks)
   unfolding seek_root has_root
   seek_root-sought =
-      if-elim Sought (is_place (find (has_root b) s.tasks)) _ Found.Nowhere
+      if-elim Sought (is_place (find (has_root b) s.tasks)) _ None
       (λ e. (found-place (has_root b) e, eqb-true _ b (found_at (has_root b) no_stack s.tasks e).fits))
       (λ e. All-map (λ t f q r. eqb-false t.root b f (sym r)) s.tasks (found_none (has_root b) no_stack s.tasks e))
 
   seek_affinity-sought : (find (has_affinity tb b) s.tasks ≡ 0 → RootFree tb b s.tasks) → Sought (seek_affinity tb b s.tasks)
   unfolding seek_affinity
   seek_affinity-sought h =
-      if-elim Sought (is_place (find (has_affinity tb b) s.tasks)) _ Found.Nowhere
+      if-elim Sought (is_place (find (has_affinity tb b) s.tasks)) _ None
       (λ e. (found-place (has_affinity tb b) e, ((affinity-decides tb b _).holds (found_at (has_affinity tb b) no_stack s.tasks e).fits).0.0))
       (λ e. h (no_place (find (has_affinity tb b) s.tasks) e))
     where
@@ -68,10 +72,9 @@ module _ (tb : List ℕ) (s : State ℕ) (b : ℕ) where
       no_place (suc k) e = never e
 
   -- nothing found: a new task of b clashes with none
-  nowhere-free : (t : Found) → is_found t ≡ false → Sought t → RootFree tb b s.tasks
-  nowhere-free Found.Nowhere e h = h
-  nowhere-free (Found.ByRoot p) e h = never e
-  nowhere-free (Found.ByAffinity p) e h = never e
+  nowhere-free : (t : Option Found) → is_found t ≡ false → Sought t → RootFree tb b s.tasks
+  nowhere-free None e h = h
+  nowhere-free (Some f) e h = never e
 
   -- where none is sought by root: a task whose root is the single-task screen b has b's affinity, and would be found by that
   affinity-free : Plain tb b → seeks_by_root tb s.edition b ≡ false → find (has_affinity tb b) s.tasks ≡ 0 → RootFree tb b s.tasks
@@ -97,10 +100,9 @@ module _ (tb : List ℕ) (s : State ℕ) (b : ℕ) where
           (λ f. seek_affinity-sought (λ _. nowhere-free (seek_root b s.tasks) f seek_root-sought))
       go false e = seek_affinity-sought (affinity-free plain e)
 
-  found_inside : (t : Found) → is_found t ≡ true → Sought t → IsPlaceIn s (place_of t)
-  found_inside Found.Nowhere e h = absurd (false≢true e)
-  found_inside (Found.ByRoot p) e h = h.0
-  found_inside (Found.ByAffinity p) e h = h.0
+  found_inside : (t : Option Found) → is_found t ≡ true → Sought t → IsPlaceIn s (place_of t)
+  found_inside =
+      found-cases (λ t. is_found t ≡ true → Sought t → IsPlaceIn s (place_of t)) (λ e h. absurd (false≢true e)) (λ p e h. h.0) (λ p e h. h.0)
 
   -- a screen that is neither single-task nor single-instance may be the root of many tasks
   standard-free : roots_once tb b ≡ false → RootFree tb b s.tasks
@@ -110,29 +112,29 @@ module _ (tb : List ℕ) (s : State ℕ) (b : ℕ) where
 
 module _ (tb : List ℕ) (s : State ℕ) (b : ℕ) where
   -- the rule can be carried out, where t was found
-  abbrev pub RuleReady : Found → Rule → Type 0
+  abbrev pub RuleReady : Option Found → Rule → Type 0
   RuleReady t r = Ready tb b s (effect_of s.edition s.main r) (place_of t)
 
   abbrev pub ChoiceReady : Choice → Type 0
   ChoiceReady c = RuleReady c.found c.rule
 
 module _ (tb : List ℕ) (s : State ℕ) (b : ℕ) (f : Flags) where
-  abbrev FirstReady : Group → Found → Type 0
+  abbrev FirstReady : Group → Option Found → Type 0
   FirstReady g t = RuleReady tb s b t (first Rule.R18 (fits tb s b f t) (rules_of g))
 
-  instance-ready : (t : Found) → Sought tb s b t → FirstReady Group.Instance t
+  instance-ready : (t : Option Found) → Sought tb s b t → FirstReady Group.Instance t
   unfolding fits rules_of effect_of
   instance-ready t h =
       first-elim (RuleReady tb s b t) Rule.R18 (fits tb s b f t) (rules_of Group.Instance)
       (λ x. (found_inside tb s b t x h, tt), λ x. (λ _. nowhere-free tb s b t x h, never))
 
   module _ (plain : Plain tb b) where
-    found-takes : (t : Found) → is_found t ≡ true → Sought tb s b t → Takes tb b (task_found tb s b f t)
-    found-takes Found.Nowhere e h = absurd (false≢true e)
-    found-takes (Found.ByRoot p) e h = record { plain_root = rw h.1 plain; plain_screen = plain }
-    found-takes (Found.ByAffinity p) e h = record { plain_root = h.1; plain_screen = plain }
+    found-takes : (t : Option Found) → is_found t ≡ true → Sought tb s b t → Takes tb b (task_found tb s b f t)
+    found-takes =
+        found-cases (λ t. is_found t ≡ true → Sought tb s b t → Takes tb b (task_found tb s b f t)) (λ e h. absurd (false≢true e))
+        (λ p e h. record { plain_root = rw h.1 plain; plain_screen = plain }) (λ p e h. record { plain_root = h.1; plain_screen = plain })
 
-    module _ (t : Found) (h : Sought tb s b t) where
+    module _ (t : Option Found) (h : Sought tb s b t) where
       -- the task found takes b; and holds it
       takes : is_found t ≡ true → IsPlaceIn s (place_of t) × Takes tb b (task_found tb s b f t)
       takes e = (found_inside tb s b t e h, found-takes t e h)
@@ -169,10 +171,9 @@ module _ (tb : List ℕ) (s : State ℕ) (b : ℕ) (f : Flags) where
             ),
           )
         where
-          root-found : (u : Found) → is_found_by_root u ≡ true → is_found u ≡ true
-          root-found Found.Nowhere e = e
-          root-found (Found.ByRoot p) e = refl
-          root-found (Found.ByAffinity p) e = refl
+          root-found : (u : Option Found) → is_found_by_root u ≡ true → is_found u ≡ true
+          root-found None e = e
+          root-found (Some f) e = refl
 
     module _ (h : Sound tb s) (some : 1 ≤ count s) where
       -- the front task takes b where its top is not single-instance
@@ -191,11 +192,11 @@ module _ (tb : List ℕ) (s : State ℕ) (b : ℕ) (f : Flags) where
       reordered-suits k x =
           if-elim (λ c. Suits tb b c (front s)) (eqb s.edition 7 && eqb s.main 1) Change.Renew Change.Lift (λ _. k) (λ _. (k, x))
 
-      near-ready : Plain tb (front_screen s) → FirstReady Group.NotApart Found.Nowhere
+      near-ready : Plain tb (front_screen s) → FirstReady Group.NotApart None
       unfolding fits rules_of effect_of
       near-ready e =
           let k : Takes tb b (front s) = record { plain_root = front-root e; plain_screen = plain } in
-          first-elim (RuleReady tb s b Found.Nowhere) Rule.R18 (fits tb s b f Found.Nowhere) (rules_of Group.NotApart) (
+          first-elim (RuleReady tb s b None) Rule.R18 (fits tb s b f None) (rules_of Group.NotApart) (
             λ _. (some, tt),
             λ _. (
               λ x. (some, (k, and_right f.ctp _ x)),
@@ -213,7 +214,7 @@ module _ (tb : List ℕ) (s : State ℕ) (b : ℕ) (f : Flags) where
       (λ a. near-ready e h some (or-false-right f.ntk _ a))))
     where
       apart : Plain tb b → RootFree tb b s.tasks → ChoiceReady tb s b (choose_in tb s b f Group.Apart)
-      apart e free = apart_ready e _ (if-elim (Sought tb s b) f.mtk Found.Nowhere _ (λ _. free) (λ _. seek-sought tb s b e)) free
+      apart e free = apart_ready e _ (if-elim (Sought tb s b) f.mtk None _ (λ _. free) (λ _. seek-sought tb s b e)) free
 
 -- ---- start and finishing start
 

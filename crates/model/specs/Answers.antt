@@ -53,11 +53,6 @@ pub record Outcome : Type 0 where
 abbrev pub outcome : State ℕ → Answer → Outcome
 outcome s a = record { session = s; answer = a }
 
--- the answer of a call with the refusal k (0 if none), which is a where it is accepted
-abbrev pub answer_by : ℕ → Answer → Answer
-answer_by zero a = a
-answer_by (suc k) a = refused (suc k)
-
 -- what a call gives, by its refusal k: the session s' that it makes and the answer a, or the session s before it, "Session and
 -- buffers are unchanged". Sessions may be of any kind; `give` joins one with an answer.
 abbrev pub settle : {S R : Type 0} → (S → Answer → R) → ℕ → S → S → Answer → R

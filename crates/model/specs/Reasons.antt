@@ -1,5 +1,5 @@
 -- Document 02, request 1, "Which rule moved my seller?": the rule of a start and the task that was found for it.
-use Rattle.std.specs.Prelude.{ℕ, zero, suc, pred, ◌≡◌, false, List, ◌++◌, get_or}
+use Rattle.std.specs.Prelude.{ℕ, zero, suc, pred, ◌≡◌, false, List, ◌++◌, get_or, if◌then◌else◌, Option, None, Some}
 use Rattle.model.specs.declared.Choice.{Choice}
 use Rattle.model.specs.declared.Found.{Found}
 use Rattle.model.specs.declared.Group.{Group}
@@ -8,17 +8,16 @@ use Rattle.model.specs.declared.Rule.{Rule}
 use Rattle.model.specs.Lists.{FirstFit}
 use Rattle.model.specs.Session.{State}
 use Rattle.model.specs.Flags.{flags_of}
-use Rattle.model.specs.Search.{place_of}
+use Rattle.model.specs.Search.{place_of, is_root}
 use Rattle.model.specs.Rules.{number_of, rules_of, group_of, sought_by, fits}
 use Rattle.model.specs.Calls.{start, chosen, start_by, refusal_of}
 
 -- ---- the four numbers
 
 -- "whether root or affinity found it (0 none, 1 root, 2 affinity)"
-abbrev pub how_found : Found → ℕ
-how_found Found.Nowhere = 0
-how_found (Found.ByRoot p) = 1
-how_found (Found.ByAffinity p) = 2
+abbrev pub how_found : Option Found → ℕ
+how_found None = 0
+how_found (Some f) = if is_root f.by then 1 else 2
 
 -- "the rule number R1 to R18, the place of the task found (0 if none) and whether root or affinity found it"; "Before the three
 -- stands the refusal, 0 if none"
@@ -51,7 +50,7 @@ module _ (tb : List ℕ) (s : State ℕ) (b w : ℕ) where
   group_selected = group_of tb s b (flags_of w)
 
   -- what that group's search gives
-  abbrev pub task_sought : Found
+  abbrev pub task_sought : Option Found
   task_sought = sought_by tb s b (flags_of w) group_selected
 
   -- "this rule, and no earlier one of its group, fits": n is the number of a rule of the group, the rule's test fits, and that

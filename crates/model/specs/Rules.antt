@@ -1,5 +1,5 @@
 -- Document 01, "Calls": which of the rules R1 to R18 a start uses.
-use Rattle.std.specs.Prelude.{ℕ, Bool, true, not, ◌&&◌, ◌||◌, List, [], ◌∷◌, eqb, if◌then◌else◌}
+use Rattle.std.specs.Prelude.{ℕ, Bool, true, not, ◌&&◌, ◌||◌, List, [], ◌∷◌, eqb, if◌then◌else◌, Option, None}
 use Rattle.model.specs.declared.Choice.{Choice}
 use Rattle.model.specs.declared.Flags.{Flags}
 use Rattle.model.specs.declared.Found.{Found}
@@ -60,18 +60,18 @@ module _ (tb : List ℕ) (s : State ℕ) (b : ℕ) (f : Flags) where
 
   -- how each group seeks a task: "found by root"; "sought by root, then by affinity"; not at all; "R11 MTK: new. Then
   -- sought by root, then by affinity." In edition 6 by affinity alone, as `seek` says (02, request 4).
-  unfoldable pub sought_by : Group → Found
+  unfoldable pub sought_by : Group → Option Found
   sought_by Group.Instance = seek_root b s.tasks
   sought_by Group.Task = seek tb s.edition b s.tasks
-  sought_by Group.NotApart = Found.Nowhere
-  sought_by Group.Apart = if f.mtk then Found.Nowhere else seek tb s.edition b s.tasks
+  sought_by Group.NotApart = None
+  sought_by Group.Apart = if f.mtk then None else seek tb s.edition b s.tasks
 
   -- the task found
-  abbrev pub task_found : Found → Stack ℕ
+  abbrev pub task_found : Option Found → Stack ℕ
   task_found t = task_at s.tasks (place_of t)
 
   -- the condition of each rule, where t was found: what 01 writes before its colon
-  unfoldable pub fits : Found → Rule → Bool
+  unfoldable pub fits : Option Found → Rule → Bool
   fits t Rule.R1 = is_found t
   fits t Rule.R2 = true
   fits t Rule.R3 = is_found t && f.ctk

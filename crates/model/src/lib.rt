@@ -1,11 +1,15 @@
-// Documents 01 and 02 as definitions (specs/) and the theorems about them (proofs/). There is no function here: only the
-// plain structs and enums that definitions and code share.
+// Documents 01 and 02 as definitions (specs/) and the theorems about them (proofs/). Here stand only the plain structs and enums that
+// definitions and code share, and the number of a refusal.
 #![tactic(auto)]
 
-// An answer is nine numbers: the refusal (0 if none); after the call, the front screen, the front root, the front height, the
-// number of tasks and the main place; the screens that the call closed; and after it the edition and the No-History mark.
+ghost use Rattle.std.specs.Prelude.{◌≡◌};
+ghost use Rattle.model.specs.Refusals.{refusal_number};
+
+// An answer is nine numbers, a byte each for callers in C: the refusal (0 if none); after the call, the front screen, the front
+// root, the front height, the number of tasks and the main place; the screens that the call closed; and after it the edition and
+// the No-History mark.
 #[repr(C)]
-#[derive(Clone, Copy)]
+#[derive(Clone, Copy, PartialEq, Eq)]
 pub struct Answer {
     pub refusal: u8,
     pub screen: u8,
@@ -22,6 +26,63 @@ impl Answer {
     pub const NUMBERS: usize = 9;
 }
 
+// Why a call is refused. A comment gives the number of each in the documents.
+#[derive(Clone, Copy, PartialEq, Eq)]
+pub enum Refusal {
+    TableLength, // 1
+    TableContents, // 2
+    UnknownScreen, // 3
+    UnknownFlag, // 4
+    ImageEnd, // 5
+    ImageTasks, // 6
+    ImageUnsound, // 7
+    BufferShort, // 8
+    UnknownRecord, // 9
+    SessionUnsound, // 20
+    NoTask, // 21
+    TaskStands, // 22
+    TasksFull, // 23
+    TaskFull, // 24
+    UnknownEdition, // 30
+    TallyRefused, // 31
+    SeedZero, // 32
+    UnknownBits, // 35
+    StepUnsound, // 36
+    PanelsFull, // 37
+    StepsOrder, // 38
+}
+
+impl Refusal {
+    // Its number: a match, since the documents' numbers have gaps.
+    pub fn number(self) -> u8
+        ensures { result ≡ refusal_number self }
+    {
+        match self {
+            Refusal::TableLength => 1,
+            Refusal::TableContents => 2,
+            Refusal::UnknownScreen => 3,
+            Refusal::UnknownFlag => 4,
+            Refusal::ImageEnd => 5,
+            Refusal::ImageTasks => 6,
+            Refusal::ImageUnsound => 7,
+            Refusal::BufferShort => 8,
+            Refusal::UnknownRecord => 9,
+            Refusal::SessionUnsound => 20,
+            Refusal::NoTask => 21,
+            Refusal::TaskStands => 22,
+            Refusal::TasksFull => 23,
+            Refusal::TaskFull => 24,
+            Refusal::UnknownEdition => 30,
+            Refusal::TallyRefused => 31,
+            Refusal::SeedZero => 32,
+            Refusal::UnknownBits => 35,
+            Refusal::StepUnsound => 36,
+            Refusal::PanelsFull => 37,
+            Refusal::StepsOrder => 38,
+        }
+    }
+}
+
 // The seven flags of a flag word: new task, single top, multiple task, clear top, reorder to front, clear task, no history.
 #[derive(Clone, Copy)]
 pub struct Flags {
@@ -35,7 +96,7 @@ pub struct Flags {
 }
 
 // The rules of a start.
-#[derive(Clone, Copy)]
+#[derive(Clone, Copy, PartialEq, Eq)]
 pub enum Rule {
     R1,
     R2,
@@ -58,7 +119,7 @@ pub enum Rule {
 }
 
 // The groups of rules: b is single-instance; b is single-task; otherwise not apart; otherwise apart.
-#[derive(Clone, Copy)]
+#[derive(Clone, Copy, PartialEq, Eq)]
 pub enum Group {
     Instance,
     Task,
@@ -66,25 +127,31 @@ pub enum Group {
     Apart,
 }
 
-// A task that was sought: none, or its place and how it was found.
-#[derive(Clone, Copy)]
-pub enum Found {
-    Nowhere,
-    ByRoot(u8),
-    ByAffinity(u8),
+// How a task was found.
+#[derive(Clone, Copy, PartialEq, Eq)]
+pub enum By {
+    Root,
+    Affinity,
 }
 
-// The rule that a start uses, and the task that was found for it.
+// A task that was found: its place, and how.
+#[derive(Clone, Copy)]
+pub struct Found {
+    pub place: u8,
+    pub by: By,
+}
+
+// The rule that a start uses, and the task that was found for it, if one was.
 #[derive(Clone, Copy)]
 pub struct Choice {
     pub rule: Rule,
-    pub found: Found,
+    pub found: Option<Found>,
 }
 
-// Why a start went as it did: its refusal (0 if none), the number of its rule, the place of the task found (0 if none), and
-// how it was found (0 none, 1 by root, 2 by affinity).
+// Why a start went as it did, a byte each for callers in C: its refusal (0 if none), the number of its rule, the place of the task
+// found (0 if none), and how it was found (0 none, 1 by root, 2 by affinity).
 #[repr(C)]
-#[derive(Clone, Copy)]
+#[derive(Clone, Copy, PartialEq, Eq)]
 pub struct Reason {
     pub refusal: u8,
     pub rule: u8,
@@ -93,7 +160,7 @@ pub struct Reason {
 }
 
 // What is done with the screens of a task: nothing; empty, push B; clear to B; lift; push B.
-#[derive(Clone, Copy)]
+#[derive(Clone, Copy, PartialEq, Eq)]
 pub enum Change {
     Keep,
     Renew,
@@ -110,9 +177,27 @@ pub enum Effect {
     MoveAnd(Change),
 }
 
-// Where the marked screen stands after a start: nowhere, or behind so many tasks and below so many screens.
+// Where a screen stands: so many tasks in front of its own, and so many screens above it.
 #[derive(Clone, Copy)]
-pub enum Mark {
-    Gone,
-    Stands(u8, u8),
+pub struct Position {
+    pub behind: u8,
+    pub below: u8,
+}
+
+impl Position {
+    // On top of the front task; under that screen; on top of the task behind it.
+    pub const TOP: Position = Position {
+        behind: 0,
+        below: 0,
+    };
+
+    pub const UNDER_TOP: Position = Position {
+        behind: 0,
+        below: 1,
+    };
+
+    pub const TOP_BEHIND: Position = Position {
+        behind: 1,
+        below: 0,
+    };
 }

@@ -7,8 +7,10 @@ use Rattle.model.specs.Calls.{Call, look}
 use Rattle.session.specs.declared.Session.{Session}
 use Rattle.session.proofs.Known.{Sized}
 use Rattle.calls.specs.declared.Reply.{Reply}
-use Rattle.calls.specs.StoredCalls.{shared_refusal, call_stored, KeepsSound}
-use Rattle.calls.proofs.Settling.{shared-ready, call-refused, call-gives, look-settled}
+use Rattle.checks.specs.Shared.{shared_refusal}
+use Rattle.calls.specs.StoredCalls.{call_stored, KeepsSound}
+use Rattle.checks.proofs.SharedLaws.{shared-ready}
+use Rattle.calls.proofs.Settling.{call-refused, call-gives, look-settled}
 use Rattle.navigator.specs.Promise3.{KeepsPromise3}
 use Rattle.navigator.proofs.Promise3Laws.{promise3}
 

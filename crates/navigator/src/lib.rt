@@ -1,13 +1,15 @@
 // The calls of document 01, by value, for any caller. Any table, session and image bytes: each call ends, and its contract
-// says what it gives. The checks that all calls share are made here, and their refusal is passed on. What holds over
+// says what it gives. The checks that all calls share are made here, and what they say is passed on. What holds over
 // whole lists of these calls is promise 3 (specs/Promise3), which each of their contracts cites. `why` is no call of a list.
 #![tactic(auto)]
 
 ghost use Rattle.std.specs.Prelude.{◌≡◌, take};
 ghost use Rattle.model.specs.Calls.{Call};
-ghost use Rattle.calls.specs.StoredCalls.{shared_refusal, call_stored, KeepsSound};
+ghost use Rattle.checks.specs.Shared.{shared_refusal};
+ghost use Rattle.calls.specs.StoredCalls.{call_stored, KeepsSound};
 ghost use Rattle.image_calls.specs.Restores.{AcceptsImages, BringsBack, SavesAgain};
 ghost use Rattle.image_calls.specs.StoredSaves.{saved, save_stored, BroughtBack, NoOtherHas};
+ghost use Rattle.model.specs.Refusals.{refusal_in};
 ghost use Rattle.model.specs.Reasons.{no_reason, FitsFirst, IsFoundAt};
 ghost use Rattle.model.specs.Affinity.{AffinityZero};
 ghost use Rattle.model.specs.Editions.{EditionSeeks};
@@ -18,22 +20,35 @@ ghost use Rattle.navigator.specs.Promise3.{KeepsPromise3};
 ghost use Rattle.navigator.specs.Records.{played_stored};
 
 use calls::Reply;
+use chart_starts::ByChart;
+use checks::Checked;
 use image_calls::SaveReply;
-use model::Reason;
+use model::{Reason, Refusal};
 use session::Session;
+use starts::ByRules;
+use table::Table;
 
-// The checks that every call begins with: 1, 2, 20, or 0 where none applies.
-pub fn shared_refusal(table: &[u8], s: Session) -> u8
-    ensures { result ≡ shared_refusal table.now s }
+// The checks that every call begins with: 1, 2, 20.
+pub fn check(table: &[u8], s: Session) -> Result<(), Refusal>
+    ensures { refusal_in result ≡ shared_refusal table.now s }
 {
-    let refusal = table::refusal(table);
-    if refusal != 0 {
-        return refusal;
+    let good = Table::checked(table)?;
+    if soundness::sound(good.bytes(), s) {
+        return Ok(());
     }
-    if soundness::sound(table, s) {
-        return 0;
+    Err(Refusal::SessionUnsound)
+}
+
+// A table and a session with what those checks say of them.
+fn checked<'a>(table: &'a [u8], s: &'a Session) -> Checked<'a>
+    ensures table { result.table.now ≡ table.now }
+    ensures session { result.session.now ≡ s.now }
+{
+    Checked {
+        table: table,
+        session: s,
+        refused: check(table, *s),
     }
-    20
 }
 
 // Look changes nothing.
@@ -43,8 +58,7 @@ pub fn look(table: &[u8], s: Session) -> Reply
     ensures keeps { KeepsSound table.now s result.session }
     ensures promise { KeepsPromise3 table.now }
 {
-    let refusal = shared_refusal(table, s);
-    calls::look(table, s, refusal)
+    calls::look(&checked(table, &s))
 }
 
 // Launch, on an empty session.
@@ -53,8 +67,7 @@ pub fn launch(table: &[u8], s: Session, edition: u8) -> Reply
     ensures keeps { KeepsSound table.now s result.session }
     ensures promise { KeepsPromise3 table.now }
 {
-    let refusal = shared_refusal(table, s);
-    calls::launch(table, s, edition, refusal)
+    calls::launch(&checked(table, &s), edition)
 }
 
 // Start of b with a flag word.
@@ -63,18 +76,16 @@ pub fn start(table: &[u8], s: Session, b: u8, word: u32) -> Reply
     ensures keeps { KeepsSound table.now s result.session }
     ensures promise { KeepsPromise3 table.now }
 {
-    let refusal = shared_refusal(table, s);
-    calls::start(table, s, b, word, refusal)
+    calls::start::<ByRules>(&checked(table, &s), b, word, false)
 }
 
-// Finishing start of b with a flag word: the caller closes itself.
+// Finishing start of b with a flag word: the caller closes itself. Two functions, and no flag: these are the calls that 01 names.
 pub fn finish_start(table: &[u8], s: Session, b: u8, word: u32) -> Reply
     ensures gives { result ≡ call_stored table.now s (Call.finishing_start b word) }
     ensures keeps { KeepsSound table.now s result.session }
     ensures promise { KeepsPromise3 table.now }
 {
-    let refusal = shared_refusal(table, s);
-    calls::finish_start(table, s, b, word, refusal)
+    calls::start::<ByRules>(&checked(table, &s), b, word, true)
 }
 
 // The same two, driven by the flag chart: once the index of its entry is formed, neither the six flags nor the mode of b are read
@@ -84,8 +95,7 @@ pub fn start_by_chart(table: &[u8], s: Session, b: u8, word: u32) -> Reply
     ensures keeps { KeepsSound table.now s result.session }
     ensures promise { KeepsPromise3 table.now }
 {
-    let refusal = shared_refusal(table, s);
-    chart_calls::start(table, s, b, word, false, refusal)
+    calls::start::<ByChart>(&checked(table, &s), b, word, false)
 }
 
 pub fn finish_start_by_chart(table: &[u8], s: Session, b: u8, word: u32) -> Reply
@@ -93,8 +103,7 @@ pub fn finish_start_by_chart(table: &[u8], s: Session, b: u8, word: u32) -> Repl
     ensures keeps { KeepsSound table.now s result.session }
     ensures promise { KeepsPromise3 table.now }
 {
-    let refusal = shared_refusal(table, s);
-    chart_calls::start(table, s, b, word, true, refusal)
+    calls::start::<ByChart>(&checked(table, &s), b, word, true)
 }
 
 // Why a start of b with a flag word goes as it does: its refusal, or its rule, and where and how the task was found for it.
@@ -110,8 +119,7 @@ pub fn why(table: &[u8], s: Session, b: u8, word: u32) -> Reason
     ensures mark { result.refusal ≡ 0 → MarksBy table.now (view s) b word result }
     ensures bit { result ≡ why_stored table.now s b (without_no_history word) }
 {
-    let refusal = shared_refusal(table, s);
-    reasons::why(table, s, b, word, refusal)
+    reasons::why(&checked(table, &s), b, word)
 }
 
 // Back, on a session that is not empty.
@@ -120,8 +128,7 @@ pub fn back(table: &[u8], s: Session) -> Reply
     ensures keeps { KeepsSound table.now s result.session }
     ensures promise { KeepsPromise3 table.now }
 {
-    let refusal = shared_refusal(table, s);
-    calls::back(table, s, refusal)
+    calls::back(&checked(table, &s))
 }
 
 // Restore: the session read from a whole image.
@@ -133,8 +140,7 @@ pub fn restore(table: &[u8], s: Session, image: &[u8]) -> Reply
     ensures saves { SavesAgain image.now result }
     ensures promise { KeepsPromise3 table.now }
 {
-    let refusal = shared_refusal(table, s);
-    image_calls::restore(table, s, image, refusal)
+    image_calls::restore(&checked(table, &s), image)
 }
 
 // Save writes the session's image at the start of the buffer and leaves the rest; a refused one writes nothing.
@@ -144,11 +150,10 @@ pub fn save(table: &[u8], s: Session, out: &mut [u8]) -> SaveReply
     ensures only { result.refusal ≡ 0 → NoOtherHas table.now s (take result.length out.new) }
     ensures promise { KeepsPromise3 table.now }
 {
-    let refusal = shared_refusal(table, s);
-    if refusal != 0 {
-        return image_calls::refuse_save(refusal);
+    match check(table, s) {
+        Ok(()) => image_calls::save(table, s, out),
+        Err(refusal) => image_calls::refuse_save(refusal.number()),
     }
-    image_calls::save(table, s, out)
 }
 
 // ---- records
@@ -161,9 +166,8 @@ pub fn play_record(table: &[u8], s: Session, calls: &[u8]) -> Reply
     ensures promise { KeepsPromise3 table.now }
 {
     if calls.len() == 0 {
-        return calls::refuse(s, 9);
+        return calls::refuse(s, Refusal::UnknownRecord);
     }
     let r = records::read(calls, 0);
-    let refusal = shared_refusal(table, s);
-    calls::make(table, s, r, refusal).reply
+    calls::make(&checked(table, &s), r).reply
 }

@@ -1,4 +1,5 @@
 // What a warning tells of things that were met: how many, and the place of the first.
+// No `Option` for the place: `Tells` says that it is 0 where nothing was met.
 #![tactic(auto)]
 
 ghost use Rattle.std.specs.Prelude.{◌<◌, ◌≡◌, []};

@@ -1,14 +1,14 @@
 -- The count and the kinds of a step's operations, as the code tests them.
-use Prim.Native.Nat.{ℕ, ◌+◌, ◌*◌, ◌≤◌, ◌<◌}
+use Prim.Native.Nat.{ℕ, ◌≤◌, ◌<◌}
 use mathlib.Core.Path.{◌≡◌, refl, ap}
 use mathlib.Core.Bool.{Bool, true, false, not, ◌&&◌, ◌||◌}
 use mathlib.Core.List.{List}
 use lib.Dec.{eqb, leb, ltb}
-use lib.ListN.{length, get_or, drop}
+use lib.ListN.{length, get_or}
 use borrow.Author.Tests.{ltb-true, ltb-false, le-leb, lt-leb}
 use Rattle.model.specs.Lists.{all}
 use Rattle.panels.specs.Operations.{operation, operations_in, good_count, good_kind, good_operations}
-use Rattle.panels.proofs.OperationLaws.{operations-at, operations-end}
+use Rattle.panels.proofs.OperationLaws.{behind, operations-more, operations-short}
 
 four : (a b c d e : Bool) → (((not a && not b) && not c) && not d) ≡ e → (a || (b || (c || d))) ≡ not e
 four true b c d e f = ap not f
@@ -40,17 +40,19 @@ pub count-bad : (l : List ℕ) → good_count (length l) ≡ false → false ≡
 unfolding good_operations
 count-bad l e = rw e
 
--- the kinds from the i-th on are good: as far as the loop is
-module _ (l : List ℕ) (i : ℕ) where
-  pub kind-next : 2 * i + 1 < length l → (ltb (get_or l (2 * i) 0) 1 || ltb 3 (get_or l (2 * i) 0)) ≡ false
-      → all good_kind (operations_in (drop (2 * i) l)) ≡ all good_kind (operations_in (drop (2 * (i + 1)) l))
-  kind-next b e = rw (operations-at l i b, kind-test (get_or l (2 * i) 0) (get_or l (2 * i + 1) 0) false e)
+-- the kinds are good as far as the loop is
+module _ (l : List ℕ) where
+  abbrev bad_kind : Bool
+  bad_kind = ltb (get_or l 0 0) 1 || ltb 3 (get_or l 0 0)
 
-  module _ (c : good_count (length l) ≡ true) (v : all good_kind (operations_in l) ≡ all good_kind (operations_in (drop (2 * i) l))) where
-    pub kind-bad : 2 * i + 1 < length l → (ltb (get_or l (2 * i) 0) 1 || ltb 3 (get_or l (2 * i) 0)) ≡ true → false ≡ good_operations l
-    unfolding good_operations
-    kind-bad b e = rw (c, v, operations-at l i b, kind-test (get_or l (2 * i) 0) (get_or l (2 * i + 1) 0) true e)
+  pub kind-next : 2 ≤ length l → bad_kind ≡ false → all good_kind (operations_in l) ≡ all good_kind (operations_in (behind l))
+  kind-next b e = rw (operations-more l b, kind-test (get_or l 0 0) (get_or l 1 0) false e)
 
-    pub kind-end : length l ≤ 2 * i + 1 → true ≡ good_operations l
+  module _ (whole : List ℕ) (c : good_count (length whole) ≡ true) (v : all good_kind (operations_in whole) ≡ all good_kind (operations_in l)) where
+    pub kind-bad : 2 ≤ length l → bad_kind ≡ true → false ≡ good_operations whole
     unfolding good_operations
-    kind-end b = rw (c, v, operations-end l i b)
+    kind-bad b e = rw (c, v, operations-more l b, kind-test (get_or l 0 0) (get_or l 1 0) true e)
+
+    pub kind-end : length l < 2 → true ≡ good_operations whole
+    unfolding good_operations
+    kind-end b = rw (c, v, operations-short l b)

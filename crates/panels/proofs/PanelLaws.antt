@@ -7,7 +7,7 @@ use native.Mathlib.Numerals.{add-one}
 use native.Mathlib.Omega.{arith}
 use lib.Dec.{eqb}
 use lib.ListN.{length, get_or, take, length-append, length-reverse, length-take}
-use lib.Seq.{take-suc, length-take-le}
+use lib.Seq.{take_all, take-suc, length-take-le}
 use borrow.Author.Tests.{eq-eqb}
 use Rattle.std.specs.Prelude.{if◌then◌else◌}
 use Rattle.session.specs.Stored.{pad}
@@ -29,6 +29,14 @@ none-held = refl
 pub view-low : (q : Panels) → q.count ≤ most_panels → length (view_panels q) ≤ most_panels
 unfolding view_panels
 view-low q h = omega (arith, length-take q.count q.panels)
+
+-- the panels below n, where n is the count
+pub until-low : (q : Panels) → q.count ≤ most_panels → {n : ℕ} → n ≡ q.count → length (take n q.panels) ≤ most_panels
+until-low q h {n} e = omega (arith, length-take n q.panels)
+
+pub all-viewed : (q : Panels) {n i : ℕ} → n ≡ q.count → length (take n q.panels) ≤ i → take i (take n q.panels) ≡ view_panels q
+unfolding view_panels
+all-viewed q {n} {i} e h = take_all i (take n q.panels) h ∙ ap (λ (m : ℕ). take m q.panels) e
 
 pub held-count : (q : Panels) (ys : List ℕ) → q ≡ hold_panels ys → q.count ≡ length ys
 unfolding hold_panels
@@ -76,9 +84,9 @@ none-removed p = none-held
 
 -- ---- one panel more is looked at
 
-module _ (xs : List ℕ) (i : ℕ) (e : length xs ≡ 8) (l : i < 8) where
+module _ (xs : List ℕ) (i : ℕ) (low : length xs ≤ most_panels) (l : i < length xs) where
   next : take (i + 1) xs ≡ take i xs ++ (get_or xs i 0 ∷ [])
-  next = ap (λ (n : ℕ). take n xs) (add-one i) ∙ take-suc xs i 0 (omega arith)
+  next = ap (λ (n : ℕ). take n xs) (add-one i) ∙ take-suc xs i 0 l
 
   few : length (take i xs) ≡ i
   few = length-take-le i xs (omega arith)

@@ -1,11 +1,13 @@
 // The panels of a container, and the operations of a step on them. Nothing is checked again: what is needed is required.
 #![tactic(auto)]
 
-ghost use Rattle.std.specs.Prelude.{◌≤◌, ◌<◌, ◌≡◌};
-ghost use Rattle.panels.specs.Operations.{most_panels, operation, operated, remove_topmost, operations_in, good_operations};
-ghost use Rattle.panels.specs.Stored.{no_panels, view_panels, hold_panels, pushed, IsClean, carried_or37};
+ghost use Rattle.std.specs.Prelude.{◌≤◌, ◌<◌, ◌≡◌, [], ◌∷◌};
+ghost use Rattle.panels.specs.Operations.{most_panels, remove_topmost, operations_in, good_operations};
+ghost use Rattle.panels.specs.Stored.{no_panels, view_panels, hold_panels, pushed, IsClean, read_operation, written_operation, carried_or37};
 
-// Panels, bottom first: those below `count`.
+use model::Refusal;
+
+// Panels, bottom first: those below `count`. An array and a count: C reads it, and memory is fixed.
 #[repr(C)]
 #[derive(Clone, Copy)]
 pub struct Panels {
@@ -13,11 +15,25 @@ pub struct Panels {
     pub panels: [u8; Panels::PANELS],
 }
 
-// The panels that a step makes and 0, or none and 37.
+// An operation of a step: its panel is added on top; its topmost copy is removed; all panels are removed, and it is added.
 #[derive(Clone, Copy)]
-pub struct Carried {
-    pub panels: Panels,
-    pub refusal: u8,
+enum Operation {
+    Add(u8),
+    Remove(u8),
+    Replace(u8),
+}
+
+impl Operation {
+    // By its kind, 1 to 3: no other kind passes `good_operations`.
+    fn of(kind: u8, p: u8) -> Operation
+        ensures { result ≡ read_operation kind p }
+    {
+        match kind {
+            1 => Operation::Add(p),
+            2 => Operation::Remove(p),
+            _ => Operation::Replace(p),
+        }
+    }
 }
 
 impl Panels {
@@ -40,7 +56,7 @@ impl Panels {
         requires { self.count < most_panels }
         ensures { result ≡ pushed self p }
     {
-        let h = self.count as usize;
+        let h = usize::from(self.count);
         let mut out = self;
         out.panels[h] = p;
         out.count = self.count + 1;
@@ -52,12 +68,10 @@ impl Panels {
         requires { self.count ≤ most_panels }
         ensures { result ≡ hold_panels (view_panels self) }
     {
-        let n = self.count as usize;
+        let n = usize::from(self.count);
         let mut out = Panels::none();
-        let mut i: usize = 0;
-        while i < n {
-            out = out.push(self.panels[i]);
-            i += 1;
+        for x in &self.panels[..n] {
+            out = out.push(*x);
         }
         out
     }
@@ -67,67 +81,45 @@ impl Panels {
         requires { self.count ≤ most_panels }
         ensures { result ≡ hold_panels (remove_topmost p (view_panels self)) }
     {
-        let n = self.count as usize;
+        let n = usize::from(self.count);
         let mut all = Panels::none();
         let mut out = Panels::none();
-        let mut i: usize = 0;
-        while i < n {
-            let x = self.panels[i];
-            if x == p {
-                out = all;
-            } else {
-                out = out.push(x);
-            }
-            all = all.push(x);
-            i += 1;
+        for x in &self.panels[..n] {
+            out = if *x == p { all } else { out.push(*x) };
+            all = all.push(*x);
         }
         out
     }
 
-    // One operation, which makes no ninth panel.
-    fn operate(self, kind: u8, p: u8) -> Panels
-        requires clean { IsClean self }
-        requires room { kind ≡ 1 → self.count < most_panels }
-        ensures { result ≡ hold_panels (operated (operation kind p) (view_panels self)) }
+    // One operation: 37 where it would make a ninth panel.
+    fn operate(self, operation: Operation) -> Result<Panels, Refusal>
+        requires { IsClean self }
+        ensures { result ≡ carried_or37 (written_operation operation ∷ []) (view_panels self) }
     {
-        if kind == 1 {
-            return self.push(p);
+        match operation {
+            Operation::Add(_) if self.count == Panels::MOST => Err(Refusal::PanelsFull),
+            Operation::Add(p) => Ok(self.push(p)),
+            Operation::Remove(p) => Ok(self.without_topmost(p)),
+            Operation::Replace(p) => Ok(Panels::none().push(p)),
         }
-        if kind == 2 {
-            return self.without_topmost(p);
-        }
-        Panels::none().push(p)
     }
 
-    // The operations of a step, one after the other.
-    pub fn carry(self, operations: &[u8]) -> Carried
+    // The operations of a step, one after the other, two bytes each: a slice pattern takes them from what is left.
+    pub fn carry(self, operations: &[u8]) -> Result<Panels, Refusal>
         requires { self.count ≤ most_panels }
         ensures { result ≡ carried_or37 (operations_in operations.now) (view_panels self) }
     {
-        let n = operations.len() / 2;
         let mut out = self.cleaned();
-        let mut i: usize = 0;
-        while i < n {
-            let kind = operations[2 * i];
-            let p = operations[2 * i + 1];
-            if (kind == 1) & (out.count == Panels::MOST) {
-                let none = Panels::none();
-                return Carried {
-                    panels: none,
-                    refusal: 37,
-                };
-            }
-            out = out.operate(kind, p);
-            i += 1;
+        let mut left = operations;
+        while let [kind, p, rest @ ..] = left {
+            out = out.operate(Operation::of(*kind, *p))?;
+            left = rest;
         }
-        Carried {
-            panels: out,
-            refusal: 0,
-        }
+        Ok(out)
     }
 }
 
-// 1 to 4 operations of kinds 1 to 3, kind and panel in turn.
+// 1 to 4 operations of kinds 1 to 3, kind and panel in turn, taken from what is left as they are carried out.
 pub fn good_operations(operations: &[u8]) -> bool
     ensures { result ≡ good_operations operations.now }
 {
@@ -135,14 +127,12 @@ pub fn good_operations(operations: &[u8]) -> bool
     if (length != 2) & (length != 4) & (length != 6) & (length != 8) {
         return false;
     }
-    let n = length / 2;
-    let mut i: usize = 0;
-    while i < n {
-        let kind = operations[2 * i];
-        if (kind < 1) | (3 < kind) {
+    let mut left = operations;
+    while let [kind, _, rest @ ..] = left {
+        if (*kind < 1) | (3 < *kind) {
             return false;
         }
-        i += 1;
+        left = rest;
     }
     true
 }

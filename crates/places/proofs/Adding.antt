@@ -2,15 +2,15 @@
 use Prim.Native.Nat.{ℕ, ◌+◌, ◌≤◌, ◌<◌}
 use mathlib.Core.Path.{◌≡◌, ◌∙◌}
 use mathlib.Core.List.{List}
-use native.Mathlib.Numerals.{add-one}
 use native.Mathlib.Omega.{arith}
 use lib.ListN.{length, get_or, take, drop, drop_of_length-le}
-use lib.Seq.{drop-cons, get_or-take, length-take-le}
+use lib.Seq.{get_or-take, length-take-le}
+use Rattle.std.proofs.lemmas.List.Sums.{sum_by-drop_more}
 use Rattle.places.specs.PlaceTests.{total}
 
 module _ (l : List ℕ) (i : ℕ) where
   pub total-step : i < length l → total (drop i l) ≡ get_or l i 0 + total (drop (i + 1) l)
-  total-step h = rw (add-one i, drop-cons l i 0 h)
+  total-step h = sum_by-drop_more (λ (x : ℕ). x) l i 0 h
 
   pub total-end : length l ≤ i → total (drop i l) ≡ 0
   total-end h = rw (drop_of_length-le l h)

@@ -1,5 +1,5 @@
 -- Soundness of a place of what is stored, cut into the tests that the code makes.
-use Rattle.std.specs.Prelude.{ℕ, ◌+◌, Bool, not, ◌&&◌, List, [], ◌∷◌, leb, ltb, eqb, take, if◌then◌else◌}
+use Rattle.std.specs.Prelude.{ℕ, Bool, not, ◌&&◌, List, sum, leb, ltb, eqb, take, if◌then◌else◌}
 use Rattle.model.specs.Lists.{all}
 use Rattle.model.specs.Table.{size_of, is_single_instance}
 use Rattle.model.specs.Session.{most_height, task_sound}
@@ -8,8 +8,7 @@ use Rattle.session.specs.Stored.{view_task}
 
 -- the sum
 abbrev pub total : List ℕ → ℕ
-total [] = 0
-total (x ∷ xs) = x + total xs
+total = sum
 
 -- above the sum of 32 bytes
 abbrev pub no_sum : ℕ

@@ -2,7 +2,7 @@
 // that no screen has; and whether four places are blank. Whatever their bytes say, nothing is read outside of their arrays.
 #![tactic(auto)]
 
-ghost use Rattle.std.specs.Prelude.{◌+◌, ◌≤◌, ◌≡◌, [], ◌∷◌, ltb, set, take};
+ghost use Rattle.std.specs.Prelude.{◌+◌, ◌≤◌, ◌≡◌, [], ◌∷◌, length, ltb, set, take};
 ghost use Rattle.model.specs.Lists.{all};
 ghost use Rattle.model.specs.Table.{table_refusal};
 ghost use Rattle.model.specs.Session.{most_tasks, most_height};
@@ -11,39 +11,32 @@ ghost use Rattle.places.specs.PlaceTests.{total, plain_sum, used_sum, expected_s
 
 use session::{Session, Task};
 
-// A number that no sum of 32 bytes is.
+// A number that no sum of 32 bytes is. A number, and no Option: one comparison with the sum of all 32 bytes tells both.
 const NO_SUM: u32 = 0x10000;
 
-// A number that no screen has.
+// A number that no screen has. No Option: the roots stand in an array of bytes, of which vector code is made.
 pub const NO_ROOT: u8 = 255;
 
-// The sum of a task's screens and of the bytes beyond its height.
-fn sum_of(t: Task) -> u32
-    ensures { result ≡ total t.screens }
+// The sum of these bytes: a task's screens, and what stands beyond its height.
+fn sum_of(screens: &[u8]) -> u32
+    requires { length screens.now ≤ most_height }
+    ensures { result ≡ total screens.now }
 {
-    let mut sum: u32 = 0;
-    let mut i: usize = 0;
-    while i < Session::SCREENS {
-        sum += t.screens[i] as u32;
-        i += 1;
-    }
-    sum
+    screens.iter().map(|x| u32::from(*x)).sum()
 }
 
-// Storage for four tasks in which nothing stands.
+// Storage for four tasks in which nothing stands. Four together, and no end before the last byte: so it becomes vector code.
 pub fn blank_four(a: Task, b: Task, c: Task, d: Task) -> bool
     ensures { result ≡ all is_blank (a ∷ b ∷ c ∷ d ∷ []) }
 {
     let mut zero = (a.root == 0) & (a.height == 0) & (b.root == 0) & (b.height == 0);
     zero = zero & (c.root == 0) & (c.height == 0) & (d.root == 0) & (d.height == 0);
-    let mut i: usize = 0;
-    while i < Session::SCREENS {
+    for i in 0..Session::SCREENS {
         zero = zero
             & (a.screens[i] == 0)
             & (b.screens[i] == 0)
             & (c.screens[i] == 0)
             & (d.screens[i] == 0);
-        i += 1;
     }
     zero
 }
@@ -55,17 +48,14 @@ fn plain_sum(table: &[u8], t: Task, h: usize) -> u32
 {
     let size = table::size(table);
     let mut sum: u32 = 0;
-    let mut i: usize = 0;
-    while i < h {
-        let x = t.screens[i];
-        if x >= size {
+    for x in &t.screens[..h] {
+        if *x >= size {
             return NO_SUM;
         }
-        if table::mode(table, x) == 3 {
+        if table::is_single_instance(table, *x) {
             return NO_SUM;
         }
-        sum += x as u32;
-        i += 1;
+        sum += u32::from(*x);
     }
     sum
 }
@@ -79,14 +69,14 @@ fn used_sum(table: &[u8], t: Task) -> u32
     if root >= table::size(table) {
         return NO_SUM;
     }
-    let h = t.height as usize;
+    let h = usize::from(t.height);
     if h < 1 {
         return NO_SUM;
     }
     if h > Session::SCREENS {
         return NO_SUM;
     }
-    if table::mode(table, root) != 3 {
+    if !table::is_single_instance(table, root) {
         return plain_sum(table, t, h);
     }
     if h > 1 {
@@ -95,7 +85,7 @@ fn used_sum(table: &[u8], t: Task) -> u32
     if t.top() != root {
         return NO_SUM;
     }
-    root as u32
+    u32::from(root)
 }
 
 // The sum of the screens that a place may hold: of a sound task where one stands, else 0; or NO_SUM.
@@ -121,7 +111,7 @@ fn place_root(table: &[u8], used: bool, t: Task, again: Task) -> u8
     requires { table_refusal table.now ≡ 0 }
     ensures { result ≡ root_or (expected_sum table.now used t) (total again.screens) t.root }
 {
-    if expected_sum(table, used, t) != sum_of(again) {
+    if expected_sum(table, used, t) != sum_of(&again.screens) {
         return NO_ROOT;
     }
     t.root

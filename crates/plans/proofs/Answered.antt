@@ -1,4 +1,4 @@
--- The answer that is made from a plan is a look at what the plan puts, with the screens that close, or its refusal.
+-- The answer that is made from a plan is a look at what the plan puts, with the screens that close.
 use Prim.Native.Nat.{ℕ, zero, suc, ◌≤◌}
 use mathlib.Core.Path.{◌≡◌, refl, sym, ◌∙◌, ap}
 use mathlib.Core.Bool.{Bool, true, false}
@@ -18,7 +18,7 @@ use Rattle.answer.proofs.LookLaws.{look-fronted}
 use Rattle.effects.specs.Rows.{shifted}
 use Rattle.plans.specs.declared.Plan.{Plan}
 use Rattle.plans.specs.Puts.{popped_if, gone_if, row_of}
-use Rattle.plans.proofs.Puts.{put_of}
+use Rattle.plans.specs.Puts.{put_of}
 use Rattle.plans.specs.Shown.{shown_by, answer_for, Showable}
 
 -- where the front task goes, no other went back before it, and none pops: then the one behind it is shown
@@ -63,23 +63,20 @@ module _ (p : Plan) (ts : List Task) (l : 2 ≤ length ts) (u : Uncovers p) wher
 
 -- ---- the answer
 
-module _ (s : Session) (z : Sized s) (p : Plan) (accepted : p.refusal ≡ 0) (u : Uncovers p)
+module _ (s : Session) (z : Sized s) (p : Plan) (u : Uncovers p)
     (sizes : Sized (put_of s p)) (seen : Seen (put_of s p)) where
   shown : get_or (row_of p s.tasks) 0 no_task ≡ shown_by p.gone p.front (task_behind s 1)
   shown = row_first p s.tasks (let l = z.tasks in omega arith) u
 
   pub showable : Showable p (task_behind s 1)
-  showable e some = rw (← shown) (seen.filled some, seen.low some)
+  showable some = rw (← shown) (seen.filled some, seen.low some)
 
   pub answers-look : answer_for p (task_behind s 1) ≡ with_closed p.closed (look_at (view (put_of s p)))
   answers-look =
-      rw (accepted, ← shown)
+      rw (← shown)
       (closed-by (row_of p s.tasks) p.n p.main p.closed p.edition p.no_history ∙ ap (with_closed p.closed) (sym (look-fronted (put_of s p) sizes seen)))
     where
       closed-by : (ts : List Task) (n m x e h : ℕ)
           → answer_of (get_or ts 0 no_task) n m x e h ≡ with_closed x (answer_of (get_or ts 0 no_task) n m 0 e h)
       closed-by ts zero m x e h = refl
       closed-by ts (suc n) m x e h = refl
-
-pub refused-showable : (p : Plan) (t : Task) → (p.refusal ≡ 0 → ⊥) → Showable p t
-refused-showable p t bad e = absurd (bad e)

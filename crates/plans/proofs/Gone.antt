@@ -10,8 +10,8 @@ use Rattle.model.specs.Session.{State, on_tasks, on_main, set_no_history, count,
 use Rattle.model.specs.Effects.{main_without, without_task, close}
 use Rattle.model.proofs.ListLaws.{omit-length, map-omit}
 use Rattle.session.specs.declared.Session.{Session}
-use Rattle.session.specs.Stored.{view, hold, hold_task, pad, no_task, blank_task, with_tasks, storage_blank}
-use Rattle.session.proofs.Setters.{with_count, with_main, with_edition, with_no_history}
+use Rattle.session.specs.Stored.{view, hold, hold_task, pad, no_task, blank_task, storage_blank}
+use Rattle.session.proofs.Setters.{with_tasks, with_count, with_main, with_edition, with_no_history}
 use Rattle.session.proofs.Known.{Sized}
 use Rattle.session.proofs.StoredLaws.{held, blank-few}
 use Rattle.session.proofs.SessionLaws.{hold_row}

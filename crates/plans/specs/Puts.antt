@@ -31,3 +31,7 @@ Poppable pops ts = pops ≡ true → (0 < (get_or ts 1 no_task).height) × ((get
 pub record Puttable (s : Session) (p : Plan) : Type 0 where
   pub few : p.shift < most_tasks
   pub second : Poppable p.pops (shifted p.front p.shift s.tasks)
+
+-- the session with its tasks and its numbers
+abbrev pub put_of : Session → Plan → Session
+put_of s p = record { tasks = row_of p s.tasks; n = p.n; main = p.main; edition = p.edition; no_history = p.no_history }

@@ -1,8 +1,7 @@
 -- The answer of a call by its plan, and what making it relies on.
-use Rattle.std.specs.Prelude.{ℕ, zero, suc, ◌≤◌, ◌≡◌}
+use Rattle.std.specs.Prelude.{ℕ, zero, suc, ◌≤◌}
 use Rattle.model.specs.declared.Answer.{Answer}
 use Rattle.model.specs.Session.{most_height}
-use Rattle.model.specs.Answers.{answer_by}
 use Rattle.session.specs.declared.Task.{Task}
 use Rattle.answer.specs.Seen.{answer_of}
 use Rattle.plans.specs.declared.Plan.{Plan}
@@ -15,10 +14,10 @@ shown_by (suc g) front second = front
 -- second is the task behind the front one before the call
 abbrev pub answer_for : Plan → Task → Answer
 answer_for p second =
-    answer_by p.refusal (answer_of (shown_by p.gone p.front second) p.n p.main p.closed p.edition p.no_history)
+    answer_of (shown_by p.gone p.front second) p.n p.main p.closed p.edition p.no_history
 
--- where the call is accepted and a task stands after it, the one that is shown has screens
+-- where a task stands after the call, the one that is shown has screens
 abbrev pub Showable : Plan → Task → Type 0
 Showable p second =
-    p.refusal ≡ 0 → 1 ≤ p.n
+    1 ≤ p.n
     → (1 ≤ (shown_by p.gone p.front second).height) × ((shown_by p.gone p.front second).height ≤ most_height)

@@ -1,75 +1,59 @@
-// A call first makes its plan from the session; then one function puts it. The answer is made from the plan.
+// A call first makes its plan from the session; then one function puts it. The answer is made from the plan. A refused call has none.
 #![tactic(auto)]
 
 ghost use Rattle.std.specs.Prelude.{◌+◌, ◌≤◌, ◌≡◌, leb};
 ghost use Rattle.model.specs.Session.{most_height, edition_kept};
 ghost use Rattle.model.specs.Marks.{closed_at};
-ghost use Rattle.session.specs.Stored.{with_tasks};
-ghost use Rattle.plans.specs.Puts.{Puttable, row_of};
+ghost use Rattle.plans.specs.Puts.{Puttable, put_of};
 ghost use Rattle.plans.specs.Plans.{still_of, closes_with, gone_by, front_by, pops_by, count_by, main_by, Opens};
 ghost use Rattle.plans.specs.Shown.{answer_for, Showable};
 
-use model::{Answer, Mark};
+use model::{Answer, Position};
 use session::{Session, Task};
 
 // The front task after the call, how many tasks go one place back, which task goes then, if one does, whether the
-// task behind the front one loses its top screen, the numbers, how many screens close, the edition, and the No-History mark. A
-// refused call changes nothing.
+// task behind the front one loses its top screen, the numbers, how many screens close, the edition, and the No-History mark.
 #[derive(Clone, Copy)]
 pub struct Plan {
     pub front: Task,
     pub main: u8,
     pub shift: u8,
     pub n: u8,
+    // 16 for none. As an `Option` of an index it would have to be below 16, a clause more for `put`.
     pub gone: u8,
     pub pops: bool,
-    pub refusal: u8,
     pub closed: u8,
     pub edition: u8,
     pub no_history: u8,
 }
 
 // What stands for no task among the indices of tasks, and the last of these.
-pub const NO_TASK: u8 = Session::TASKS as u8;
+const NO_TASK: u8 = Session::TASKS as u8;
 
-pub const LAST: usize = Session::TASKS - 1;
+const LAST: usize = Session::TASKS - 1;
 
 // ---- put
 
-// The tasks; the numbers are the caller's to store. One function, so that the compiler keeps one session. `play::run` has these
-// statements too, on a session of its own.
-pub fn put(s: Session, plan: Plan) -> Session
-    requires { Puttable s plan }
-    ensures { result ≡ with_tasks s (row_of plan s.tasks) }
+// Puts a plan into the session where it stands.
+pub fn put(s: &mut Session, plan: Plan)
+    requires { Puttable s.old plan }
+    ensures { s.new ≡ put_of s.old plan }
 {
-    let front = plan.front;
-    let mut out = s;
-    let mut i = plan.shift as usize;
-    while i > 0 {
-        let x = out.tasks[i - 1];
-        out.tasks[i] = x;
-        i -= 1;
-    }
-    out.tasks[0] = front;
+    let shift = usize::from(plan.shift);
+    s.tasks.copy_within(0..shift, 1);
+    s.tasks[0] = plan.front;
     if plan.pops {
-        let x = out.tasks[1];
-        out.tasks[1] = x.pop();
-    }
-    let mut j = plan.gone as usize;
-    while j < LAST {
-        let x = out.tasks[j + 1];
-        out.tasks[j] = x;
-        j += 1;
+        s.tasks[1] = s.tasks[1].pop();
     }
     if plan.gone < NO_TASK {
-        let blank = Task {
-            screens: [0; Session::SCREENS],
-            root: 0,
-            height: 0,
-        };
-        out.tasks[LAST] = blank;
+        let gone = usize::from(plan.gone);
+        s.tasks.copy_within(gone + 1..Session::TASKS, gone);
+        s.tasks[LAST] = Task::blank();
     }
-    out
+    s.n = plan.n;
+    s.main = plan.main;
+    s.edition = plan.edition;
+    s.no_history = plan.no_history;
 }
 
 // ---- the answer
@@ -79,9 +63,6 @@ pub fn answer_of(plan: Plan, second: Task) -> Answer
     requires { Showable plan second }
     ensures { result ≡ answer_for plan second }
 {
-    if plan.refusal != 0 {
-        return answer::refused(plan.refusal);
-    }
     if plan.gone == 0 {
         return answer::of_front(
             second,
@@ -105,9 +86,9 @@ pub fn answer_of(plan: Plan, second: Task) -> Answer
 
 // ---- plans
 
-// A refused call's plan.
-pub fn still(s: Session, refusal: u8) -> Plan
-    ensures { result ≡ still_of s refusal }
+// The plan that changes nothing.
+pub fn still(s: Session) -> Plan
+    ensures { result ≡ still_of s }
 {
     let front = s.tasks[0];
     Plan {
@@ -117,7 +98,6 @@ pub fn still(s: Session, refusal: u8) -> Plan
         n: s.n,
         gone: NO_TASK,
         pops: false,
-        refusal: refusal,
         closed: 0,
         edition: s.edition,
         no_history: s.no_history,
@@ -125,50 +105,43 @@ pub fn still(s: Session, refusal: u8) -> Plan
 }
 
 // The task that goes since the marked screen is its only one: 0 the front one, 1 the one behind it, or none.
-fn gone_by(mark: Mark, front: u8, second: u8) -> u8
+fn gone_by(mark: Option<Position>, front: u8, second: u8) -> u8
     ensures { result ≡ gone_by mark (leb front 1) (leb second 1) }
 {
-    match mark {
-        Mark::Gone => NO_TASK,
-        Mark::Stands(k, _) => {
-            if k == 0 {
-                if front <= 1 {
-                    return 0;
-                }
-                return NO_TASK;
-            }
-            if second <= 1 {
-                return 1;
-            }
-            NO_TASK
+    let Some(p) = mark else {
+        return NO_TASK;
+    };
+    if p.behind == 0 {
+        if front <= 1 {
+            return 0;
         }
+        return NO_TASK;
     }
+    if second <= 1 {
+        return 1;
+    }
+    NO_TASK
 }
 
 // The front task, without the marked screen where it stands there with others.
-fn front_by(mark: Mark, gone: u8, t: Task) -> Task
+fn front_by(mark: Option<Position>, gone: u8, t: Task) -> Task
     requires { Opens mark t }
     ensures { result ≡ front_by mark gone t }
 {
-    match mark {
-        Mark::Gone => t,
-        Mark::Stands(k, i) => {
-            if (k == 0) & (gone == NO_TASK) {
-                return closing::without_screen(t, i);
-            }
-            t
-        }
+    let Some(p) = mark else {
+        return t;
+    };
+    if (p.behind == 0) & (gone == NO_TASK) {
+        return closing::without_screen(t, p.below);
     }
+    t
 }
 
 // The marked screen is the top of the task behind the front one, and that task stays.
-fn pops_by(mark: Mark, gone: u8) -> bool
+fn pops_by(mark: Option<Position>, gone: u8) -> bool
     ensures { result ≡ pops_by mark gone }
 {
-    match mark {
-        Mark::Gone => false,
-        Mark::Stands(k, _) => (k != 0) & (gone == NO_TASK),
-    }
+    mark.is_some_and(|p| (p.behind != 0) & (gone == NO_TASK))
 }
 
 fn count_by(gone: u8, n: u8) -> u8
@@ -191,14 +164,11 @@ fn main_by(gone: u8, main: u8) -> u8
 }
 
 // So many screens, and the marked one where it stands.
-fn closed_with(mark: Mark, closed: u8) -> u8
+fn closed_with(mark: Option<Position>, closed: u8) -> u8
     requires { closed ≤ most_height }
     ensures { result ≡ closed + closed_at mark }
 {
-    match mark {
-        Mark::Gone => closed,
-        Mark::Stands(_, _) => closed + 1,
-    }
+    closed + u8::from(mark.is_some())
 }
 
 // The edition where n tasks stand: 8 where none does.
@@ -225,7 +195,7 @@ pub struct Moved {
 }
 
 // The plan of t in front and of that, and then the marked screen closes. The No-History mark is cleared.
-pub fn closing_plan(mark: Mark, t: Task, moved: Moved) -> Plan
+pub fn closing_plan(mark: Option<Position>, t: Task, moved: Moved) -> Plan
     requires { Opens mark t × (1 ≤ moved.n) × (moved.closed ≤ most_height) }
     ensures { result ≡ closes_with mark t moved }
 {
@@ -238,7 +208,6 @@ pub fn closing_plan(mark: Mark, t: Task, moved: Moved) -> Plan
         n: left,
         gone: gone,
         pops: pops_by(mark, gone),
-        refusal: 0,
         closed: closed_with(mark, moved.closed),
         edition: edition_by(left, moved.edition),
         no_history: 0,

@@ -16,8 +16,10 @@ use Rattle.session.specs.Stored.{fresh_session, view, hold, Ready}
 use Rattle.session.proofs.Known.{Sized}
 use Rattle.session.proofs.StoredLaws.{fresh-held, held, view-hold, hold-sound, hold-blank, hold-sized, sound-fits, sound-view}
 use Rattle.calls.specs.declared.Reply.{Reply}
-use Rattle.calls.specs.StoredCalls.{reply, shared_refusal, reply_stored}
-use Rattle.calls.proofs.Settling.{shared-bad-table, shared-passed, call-refused}
+use Rattle.checks.specs.Shared.{shared_refusal}
+use Rattle.calls.specs.StoredCalls.{reply, reply_stored}
+use Rattle.checks.proofs.SharedLaws.{shared-bad-table, shared-passed}
+use Rattle.calls.proofs.Settling.{call-refused}
 use Rattle.calls.proofs.HistoryLaws.{stored_outcome, call-held}
 use Rattle.play.specs.Playable.{Playable}
 

@@ -5,6 +5,7 @@
 ghost use Rattle.std.specs.Prelude.{◌+◌, ◌*◌, ◌/◌, ◌≤◌, min, ◌≡◌, length};
 ghost use Rattle.model.specs.Player.{records_in, text_of, session_after, longest_line};
 ghost use Rattle.model.specs.Explained.{longest_explained};
+ghost use Rattle.model.specs.Refusals.{numbered};
 ghost use Rattle.model.specs.Written.{written as written_into};
 ghost use Rattle.session.specs.Stored.{view, hold};
 ghost use Rattle.reasons.specs.StoredReasons.{reason_made};
@@ -12,13 +13,15 @@ ghost use Rattle.play.specs.Playable.{Playable};
 ghost use Rattle.play.specs.Fitting.{fitting, bytes_taken};
 ghost use Rattle.play.specs.Manners.{in_words, record_said, said, longest_said, tallied_in, Runs};
 
-use model::Answer;
-use session::{Session, Task};
+use checks::Checked;
+use model::{Answer, Refusal};
+use session::Session;
 use starts::Decided;
 use tally::Tally;
 
 // What is said of each record: nothing, and its answer is tallied; the player's line; the reason too, under that of a start; or that
-// with its sentence.
+// with its sentence. An enum and no closure: a closure for each would be a second call of the loop, which costs the player a tenth
+// of its time and more.
 #[derive(Clone, Copy)]
 pub enum Manner {
     Heights,
@@ -31,12 +34,7 @@ pub enum Manner {
 fn in_words(manner: Manner) -> bool
     ensures { result ≡ in_words manner }
 {
-    match manner {
-        Manner::Heights => false,
-        Manner::Lines => false,
-        Manner::Reasons => false,
-        Manner::Sentences => true,
-    }
+    matches!(manner, Manner::Sentences)
 }
 
 // The place behind the text that was said, and the tally.
@@ -46,18 +44,18 @@ struct Spoken {
     tally: Tally,
 }
 
-// Writes the line of a record, and the reason of a start under it.
+// Writes the line of a record, and the reason of a start under it. By its kind: a cut record asks for nothing, and has its reason.
 fn write_record(
     out: &mut [u8],
     at: usize,
     kind: u8,
     answer: Answer,
-    decided: Decided,
+    decided: Result<Decided, Refusal>,
     words: bool,
 ) -> usize
     requires { at + longest_explained ≤ length out.old }
-    ensures place { result ≡ at + length (record_said words kind answer (reason_made decided)) }
-    ensures text { out.new ≡ written_into out.old at (record_said words kind answer (reason_made decided)) }
+    ensures place { result ≡ at + length (record_said words kind answer (reason_made (numbered decided))) }
+    ensures text { out.new ≡ written_into out.old at (record_said words kind answer (reason_made (numbered decided))) }
     ensures bound { result ≤ at + longest_explained }
 {
     let end = line::write_line(out, at, kind, answer);
@@ -75,18 +73,17 @@ fn speak(
     manner: Manner,
     kind: u8,
     answer: Answer,
-    decided: Decided,
+    decided: Result<Decided, Refusal>,
 ) -> Spoken
     requires { at + longest_said manner ≤ length out.old }
-    ensures place { result.at ≡ at + length (said manner kind answer (reason_made decided)) }
-    ensures text { out.new ≡ written_into out.old at (said manner kind answer (reason_made decided)) }
+    ensures place { result.at ≡ at + length (said manner kind answer (reason_made (numbered decided))) }
+    ensures text { out.new ≡ written_into out.old at (said manner kind answer (reason_made (numbered decided))) }
     ensures bound { result.at ≤ at + longest_said manner }
     ensures tally { result.tally ≡ tallied_in manner tally answer }
 {
     match manner {
         Manner::Heights => {
-            let added = tally.add(answer.refusal, answer.height);
-            let t = added.tally;
+            let t = tally.add(answer.refusal, answer.height).unwrap_or(tally);
             Spoken { at: at, tally: t }
         }
         Manner::Lines => {
@@ -115,7 +112,8 @@ pub struct Ran {
 }
 
 // Plays the records in the input from a session, and says them at the start of `out`. A last record of fewer than six bytes is cut.
-// Each plan is put where the session stands: to pass the session to `plans::put` and back is to copy it twice.
+// In a `while`: a record is told by its place, and its end by the input. `Playable` stays a clause: docs/DECISIONS.md names this
+// function, and a type would ask more.
 pub fn run(
     table: &[u8],
     from: Session,
@@ -128,7 +126,7 @@ pub fn run(
     requires input_in_bounds { longest_said manner * length (records_in input.now) ≤ length out.old }
     ensures { Runs manner table.now from tally (records_in input.now) out.old out.new result }
 {
-    let refusal = table::refusal(table);
+    let checked = table::check(table);
     let mut s = from;
     let mut told = tally;
     let mut at: usize = 0;
@@ -136,43 +134,13 @@ pub fn run(
     while p < input.len() {
         let r = records::read(input, p);
         p = records::end_of(input, p);
-        let sought = calls::seek_for(table, s, r, refusal);
-        let k = sought.index;
-        let t = s.tasks[k];
-        let decided = calls::decide_for(table, s, t, sought, r);
-        let plan = decided.plan;
-        let second = s.tasks[1];
-        let answer = plans::answer_of(plan, second);
-        s.n = plan.n;
-        s.main = plan.main;
-        s.edition = plan.edition;
-        s.no_history = plan.no_history;
-        let front = plan.front;
-        let mut j = plan.shift as usize;
-        while j > 0 {
-            let x = s.tasks[j - 1];
-            s.tasks[j] = x;
-            j -= 1;
-        }
-        s.tasks[0] = front;
-        if plan.pops {
-            let x = s.tasks[1];
-            s.tasks[1] = x.pop();
-        }
-        let mut g = plan.gone as usize;
-        while g < plans::LAST {
-            let x = s.tasks[g + 1];
-            s.tasks[g] = x;
-            g += 1;
-        }
-        if plan.gone < plans::NO_TASK {
-            let blank = Task {
-                screens: [0; Session::SCREENS],
-                root: 0,
-                height: 0,
-            };
-            s.tasks[plans::LAST] = blank;
-        }
+        let on = Checked {
+            table: table,
+            session: &s,
+            refused: checked,
+        };
+        let decided = calls::decide(&on, r);
+        let answer = calls::carry_out(&mut s, calls::plan_of(decided));
         let spoken = speak(out, at, told, manner, r.kind, answer, decided);
         at = spoken.at;
         told = spoken.tally;

@@ -14,14 +14,15 @@ ghost use Rattle.reading.specs.Blocks.{most_records};
 ghost use Rattle.player_files.specs.Turns.{Says, Turns};
 
 use notes::Notes;
-use reading::{BLOCK, RECORDS};
+use play::Played;
+use reading::{BLOCK, BLOCKS, RECORDS};
 use session::Session;
 use std::io::Read;
-use table::Beginning;
 
 // ---- kind 6, which is the restore of `same` and no record of the player
 
-// The records of kind 6 in a block: how many, and the number of the first in the block, counted from 1.
+// The records of kind 6 in a block: how many, and the number of the first in the block, counted from 1. A place is counted by hand:
+// with `chunks(6).enumerate()` the player passes its bound of instructions a record.
 fn restores(block: &[u8]) -> Notes
     ensures { Tells (restores_from 1 (records_in block.now)) result }
 {
@@ -65,17 +66,16 @@ fn warn(rt: &impl Eprint, met: Notes) {
     if met.count == 0 {
         return;
     }
-    let _ = rt.eprint(
-        "warning: records of kind 6, a restore in recordings for `same` and unknown to the player: ",
+    let _ = eprintln!(rt;
+        "warning: records of kind 6, a restore in recordings for `same` and unknown to the player: {}, the first on line {}",
+        met.count, met.first
     );
-    let _ = rt.eprint(met.count);
-    let _ = rt.eprint(", the first on line ");
-    let _ = rt.eprintln(met.first);
 }
 
 // ---- blocks
 
 // What is said of each record: the player's line alone; or the reason too, under that of a start; or that with its sentence.
+// Three of `play::Manner`'s: in the fourth nothing is said.
 #[derive(Clone, Copy)]
 pub enum Manner {
     Lines,
@@ -83,14 +83,26 @@ pub enum Manner {
     Sentences,
 }
 
-// What saying a block leaves: the session, and whether all of it was written.
+// What saying a block leaves: the session, and whether all of it was written. No `Result`: `Says` tells of the session either way.
 #[derive(Clone, Copy)]
 struct Said {
     session: Session,
     went: bool,
 }
 
-// Says the player's lines of a block.
+// Prints what was played, which stands at the start of the buffer.
+fn print_played(rt: &(impl Print + Eprint), played: Played, output: &[u8]) -> Said
+    requires { played.written ≤ length output.now }
+    ensures { result.session ≡ played.session }
+{
+    Said {
+        session: played.session,
+        went: reading::print(rt, &output[..played.written]),
+    }
+}
+
+// Says the player's lines of a block. A function of its own: a body over both, by `play::run`, passes by the contracts of `play::play`
+// and `explained::explain`. The clause on the session is handed on to these.
 fn say_lines(rt: &(impl Print + Eprint), table: &[u8], s: Session, block: &[u8]) -> Said
     requires playable { Playable table.now s }
     requires block_len_bound { length (records_in block.now) ≤ most_records }
@@ -98,13 +110,7 @@ fn say_lines(rt: &(impl Print + Eprint), table: &[u8], s: Session, block: &[u8])
 {
     let mut output = [0u8; line::LONGEST * RECORDS];
     let played = play::play(table, s, block, &mut output);
-    let written = played.written;
-    let went = reading::print(rt, &output[..written]);
-    let after = played.session;
-    Said {
-        session: after,
-        went: went,
-    }
+    print_played(rt, played, &output)
 }
 
 // Says them and the reasons of starts.
@@ -121,13 +127,7 @@ fn say_reasons(
 {
     let mut output = [0u8; explained::LONGEST * RECORDS];
     let played = explained::explain(table, s, block, words, &mut output);
-    let written = played.written;
-    let went = reading::print(rt, &output[..written]);
-    let after = played.session;
-    Said {
-        session: after,
-        went: went,
-    }
+    print_played(rt, played, &output)
 }
 
 // Says a block in this manner.
@@ -143,7 +143,8 @@ fn say(rt: &(impl Print + Eprint), table: &[u8], s: Session, block: &[u8], manne
     }
 }
 
-// What is left after a block: how many bytes were read, the session, the block's records of kind 6, and whether to go on.
+// What is left after a block: how many bytes were read, the session, the block's records of kind 6, and whether to go on. No
+// `Option`: `Turns` tells of the session either way.
 #[derive(Clone, Copy)]
 struct Turned {
     count: usize,
@@ -166,37 +167,30 @@ fn turn<R: Read>(
     requires input_len { length input.old ≡ 6 * most_records }
     ensures { Turns table.now s input.new result }
 {
-    let read = reading::read_block(rt, from, input);
-    let got = read.count;
+    let got = reading::read_block(rt, from, input).count;
     let met = restores(&input[..got]);
     let said = say(rt, table, s, &input[..got], manner);
-    let after = said.session;
     Turned {
         count: got,
-        session: after,
+        session: said.session,
         restores: met,
         more: said.went & (got == BLOCK),
     }
 }
 
-// Plays block after block from a fresh session. No input reaches the number of blocks that is counted down from.
+// Plays block after block from a fresh session. No input has as many blocks as it goes on for.
 fn run<R: Read>(rt: &(impl Print + Eprint), from: &mut R, table: &[u8], manner: Manner) {
     let mut s = Session::fresh();
     let mut met = Notes::none();
-    let mut others: usize = 0;
     let mut input = [0u8; BLOCK];
-    let mut left: u64 = 1000000000000000;
-    while left > 0 {
+    for block in 0..BLOCKS {
         let t = turn(rt, from, table, s, manner, &mut input);
         s = t.session;
-        let here = t.restores;
-        met = joined(met, others, here);
+        met = joined(met, RECORDS * block, t.restores);
         if !t.more {
             warn(rt, met);
             return;
         }
-        others += RECORDS;
-        left -= 1;
     }
 }
 
@@ -215,8 +209,7 @@ fn stop(rt: &(impl Print + Eprint), failed: bool) {
 pub fn play_from<R: Read>(rt: &(impl Print + Eprint), from: &mut R, manner: Manner) {
     let mut buffer = [0u8; table::LONGEST];
     let read = reading::read_table(rt, from, &mut buffer);
-    let got = read.count;
-    let Beginning::Table(long) = table::beginning_of(&buffer[..got]) else {
+    let Ok(long) = table::beginning_of(&buffer[..read.count]) else {
         stop(rt, read.failed);
         return;
     };

@@ -10,14 +10,17 @@ use std::env::FillError;
 use std::io;
 use std::io::{Cursor, ErrorKind, Write};
 use std::rt::Env;
-use table::Beginning;
+use table::NoTable;
 
 // A block is so many records, of 6 bytes each (`most_records` in `specs/Blocks`); none stands in two blocks.
 pub const RECORDS: usize = 10000;
 
 pub const BLOCK: usize = 6 * RECORDS;
 
-// What was read: how many bytes, and whether reading failed behind them.
+// No input has so many blocks.
+pub const BLOCKS: usize = 1000000000000000;
+
+// What was read: how many bytes, and whether reading failed behind them. No `Result`: what was read before a failure is played too.
 #[derive(Clone, Copy)]
 pub struct Read {
     pub count: usize,
@@ -60,13 +63,11 @@ pub fn warn_no_table(rt: &impl Eprint) {
 
 // The program has an argument at this place.
 pub fn has_argument(rt: &impl Env, place: usize) -> bool {
-    match rt.arg(place, &mut []) {
-        Err(FillError::NotPresent) => false,
-        _ => true,
-    }
+    !matches!(rt.arg(place, &mut []), Err(FillError::NotPresent))
 }
 
-// Reads until the buffer is full, the input ends or a read fails, and yields how many bytes stand at its start.
+// Reads until the buffer is full, the input ends or a read fails, and yields how many bytes stand at its start. Not by
+// `read_exact`, which does not say how many they are where it fails; and in a `while`, since each read says how far it came.
 pub fn read_full<R: io::Read>(from: &mut R, buffer: &mut [u8]) -> usize
     ensures { IsPrefixLen result buffer.new }
 {
@@ -97,16 +98,10 @@ fn fails<R: io::Read>(rt: &impl Eprint, from: &mut R) -> bool {
 pub fn read_block<R: io::Read>(rt: &impl Eprint, from: &mut R, buffer: &mut [u8]) -> Read
     ensures { IsPrefixLen result.count buffer.new }
 {
-    let got = read_full(from, buffer);
-    if got < buffer.len() {
-        return Read {
-            count: got,
-            failed: fails(rt, from),
-        };
-    }
+    let count = read_full(from, buffer);
     Read {
-        count: got,
-        failed: false,
+        count,
+        failed: count < buffer.len() && fails(rt, from),
     }
 }
 
@@ -117,7 +112,7 @@ pub fn read_table<R: io::Read>(rt: &impl Eprint, from: &mut R, buffer: &mut [u8]
 {
     let first = read_block(rt, from, &mut buffer[..2]);
     let got = first.count;
-    let Beginning::Cut(long) = table::beginning_of(&buffer[..got]) else {
+    let Err(NoTable::Cut(long)) = table::beginning_of(&buffer[..got]) else {
         return first;
     };
     if first.failed {

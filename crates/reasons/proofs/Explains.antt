@@ -18,7 +18,8 @@ use Rattle.session.specs.declared.Session.{Session}
 use Rattle.session.specs.Stored.{view, hold}
 use Rattle.session.proofs.StoredLaws.{sound-view}
 use Rattle.calls.specs.StoredCalls.{refusal_stored, call_stored, given_by}
-use Rattle.calls.proofs.Settling.{checks-ready, number-own}
+use Rattle.checks.proofs.SharedLaws.{checks-ready}
+use Rattle.calls.proofs.Settling.{number-own}
 use Rattle.reasons.specs.StoredReasons.{why_stored, CarriesOut}
 
 -- all that the contract says of the reason r

@@ -1,22 +1,20 @@
 -- The place that is reached in a list of calls, and the notes of the records before it that are no call.
 use Prim.Native.Nat.{ℕ, zero, suc, ◌+◌, ◌-◌, ◌*◌, ◌≤◌, ◌<◌}
 use mathlib.Core.Path.{◌≡◌, refl, sym, ◌∙◌, ap}
-use mathlib.Core.Bool.{Bool, true}
+use mathlib.Core.Bool.{Bool, true, false}
 use mathlib.Core.List.{List, [], ◌++◌, append_assoc}
 use native.Mathlib.Nat.{add-zero}
 use native.Mathlib.Omega.{arith}
 use lib.Dec.{ltb}
 use lib.ListN.{length, get_or, drop, length-drop, length-append}
 use lib.Seq.{drop-drop, get_or-drop}
-use borrow.Author.Tests.{le-leb, lt-leb, lt-ltb, le-ltb}
+use borrow.Author.Tests.{le-leb, lt-leb, leb-true, leb-false, lt-ltb, le-ltb}
 use Rattle.std.specs.Prelude.{if◌then◌else◌}
-use Rattle.records.specs.Records.{word_at}
 use Rattle.notes.specs.declared.Notes.{Notes}
 use Rattle.notes.specs.Places.{place_if, Tells, noted_at}
 use Rattle.notes.proofs.Noting.{place-few, tells-noted}
-use Rattle.recording.specs.CallBytes.{image_length, first_image, first_whole}
+use Rattle.recording.specs.CallBytes.{first_image, first_whole}
 use Rattle.recording.specs.Ignored.{unknown_kind, ignored_among, ignored_from}
-use Rattle.recording.proofs.Reading.{length_at, image-at}
 
 -- ---- the first record
 
@@ -40,15 +38,17 @@ module _ (p : ℕ) (l : List ℕ) where
   ignored-cut : length l < 6 + first_image l → ignored_from p l ≡ place_if (ltb 0 (length l)) p
   ignored-cut h = cut-among (length l) p l (omega arith) h
 
-  ignored-whole : 6 + first_image l ≤ length l
-      → ignored_from p l ≡ place_if (unknown_kind (get_or l 0 0)) p ++ ignored_from (p + (6 + first_image l)) (drop (6 + first_image l) l)
+  -- a whole record takes i bytes
+  ignored-whole : first_whole l ≡ true → {i : ℕ} → i ≡ 6 + first_image l
+      → ignored_from p l ≡ place_if (unknown_kind (get_or l 0 0)) p ++ ignored_from (p + i) (drop i l)
   unfolding ignored_among
-  ignored-whole h =
-      all_among (length l) (suc (length l)) p l (omega arith) (omega arith)
+  ignored-whole e is =
+      let h = leb-true (6 + first_image l) (length l) e in
+      rw is (all_among (length l) (suc (length l)) p l (omega arith) (omega arith)
       ∙ rw (le-leb (6 + first_image l) (length l) h)
       (ap (λ (ps : List ℕ). place_if (unknown_kind (get_or l 0 0)) p ++ ps)
       (all_among (length l) (length (drop (6 + first_image l) l)) (p + (6 + first_image l)) (drop (6 + first_image l) l)
-      (omega (arith, length-drop (6 + first_image l) l)) (omega arith)))
+      (omega (arith, length-drop (6 + first_image l) l)) (omega arith))))
 
 -- ---- at a place
 
@@ -70,45 +70,36 @@ left-test long p zero h e = sym (le-ltb p long (omega arith))
 left-test long p (suc left) h e = lt-ltb 0 (suc left) (omega arith) ∙ sym (lt-ltb p long (omega arith))
 
 module _ {l : List ℕ} {from : ℕ} {n : Notes} {p : ℕ} (h : Noted l from n p) where
-  -- a whole record more, with the image behind its six bytes
-  pub noted_more : p + 6 ≤ length l → (w i : ℕ) → w ≡ word_at l p → i ≡ image_length (get_or l p 0) w → i ≤ length l - (p + 6)
-      → (n' : Notes) → n' ≡ noted_at n (unknown_kind (get_or l p 0)) p → Noted l from n' (p + 6 + i)
-  noted_more six w i ew ei fits n' more =
-      let m : i ≡ length_at l p = ei ∙ ap (image_length (get_or l p 0)) ew in
+  -- a whole record more, which takes i bytes with its image
+  pub noted_more : first_whole (drop p l) ≡ true → {i : ℕ} → i ≡ 6 + first_image (drop p l)
+      → {n' : Notes} → n' ≡ noted_at n (unknown_kind (get_or l p 0)) p → Noted l from n' (p + i)
+  noted_more whole {i} is {n'} more =
+      let fits = leb-true (6 + first_image (drop p l)) (length (drop p l)) whole in
+      let d = length-drop p l in
       let t = tells-noted (unknown_kind (get_or l p 0)) p n n' more h.places h.tells in
       let k = t.count in
       let k' = h.tells.count in
       let f = h.few in
       let one = place-few (unknown_kind (get_or l p 0)) p in
       let a = length-append h.places (place_if (unknown_kind (get_or l p 0)) p) in
-      let e : p + (6 + length_at l p) ≡ p + 6 + i = omega arith in
       record {
-        inside = omega arith;
+        inside = omega (arith, h.inside);
         few = omega arith;
         places = h.places ++ place_if (unknown_kind (get_or l p 0)) p;
         tells = t;
         rest =
             h.rest
             ∙ ap (λ (ps : List ℕ). h.places ++ ps)
-            (ignored-whole p (drop p l) (omega (arith, image-at l p, length-drop p l))
-            ∙ rw (image-at l p, get_or-drop p l 0 0, add-zero p, drop-drop (6 + length_at l p) p l, e))
-            ∙ sym (append_assoc h.places (place_if (unknown_kind (get_or l p 0)) p) (ignored_from (p + 6 + i) (drop (p + 6 + i) l)));
+            (ignored-whole p (drop p l) whole is ∙ rw (get_or-drop p l 0 0, add-zero p, drop-drop i p l))
+            ∙ sym (append_assoc h.places (place_if (unknown_kind (get_or l p 0)) p) (ignored_from (p + i) (drop (p + i) l)));
       }
 
   -- what is left is cut, or nothing
-  noted-end : (met : Bool) → ignored_from p (drop p l) ≡ place_if met p → (n' : Notes)
-      → n' ≡ noted_at n met p → Tells (ignored_from from (drop from l)) n'
-  noted-end met e n' more = rw (h.rest, e) (tells-noted met p n n' more h.places h.tells)
-
-  pub noted-cut : p + 6 ≤ length l → (w i : ℕ) → w ≡ word_at l p → i ≡ image_length (get_or l p 0) w → length l - (p + 6) < i
-      → (n' : Notes) → n' ≡ noted_at n true p → Tells (ignored_from from (drop from l)) n'
-  noted-cut six w i ew ei over =
-      let m : i ≡ length_at l p = ei ∙ ap (image_length (get_or l p 0)) ew in
+  pub noted-end : first_whole (drop p l) ≡ false → {n' : Notes} → n' ≡ noted_at n (ltb p (length l)) p → Tells (ignored_from from (drop from l)) n'
+  noted-end cut {n'} more =
+      let met = ltb p (length l) in
       let d = length-drop p l in
-      noted-end true (ignored-cut p (drop p l) (omega (arith, image-at l p)) ∙ rw (lt-ltb 0 (length (drop p l)) (omega arith)))
-
-  pub noted-few : length l - p < 6 → (n' : Notes)
-      → n' ≡ noted_at n (ltb p (length l)) p → Tells (ignored_from from (drop from l)) n'
-  noted-few few =
-      let d = length-drop p l in
-      noted-end (ltb p (length l)) (ignored-cut p (drop p l) (omega arith) ∙ ap (λ (b : Bool). place_if b p) (left-test (length l) p (length (drop p l)) h.inside (omega arith)))
+      let e : ignored_from p (drop p l) ≡ place_if met p =
+      ignored-cut p (drop p l) (leb-false (6 + first_image (drop p l)) (length (drop p l)) cut)
+      ∙ ap (λ (b : Bool). place_if b p) (left-test (length l) p (length (drop p l)) h.inside (omega arith)) in
+      rw (h.rest, e) (tells-noted met p n n' more h.places h.tells)

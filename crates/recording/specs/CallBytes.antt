@@ -30,6 +30,10 @@ first_image bytes = image_length (get_or bytes 0 0) (first_word bytes)
 abbrev pub first_call : List ℕ → List Call
 first_call bytes = call_of (get_or bytes 0 0) (get_or bytes 1 0) (first_word bytes) (take (first_image bytes) (drop 6 bytes))
 
+-- the call of these bytes, which are a whole record and the image that follows it
+abbrev pub call_read : List ℕ → List Call
+call_read bytes = call_of (get_or bytes 0 0) (get_or bytes 1 0) (first_word bytes) (drop 6 bytes)
+
 -- it is whole: not cut to fewer than six bytes, or to fewer bytes of an image than its length says
 abbrev pub first_whole : List ℕ → Bool
 first_whole bytes = leb (6 + first_image bytes) (length bytes)

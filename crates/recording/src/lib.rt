@@ -2,7 +2,7 @@
 // tells apart. The table is checked once, and the session not at all: each call leaves it sound.
 #![tactic(auto)]
 
-ghost use Rattle.std.specs.Prelude.{◌-◌, ◌≤◌, ◌≡◌, ◌↔◌, true, false, length, drop};
+ghost use Rattle.std.specs.Prelude.{◌+◌, ◌-◌, ◌≤◌, ◌≡◌, ◌↔◌, true, false, length, drop, MatchOption};
 ghost use Rattle.model.specs.Lists.{All};
 ghost use Rattle.model.specs.Table.{table_refusal};
 ghost use Rattle.model.specs.Session.{screens_in};
@@ -15,51 +15,62 @@ ghost use Rattle.image.specs.Writable.{Writable};
 ghost use Rattle.calls.specs.StoredCalls.{KeepsSound};
 ghost use Rattle.navigator.specs.Promise3.{reached, KeepsPromise3};
 ghost use Rattle.notes.specs.Places.{Tells};
-ghost use Rattle.recording.specs.CallBytes.{image_length, call_of, calls_in};
+ghost use Rattle.recording.specs.CallBytes.{first_image, first_whole, call_read, calls_in};
 ghost use Rattle.recording.specs.Counts.{reply_to, created_for, Counts, CountsScreens};
 ghost use Rattle.recording.specs.Ignored.{ignored_from};
 ghost use Rattle.recording.specs.OneCall.{record_length, call_length, called_stored};
 ghost use Rattle.recording.specs.Replay.{replayed, EveryList, EndAlike, TellsImages};
 
 use calls::{Made, Reply};
+use model::Refusal;
 use notes::Notes;
-use records::Record;
 use session::Session;
 
 // The length of the longest image: each task has a root, a height and its screens, and six bytes follow the last.
 const LONGEST_IMAGE: usize = Session::TASKS * (2 + Session::SCREENS) + 6;
 
-// How many bytes of an image follow a record.
-fn image_length(kind: u8, word: u32) -> usize
-    ensures { result ≡ image_length kind word }
+// How many bytes of an image follow the first record. A cast: `u32` has no `From` to `usize`.
+fn image_length(bytes: &[u8]) -> usize
+    requires { 6 ≤ length bytes.now }
+    ensures { result ≡ first_image bytes.now }
 {
-    if kind == 6 {
-        return word as usize;
+    if bytes[0] == 6 {
+        return records::word_at(bytes, 0) as usize;
     }
     0
 }
 
-// What the call of one whole record gives, with the image that follows it, and how many screens it creates. An unknown kind is no
-// call.
-fn make_with_image(table: &[u8], s: Session, kind: u8, b: u8, word: u32, image: &[u8]) -> Made
-    requires { Ready table.now s }
-    ensures reply { result.reply ≡ reply_to table.now s (call_of kind b word image.now) }
-    ensures created { result.created ≡ created_for table.now (view s) (call_of kind b word image.now) }
+// How many bytes the first record of a list of calls takes with the image that follows it; none where it is cut.
+pub fn whole_length(calls: &[u8]) -> Option<usize>
+    ensures { MatchOption result (first_whole calls.now ≡ false) (λ n. (first_whole calls.now ≡ true) × (n ≡ 6 + first_image calls.now)) }
 {
-    if kind == 6 {
-        let reply = image_calls::restore(table, s, image, 0);
+    if calls.len() < 6 {
+        return None;
+    }
+    let n = image_length(calls);
+    if n > calls.len() - 6 {
+        return None;
+    }
+    Some(6 + n)
+}
+
+// What the call of one whole record gives, with the image that follows it, and how many screens it creates. An unknown kind is no
+// call. One clause, which is what `checks::passed` asks.
+fn make_with_image(table: &[u8], s: Session, bytes: &[u8]) -> Made
+    requires ready { Ready table.now s }
+    requires whole { 6 ≤ length bytes.now }
+    ensures reply { result.reply ≡ reply_to table.now s (call_read bytes.now) }
+    ensures created { result.created ≡ created_for table.now (view s) (call_read bytes.now) }
+{
+    let on = checks::passed(table, &s);
+    if bytes[0] == 6 {
+        let reply = image_calls::restore(&on, &bytes[6..]);
         return Made {
             reply: reply,
             created: 0,
         };
     }
-    let r = Record {
-        kind: kind,
-        asked: records::asked_by(kind),
-        screen: b,
-        word: word,
-    };
-    calls::make(table, s, r, 0)
+    calls::make(&on, records::read(bytes, 0))
 }
 
 // ---- one call
@@ -68,24 +79,14 @@ fn make_with_image(table: &[u8], s: Session, kind: u8, b: u8, word: u32, image: 
 pub fn record_length(calls: &[u8]) -> usize
     ensures { result ≡ record_length calls.now }
 {
-    if calls.len() < 6 {
-        return calls.len();
-    }
-    6
+    calls.len().min(6)
 }
 
 // The same in a list of calls: a restore's image is part of its record, and a record that is cut takes all that is left.
 pub fn call_length(calls: &[u8]) -> usize
     ensures { result ≡ call_length calls.now }
 {
-    if calls.len() < 6 {
-        return calls.len();
-    }
-    let n = image_length(calls[0], records::word_at(calls, 0));
-    if n > calls.len() - 6 {
-        return calls.len();
-    }
-    6 + n
+    whole_length(calls).unwrap_or(calls.len())
 }
 
 // Makes the call of the first record of a list of calls, on any session: kind 6 is a restore. A record that is cut, or of an
@@ -95,24 +96,13 @@ pub fn play_call(table: &[u8], s: Session, calls: &[u8]) -> Reply
     ensures keeps { KeepsSound table.now s result.session }
     ensures promise { KeepsPromise3 table.now }
 {
-    if calls.len() < 6 {
-        return calls::refuse(s, 9);
-    }
-    let n = image_length(calls[0], records::word_at(calls, 0));
-    if n > calls.len() - 6 {
-        return calls::refuse(s, 9);
-    }
-    let end = 6 + n;
+    let Some(end) = whole_length(calls) else {
+        return calls::refuse(s, Refusal::UnknownRecord);
+    };
     if calls[0] == 6 {
         return navigator::restore(table, s, &calls[6..end]);
     }
     navigator::play_record(table, s, calls)
-}
-
-fn wide(x: u8) -> u64
-    ensures { result ≡ x }
-{
-    x as u64
 }
 
 // The session after a list of calls, made one after the other, and the screens that they created and closed. No more screens
@@ -124,6 +114,8 @@ struct Counted {
     closed: u64,
 }
 
+// A loop over what is left, and no iterator over the records: a record that is cut ends it, which an iterator would have to tell. One
+// clause, which is what `checks::passed` asks.
 fn after_calls(table: &[u8], begun: Session, calls: &[u8]) -> Counted
     requires { Ready table.now begun × (screens_in (view begun).tasks ≡ 0) }
     ensures { Counts table.now begun (calls_in calls.now) result }
@@ -131,27 +123,14 @@ fn after_calls(table: &[u8], begun: Session, calls: &[u8]) -> Counted
     let mut s = begun;
     let mut created: u64 = 0;
     let mut closed: u64 = 0;
-    let mut p: usize = 0;
-    while calls.len() - p >= 6 {
-        let kind = calls[p];
-        let b = calls[p + 1];
-        let word = records::word_at(calls, p);
-        let from = p + 6;
-        let n = image_length(kind, word);
-        if n > calls.len() - from {
-            return Counted {
-                session: s,
-                created: created,
-                closed: closed,
-            };
-        }
-        p = from + n;
-        let made = make_with_image(table, s, kind, b, word, &calls[from..p]);
-        created += wide(made.created);
-        let reply = made.reply;
-        let answer = reply.answer;
-        closed += wide(answer.closed);
-        s = reply.session;
+    let mut left = calls;
+    while let Some(n) = whole_length(left) {
+        let (first, rest) = left.split_at(n);
+        let made = make_with_image(table, s, first);
+        created += u64::from(made.created);
+        closed += u64::from(made.reply.answer.closed);
+        s = made.reply.session;
+        left = rest;
     }
     Counted {
         session: s,
@@ -160,7 +139,9 @@ fn after_calls(table: &[u8], begun: Session, calls: &[u8]) -> Counted
     }
 }
 
-// What a list of calls leaves: the refusal of the table (0 if none), and the session.
+// What a list of calls leaves: the refusal of the table (0 if none), and the session. The refusal is a number in these structs:
+// `Ending` is C's, and of a refused list the contracts of `replay` and `count_screens` tell the session and the zeros too, which a
+// `Result` would drop.
 #[repr(C)]
 #[derive(Clone, Copy)]
 pub struct Replayed {
@@ -180,10 +161,9 @@ pub fn replay(table: &[u8], calls: &[u8]) -> Replayed
     ensures promise { KeepsPromise3 table.now }
 {
     let fresh = Session::fresh();
-    let refused = table::refusal(table);
-    if refused != 0 {
+    if let Err(refused) = table::check(table) {
         return Replayed {
-            refusal: refused,
+            refusal: refused.number(),
             session: fresh,
         };
     }
@@ -218,10 +198,9 @@ pub fn count_screens(table: &[u8], calls: &[u8]) -> Screens
     ensures balances { ScreensBalance table.now }
     ensures promise { KeepsPromise3 table.now }
 {
-    let refusal = table::refusal(table);
-    if refusal != 0 {
+    if let Err(refusal) = table::check(table) {
         return Screens {
-            refusal: refusal,
+            refusal: refusal.number(),
             created: 0,
             closed: 0,
             standing: 0,
@@ -249,7 +228,7 @@ fn same_image(s: Session, t: Session) -> bool
     let mut b = [0u8; LONGEST_IMAGE];
     let n = image::write(s, &mut a);
     let m = image::write(t, &mut b);
-    check::same(&a[..n], &b[..m])
+    a[..n] == b[..m]
 }
 
 // What two lists are to each other: the refusal of the table (0 if none), and whether they end alike.
@@ -285,23 +264,17 @@ pub fn same_ending(table: &[u8], first: &[u8], second: &[u8]) -> Ending
     }
 }
 
-// The records that are no call, in the list of calls from a place on: those of an unknown kind, and one that is cut at the end.
+// The records that are no call, in the list of calls from a place on: those of an unknown kind, and one that is cut at the end. By
+// places, since the place of the first is told.
 pub fn ignored(input: &[u8], from: usize) -> Notes
     requires { from ≤ length input.now }
     ensures { Tells (ignored_from from (drop from input.now)) result }
 {
     let mut seen = Notes::none();
     let mut p = from;
-    while input.len() - p >= 6 {
-        let kind = input[p];
-        let word = records::word_at(input, p);
-        let behind = p + 6;
-        let n = image_length(kind, word);
-        if n > input.len() - behind {
-            return seen.noted(true, p);
-        }
-        seen = seen.noted((kind == 0) | (kind > 6), p);
-        p = behind + n;
+    while let Some(n) = whole_length(&input[p..]) {
+        seen = seen.noted((input[p] == 0) | (input[p] > 6), p);
+        p += n;
     }
     seen.noted(p < input.len(), p)
 }

@@ -1,37 +1,12 @@
--- The call that a kind asks for, by the kind; and that its request is the definition's.
+-- The request of the call that a kind asks for is the definition's, and that call is a start where the kind says so.
 use Prim.Native.Nat.{ℕ}
 use mathlib.Core.Path.{◌≡◌, refl}
 use mathlib.Core.Bool.{Bool, true, false}
 use lib.Dec.{eqb}
-use borrow.Author.Tests.{eqb-true, ne_eqb}
+use borrow.Author.Tests.{eqb-true}
 use Rattle.model.specs.Player.{is_start, request_of}
-use Rattle.records.specs.declared.Asked.{Asked}
-use Rattle.records.specs.Records.{asked_by, request_by, is_starting}
-
-module _ (kind : ℕ) where
-  pub asked-1 : kind ≡ 1 → Asked.Launch ≡ asked_by kind
-  unfolding asked_by
-  asked-1 e = rw e
-
-  pub asked-2 : kind ≡ 2 → Asked.Start ≡ asked_by kind
-  unfolding asked_by
-  asked-2 e = rw e
-
-  pub asked-3 : kind ≡ 3 → Asked.FinishingStart ≡ asked_by kind
-  unfolding asked_by
-  asked-3 e = rw e
-
-  pub asked-4 : kind ≡ 4 → Asked.Back ≡ asked_by kind
-  unfolding asked_by
-  asked-4 e = rw e
-
-  pub asked-5 : kind ≡ 5 → Asked.Look ≡ asked_by kind
-  unfolding asked_by
-  asked-5 e = rw e
-
-  pub asked-none : (kind ≡ 1 → ⊥) → (kind ≡ 2 → ⊥) → (kind ≡ 3 → ⊥) → (kind ≡ 4 → ⊥) → (kind ≡ 5 → ⊥) → Asked.Nothing ≡ asked_by kind
-  unfolding asked_by
-  asked-none n₁ n₂ n₃ n₄ n₅ = rw (ne_eqb kind 1 n₁, ne_eqb kind 2 n₂, ne_eqb kind 3 n₃, ne_eqb kind 4 n₄, ne_eqb kind 5 n₅)
+use Rattle.records.specs.Records.{asked_by, request_by}
+use Rattle.records.proofs.Tags.{is_starting}
 
 -- by the five tests
 module _ (b w : ℕ) where

@@ -17,25 +17,24 @@ use Rattle.session.specs.Stored.{view_task}
 use Rattle.rules.specs.declared.Asks.{Asks}
 use Rattle.rules.specs.Groups.{asks_of, rule_by}
 use Rattle.rules.proofs.Tasks.{Shows}
+use Rattle.std.specs.Prelude.{Option, None, Some}
 
 -- ---- the rules of a group, by values, are the definition's
 
 -- u is the task found, or the front task where none was found
 module _ (tb : List ℕ) (v : State ℕ) (b : ℕ) (f : Flags) where
-  rule-by : (g : Group) (t : Found) → t ≡ sought_by tb v b f g → (u : Task) → Shows v t u
+  rule-by : (g : Group) (t : Option Found) → t ≡ sought_by tb v b f g → (u : Task) → Shows v t u
       → rule_by g (asks_of tb b f) (view_task u) v.main b t ≡ first Rule.R18 (fits tb v b f t) (rules_of g)
   unfolding fits rules_of is_single sought_by
   rule-by Group.Instance t e u h = refl
-  rule-by Group.Task Found.Nowhere e u h = refl
-  rule-by Group.Task (Found.ByRoot p) e u h = rw (← h)
-  rule-by Group.Task (Found.ByAffinity p) e u h = rw (← h)
+  rule-by Group.Task None e u h = refl
+  rule-by Group.Task (Some x) e u h = rw (← h)
   rule-by Group.NotApart t e u h = let k : front v ≡ view_task u = rw e at h in rw (← k)
-  rule-by Group.Apart Found.Nowhere e u h = refl
-  rule-by Group.Apart (Found.ByRoot p) e u h = rw (← h)
-  rule-by Group.Apart (Found.ByAffinity p) e u h = rw (← h)
+  rule-by Group.Apart None e u h = refl
+  rule-by Group.Apart (Some x) e u h = rw (← h)
 
   -- the task that was sought and the rule by what is asked are the choice's
-  module _ {g : Group} (group : g ≡ group_of tb v b f) {t : Found} (found : t ≡ sought_by tb v b f g) where
+  module _ {g : Group} (group : g ≡ group_of tb v b f) {t : Option Found} (found : t ≡ sought_by tb v b f g) where
     pub found-chosen : t ≡ (choose tb v b f).found
     unfolding choose choose_in
     found-chosen = rw (found, group)

@@ -10,7 +10,7 @@ use Rattle.model.specs.declared.Flags.{Flags}
 use Rattle.model.specs.declared.Found.{Found}
 use Rattle.model.specs.declared.Group.{Group}
 use Rattle.model.specs.declared.Rule.{Rule}
-use Rattle.std.specs.Prelude.{if◌then◌else◌}
+use Rattle.std.specs.Prelude.{if◌then◌else◌, Option, None}
 use Rattle.model.specs.Lists.{All, first}
 use Rattle.model.specs.Refusals.{check, accepted, refusal}
 use Rattle.model.specs.Session.{State, count, most_tasks, most_height}
@@ -32,9 +32,9 @@ first-all P d p [] z h = z
 first-all P d p (x ∷ xs) z h = if-elim P (p x) x (first d p xs) (λ _. h.0) (λ _. first-all P d p xs z h.1)
 
 -- an effect that changes the front task comes only where t is no task
-abbrev pub FrontUnsought : Found → Effect → Type 0
+abbrev pub FrontUnsought : Option Found → Effect → Type 0
 FrontUnsought t Effect.New = Unit {0}
-FrontUnsought t (Effect.InFront x) = t ≡ Found.Nowhere
+FrontUnsought t (Effect.InFront x) = t ≡ None
 FrontUnsought t (Effect.MoveAnd x) = Unit {0}
 
 module _ (tb : List ℕ) (v : State ℕ) (b : ℕ) (f : Flags) where
@@ -62,7 +62,7 @@ one-check k true = refl
 one-check k false = refl
 
 module _ (v : State ℕ) (t : Task) (l : t.height ≤ length t.screens) where
-  room-by-effect : (found : Found) (d : Effect) → FrontUnsought found d → Shows v found t
+  room-by-effect : (found : Option Found) (d : Effect) → FrontUnsought found d → Shows v found t
       → refusal (check 23 (makes_task d && eqb (count v) most_tasks) ∷ check 24 (overfills d (place_of found) v) ∷ []) ≡ room_by (count v) t.height d
   unfolding refusal
   room-by-effect found Effect.New u h = one-check 23 (eqb (count v) most_tasks)

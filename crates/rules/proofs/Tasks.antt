@@ -14,7 +14,7 @@ use Rattle.model.specs.Search.{seek_root, seek}
 use Rattle.model.specs.Rules.{group_of, sought_by, choose_in, choose}
 use Rattle.model.proofs.Logic.{All-at, if-elim}
 use Rattle.model.proofs.Sound.{TaskSound}
-use Rattle.model.proofs.SearchLaws.{HasRoot, HasAffinity, FirstTask, FindsByRoot, Finds, seek_root-exact, seek-exact}
+use Rattle.model.proofs.SearchLaws.{found-cases, HasRoot, HasAffinity, FirstTask, FindsByRoot, Finds, seek_root-exact, seek-exact}
 use Rattle.model.proofs.Tables.{good-shaped}
 use Rattle.session.specs.declared.Task.{Task}
 use Rattle.session.specs.declared.Session.{Session}
@@ -24,13 +24,14 @@ use Rattle.session.proofs.StoredLaws.{view-count, view-edition, view-at, sized-a
 use Rattle.session.proofs.TaskLaws.{view-height}
 use Rattle.rules.specs.Startable.{Startable}
 use Rattle.rules.specs.Shows.{index_of, Filled}
+use Rattle.std.specs.Prelude.{Option, None}
 
 -- the session v has the task t there: t is the task found, or the front task where none was found
-abbrev pub Shows : State ℕ → Found → Task → Type 0
+abbrev pub Shows : State ℕ → Option Found → Task → Type 0
 Shows v found t = get_or v.tasks (index_of found) no_stack ≡ view_task t
 
 -- a stored session shows the task that it stores at the index of the task found
-pub stored-shows : (c : Session) (t : Found) {i : ℕ} → i ≡ index_of t → i < c.n → Shows (view c) t (task_behind c i)
+pub stored-shows : (c : Session) (t : Option Found) {i : ℕ} → i ≡ index_of t → i < c.n → Shows (view c) t (task_behind c i)
 stored-shows c t e h = rw (← e) (view-at c _ h)
 
 -- "A is the front screen"
@@ -86,15 +87,14 @@ module _ (tb : List ℕ) (c : Session) (b : ℕ) (z : Sized c) (h : Startable tb
   first-stands : (P : Stack ℕ → Type 0) (p : ℕ) → FirstTask P (view c).tasks p → pred p < c.n
   first-stands P p f = place-stands p c.n f.least (rw counted at f.most)
 
-  root_stands : (t : Found) → FindsByRoot b (view c).tasks t → index_of t < c.n
-  root_stands Found.Nowhere s = h.some
-  root_stands (Found.ByRoot p) s = first-stands (HasRoot b) p s
-  root_stands (Found.ByAffinity p) s = absurd s
+  root_stands : (t : Option Found) → FindsByRoot b (view c).tasks t → index_of t < c.n
+  root_stands =
+      found-cases (λ t. FindsByRoot b (view c).tasks t → index_of t < c.n) (λ s. h.some) (first-stands (HasRoot b)) (λ p s. absurd s)
 
-  finds-stands : (t : Found) → Finds tb c.edition b (view c).tasks t → index_of t < c.n
-  finds-stands Found.Nowhere s = h.some
-  finds-stands (Found.ByRoot p) s = first-stands (HasRoot b) p s.1
-  finds-stands (Found.ByAffinity p) s = first-stands (HasAffinity tb b) p s.1
+  finds-stands : (t : Option Found) → Finds tb c.edition b (view c).tasks t → index_of t < c.n
+  finds-stands =
+      found-cases (λ t. Finds tb c.edition b (view c).tasks t → index_of t < c.n) (λ s. h.some) (λ p s. first-stands (HasRoot b) p s.1)
+      (λ p s. first-stands (HasAffinity tb b) p s.1)
 
   seek-index : index_of (seek tb c.edition b (view c).tasks) < c.n
   seek-index = let t = seek tb c.edition b (view c).tasks in finds-stands t ((seek-exact tb c.edition b (view c).tasks t).0 refl)
@@ -104,10 +104,10 @@ module _ (tb : List ℕ) (c : Session) (b : ℕ) (z : Sized c) (h : Startable tb
   sought-index f Group.Instance = let t = seek_root b (view c).tasks in root_stands t ((seek_root-exact b (view c).tasks t).0 refl)
   sought-index f Group.Task = rw (view-edition c) seek-index
   sought-index f Group.NotApart = h.some
-  sought-index f Group.Apart = if-elim (λ t. index_of t < c.n) f.mtk Found.Nowhere (seek tb (view c).edition b (view c).tasks) (λ _. h.some) (λ _. rw (view-edition c) seek-index)
+  sought-index f Group.Apart = if-elim (λ t. index_of t < c.n) f.mtk None (seek tb (view c).edition b (view c).tasks) (λ _. h.some) (λ _. rw (view-edition c) seek-index)
 
   -- a task stands at the index of the task that is chosen, or that a group seeks
-  pub index-stands : (f : Flags) (g : Group) {t : Found} → t ≡ sought_by tb (view c) b f g → {i : ℕ} → i ≡ index_of t → i < c.n
+  pub index-stands : (f : Flags) (g : Group) {t : Option Found} → t ≡ sought_by tb (view c) b f g → {i : ℕ} → i ≡ index_of t → i < c.n
   index-stands f g e k = rw (k, e) (sought-index f g)
 
   pub choice-stands : (f : Flags) → index_of (choose tb (view c) b f).found < c.n

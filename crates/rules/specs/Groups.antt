@@ -1,6 +1,6 @@
 -- The rules of a group as the code goes through them, by values: what they ask of the flags, the stack that they read, the main
 -- place, the screen that is started, and what was found. "Nothing found" is asked before the rules that need a task.
-use Rattle.std.specs.Prelude.{ℕ, not, ◌&&◌, ◌||◌, List, eqb, if◌then◌else◌}
+use Rattle.std.specs.Prelude.{ℕ, not, ◌&&◌, ◌||◌, List, eqb, if◌then◌else◌, Option}
 use Rattle.model.specs.declared.Flags.{Flags}
 use Rattle.model.specs.declared.Found.{Found}
 use Rattle.model.specs.declared.Group.{Group}
@@ -15,11 +15,11 @@ abbrev pub asks_of : List ℕ → ℕ → Flags → Asks
 asks_of tb b f = record { single = is_single_top tb b || f.stp; new_task = f.mtk; ctp = f.ctp; rtf = f.rtf; ctk = f.ctk }
 
 -- R1 and R2
-abbrev pub instance_rule : Found → Rule
+abbrev pub instance_rule : Option Found → Rule
 instance_rule t = if is_found t then Rule.R1 else Rule.R2
 
 -- R3 to R6
-abbrev pub task_rule : Asks → Stack ℕ → ℕ → Found → Rule
+abbrev pub task_rule : Asks → Stack ℕ → ℕ → Option Found → Rule
 task_rule a u b t = if not (is_found t) then Rule.R6 else if a.ctk then Rule.R3 else if holds b u.screens then Rule.R4 else Rule.R5
 
 -- R7 to R10
@@ -30,7 +30,7 @@ not_apart_rule a u b =
     if a.rtf && holds b u.screens then Rule.R9 else Rule.R10
 
 -- R11 to R18, where m is the main place
-abbrev pub apart_rule : Asks → Stack ℕ → ℕ → ℕ → Found → Rule
+abbrev pub apart_rule : Asks → Stack ℕ → ℕ → ℕ → Option Found → Rule
 apart_rule a u m b t =
     if a.new_task then Rule.R11 else
     if not (is_found t) then Rule.R18 else
@@ -40,7 +40,7 @@ apart_rule a u m b t =
     if is_found_by_root t && not (eqb (place_of t) m) then Rule.R15 else
     if a.single && eqb (top u) b then Rule.R16 else Rule.R17
 
-abbrev pub rule_by : Group → Asks → Stack ℕ → ℕ → ℕ → Found → Rule
+abbrev pub rule_by : Group → Asks → Stack ℕ → ℕ → ℕ → Option Found → Rule
 rule_by Group.Instance a u m b t = instance_rule t
 rule_by Group.Task a u m b t = task_rule a u b t
 rule_by Group.NotApart a u m b t = not_apart_rule a u b

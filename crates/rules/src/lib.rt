@@ -5,66 +5,38 @@
 ghost use Rattle.std.specs.Prelude.{ℕ, ◌+◌, ◌*◌, ◌≤◌, ◌<◌, ◌≡◌, ◌&&◌, ◌||◌, eqb, length, if◌then◌else◌};
 ghost use Rattle.model.specs.Table.{is_single_instance};
 ghost use Rattle.model.specs.Session.{State, front_screen, most_height};
-ghost use Rattle.model.specs.Search.{place_of, is_found, is_found_by_root, holds};
-ghost use Rattle.model.specs.Rules.{number_of, is_r7, group_of, sought_by};
+ghost use Rattle.model.specs.Search.{place_of, holds};
+ghost use Rattle.model.specs.Rules.{number_of, group_of, sought_by};
 ghost use Rattle.model.specs.Effects.{reordered as reordered_by, effect_of};
 ghost use Rattle.model.specs.Calls.{is_push};
+ghost use Rattle.model.specs.Refusals.{refusal_in};
 ghost use Rattle.session.specs.Stored.{view, view_task};
 ghost use Rattle.search.specs.Numbers.{found_of};
-ghost use Rattle.rules.specs.Seeks.{is_instance, seeks_in};
+ghost use Rattle.rules.specs.Seeks.{seeks_in};
 ghost use Rattle.rules.specs.Startable.{Startable};
 ghost use Rattle.rules.specs.Shows.{index_of, Filled};
 ghost use Rattle.rules.specs.Rooms.{room_by};
 ghost use Rattle.rules.specs.Groups.{asks_of, instance_rule, task_rule, not_apart_rule, apart_rule, rule_by};
 
-use model::{Change, Effect, Flags, Found, Group, Rule};
+use model::{By, Change, Effect, Flags, Found, Group, Refusal, Rule};
 use session::{Session, Task};
 
-// The place of the task found, or 0.
-pub fn place_of(found: Found) -> u8
+// The place of the task found, or 0: the byte that a reason has in C, and with which the main place, C's too, is compared.
+pub fn place_of(found: Option<Found>) -> u8
     ensures { result ≡ place_of found }
 {
-    match found {
-        Found::Nowhere => 0,
-        Found::ByRoot(place) => place,
-        Found::ByAffinity(place) => place,
-    }
+    found.map_or(0, |f| f.place)
 }
 
 // The index of the task found: how many tasks stand before it; 0 where none was found: then the front task is meant.
-pub fn index_of(found: Found) -> usize
+pub fn index_of(found: Option<Found>) -> usize
     ensures { result ≡ index_of found }
 {
-    let place = place_of(found);
-    if place == 0 {
-        return 0;
-    }
-    (place - 1) as usize
-}
-
-// A task was found.
-fn is_found(found: Found) -> bool
-    ensures { result ≡ is_found found }
-{
-    match found {
-        Found::Nowhere => false,
-        Found::ByRoot(_) => true,
-        Found::ByAffinity(_) => true,
-    }
-}
-
-// A task was found, and by its root.
-fn is_by_root(found: Found) -> bool
-    ensures { result ≡ is_found_by_root found }
-{
-    match found {
-        Found::Nowhere => false,
-        Found::ByRoot(_) => true,
-        Found::ByAffinity(_) => false,
-    }
+    usize::from(place_of(found).saturating_sub(1))
 }
 
 // What R9 does with the front task: a lift; in edition 7 the main task is emptied and b pushed.
+#[tactic(auto, unfolding(model::specs::Effects::reordered))]
 fn reordered(edition: u8, main: u8) -> Change
     ensures { result ≡ reordered_by edition main }
 {
@@ -92,7 +64,7 @@ pub fn effect_of(rule: Rule, edition: u8, main: u8) -> Effect
     }
 }
 
-// The number of a rule.
+// The number of a rule, as C and the sentences have it: a match, since no derive gives it.
 pub fn number_of(rule: Rule) -> u8
     ensures { result ≡ number_of rule }
 {
@@ -118,30 +90,12 @@ pub fn number_of(rule: Rule) -> u8
     }
 }
 
-// The rule is R7, by which a plain start changes nothing.
-pub fn is_r7(rule: Rule) -> bool
-    ensures { result ≡ is_r7 rule }
-{
-    number_of(rule) == 7
-}
-
 // b stands in the task.
 fn holds_screen(t: Task, b: u8) -> bool
     requires { t.height ≤ most_height }
     ensures { result ≡ holds b (view_task t).screens }
 {
-    search::topmost(t, b) != 0
-}
-
-// The same, and it is looked for only where that is wanted.
-fn holds_where(wanted: bool, t: Task, b: u8) -> bool
-    requires { t.height ≤ most_height }
-    ensures { result ≡ (wanted && holds b (view_task t).screens) }
-{
-    if wanted {
-        return holds_screen(t, b);
-    }
-    false
+    search::topmost(t, b).is_some()
 }
 
 // What the search and the rules of a group ask of a start: whether it is single, the mode of b being single-top or STP set, and
@@ -159,9 +113,8 @@ pub fn asks_of(table: &[u8], b: u8, f: Flags) -> Asks
     requires { 2 + 2 * b < length table.now }
     ensures { result ≡ asks_of table.now b f }
 {
-    let mode = table::mode(table, b);
     Asks {
-        single: (mode == 1) | f.stp,
+        single: table::is_single_top(table, b) | f.stp,
         new_task: f.mtk,
         ctp: f.ctp,
         rtf: f.rtf,
@@ -174,10 +127,10 @@ fn is_apart(table: &[u8], a: u8, f: Flags) -> bool
     requires { 2 + 2 * a < length table.now }
     ensures { result ≡ (f.ntk || is_single_instance table.now a) }
 {
-    f.ntk | (table::mode(table, a) == 3)
+    f.ntk | table::is_single_instance(table, a)
 }
 
-// The group of rules for a start of b where a is the front screen.
+// The group of rules for a start of b where a is the front screen. A match on the byte: document 01 names this form.
 pub fn group_of(table: &[u8], a: u8, b: u8, f: Flags) -> Group
     requires { (2 + 2 * a < length table.now) × (2 + 2 * b < length table.now) }
     ensures { (v : State ℕ) → front_screen v ≡ a → result ≡ group_of table.now v b f }
@@ -195,18 +148,6 @@ pub fn group_of(table: &[u8], a: u8, b: u8, f: Flags) -> Group
     }
 }
 
-// The group of single-instance screens.
-fn is_instance(group: Group) -> bool
-    ensures { result ≡ is_instance group }
-{
-    match group {
-        Group::Instance => true,
-        Group::Task => false,
-        Group::NotApart => false,
-        Group::Apart => false,
-    }
-}
-
 // The group seeks a task.
 fn seeks(group: Group, new_task: bool) -> bool
     ensures { result ≡ seeks_in group new_task }
@@ -220,45 +161,51 @@ fn seeks(group: Group, new_task: bool) -> bool
 }
 
 // What a number of `search::seek` stands for.
-fn found_of(number: u8) -> Found
+fn found_of(number: u8) -> Option<Found>
     ensures { result ≡ found_of number }
 {
     if number == 0 {
-        return Found::Nowhere;
+        return None;
     }
     if number <= search::BY_AFFINITY {
-        return Found::ByRoot(number);
+        return Some(Found {
+            place: number,
+            by: By::Root,
+        });
     }
-    Found::ByAffinity(number - search::BY_AFFINITY)
+    Some(Found {
+        place: number - search::BY_AFFINITY,
+        by: By::Affinity,
+    })
 }
 
 // The task that a group of rules seeks: where the start is apart, none if a new one is asked for.
-pub fn sought_by(table: &[u8], s: Session, b: u8, group: Group, new_task: bool) -> Found
+pub fn sought_by(table: &[u8], s: Session, b: u8, group: Group, new_task: bool) -> Option<Found>
     requires { Startable table.now s b }
     ensures { (f : Flags) → f.mtk ≡ new_task → result ≡ sought_by table.now (view s) b f group }
 {
     if !seeks(group, new_task) {
-        return Found::Nowhere;
+        return None;
     }
-    found_of(search::seek(table, s, b, is_instance(group)))
+    found_of(search::seek(table, s, b, group == Group::Instance))
 }
 
 // R1 and R2: b is single-instance.
-fn instance_rule(found: Found) -> Rule
+fn instance_rule(found: Option<Found>) -> Rule
     ensures { result ≡ instance_rule found }
 {
-    if is_found(found) {
+    if found.is_some() {
         return Rule::R1;
     }
     Rule::R2
 }
 
 // R3 to R6: b is single-task.
-fn task_rule(t: Task, b: u8, asks: Asks, found: Found) -> Rule
+fn task_rule(t: Task, b: u8, asks: Asks, found: Option<Found>) -> Rule
     requires { Filled t }
     ensures { result ≡ task_rule asks (view_task t) b found }
 {
-    if !is_found(found) {
+    if found.is_none() {
         return Rule::R6;
     }
     if asks.ctk {
@@ -278,7 +225,7 @@ fn not_apart_rule(t: Task, b: u8, asks: Asks) -> Rule
     if (b == t.top()) & (asks.single | asks.rtf | asks.ctp) {
         return Rule::R7;
     }
-    let held = holds_where(asks.ctp | asks.rtf, t, b);
+    let held = (asks.ctp | asks.rtf) && holds_screen(t, b);
     if asks.ctp & held {
         return Rule::R8;
     }
@@ -289,26 +236,26 @@ fn not_apart_rule(t: Task, b: u8, asks: Asks) -> Rule
 }
 
 // R11 to R18: apart. b is looked for only where CTP is set.
-fn apart_rule(t: Task, main: u8, b: u8, asks: Asks, found: Found) -> Rule
+fn apart_rule(t: Task, main: u8, b: u8, asks: Asks, found: Option<Found>) -> Rule
     requires { Filled t }
     ensures { result ≡ apart_rule asks (view_task t) main b found }
 {
     if asks.new_task {
         return Rule::R11;
     }
-    if !is_found(found) {
+    let Some(f) = found else {
         return Rule::R18;
-    }
+    };
     if asks.ctk {
         return Rule::R12;
     }
-    if holds_where(asks.ctp, t, b) {
+    if asks.ctp && holds_screen(t, b) {
         return Rule::R13;
     }
     if asks.ctp {
         return Rule::R14;
     }
-    if is_by_root(found) & (place_of(found) != main) {
+    if (f.by == By::Root) & (f.place != main) {
         return Rule::R15;
     }
     if asks.single & (t.top() == b) {
@@ -319,7 +266,7 @@ fn apart_rule(t: Task, main: u8, b: u8, asks: Asks, found: Found) -> Rule
 
 // The first rule of the group that fits; t is the task that the group's rules read: the task found, or the front task where none
 // was found or the group seeks none.
-pub fn rule_in(group: Group, t: Task, main: u8, b: u8, asks: Asks, found: Found) -> Rule
+pub fn rule_in(group: Group, t: Task, main: u8, b: u8, asks: Asks, found: Option<Found>) -> Rule
     requires { Filled t }
     ensures { result ≡ rule_by group asks (view_task t) main b found }
 {
@@ -331,41 +278,28 @@ pub fn rule_in(group: Group, t: Task, main: u8, b: u8, asks: Asks, found: Found)
     }
 }
 
-// The change is a push, and not one after the task was emptied.
-fn is_push(change: Change) -> bool
-    ensures { result ≡ is_push change }
+// A change pushes onto no task of 32. A height and a count are widened by casts, with which the proofs compute.
+fn check_push(t: Task, change: Change) -> Result<(), Refusal>
+    ensures { refusal_in result ≡ (if is_push change && eqb t.height most_height then 24 else 0) }
 {
-    match change {
-        Change::Keep => false,
-        Change::Renew => false,
-        Change::Clear => false,
-        Change::Lift => false,
-        Change::Push => true,
+    if (change == Change::Push) & ((t.height as usize) == Session::SCREENS) {
+        return Err(Refusal::TaskFull);
     }
+    Ok(())
 }
 
-// 24 where the change pushes onto a task of 32, else 0.
-fn push_refusal(t: Task, change: Change) -> u8
-    ensures { result ≡ (if is_push change && eqb t.height most_height then 24 else 0) }
-{
-    if is_push(change) & ((t.height as usize) == Session::SCREENS) {
-        return 24;
-    }
-    0
-}
-
-// 23 where a new task is needed and n is 16, 24 for a push onto a task of 32, else 0; t is the task that the effect changes.
-pub fn room_refusal(n: u8, t: Task, effect: Effect) -> u8
-    ensures { result ≡ room_by n t.height effect }
+// There is room: 23 where a new task is needed and n is 16, 24 for a push onto a task of 32; t is the task that the effect changes.
+pub fn check_room(n: u8, t: Task, effect: Effect) -> Result<(), Refusal>
+    ensures { refusal_in result ≡ room_by n t.height effect }
 {
     match effect {
         Effect::New => {
             if (n as usize) == Session::TASKS {
-                return 23;
+                return Err(Refusal::TasksFull);
             }
-            0
+            Ok(())
         }
-        Effect::InFront(change) => push_refusal(t, change),
-        Effect::MoveAnd(change) => push_refusal(t, change),
+        Effect::InFront(change) => check_push(t, change),
+        Effect::MoveAnd(change) => check_push(t, change),
     }
 }

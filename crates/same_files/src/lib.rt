@@ -4,7 +4,7 @@
 
 #![tactic(auto)]
 
-ghost use Rattle.std.specs.Prelude.{◌≤◌, ◌≡◌, ◌↔◌, true, false, length, take};
+ghost use Rattle.std.specs.Prelude.{◌≤◌, ◌≡◌, ◌↔◌, false, length, take, IfSome};
 ghost use Rattle.model.specs.Table.{table_refusal};
 ghost use Rattle.model.specs.Player.{table_in};
 ghost use Rattle.endings.specs.Shares.{cut_images};
@@ -15,24 +15,9 @@ use std::io::Read;
 use std::rt::{Env, Files};
 use std::str;
 
-// A file that was read: whether all of it was, and how many bytes.
-#[derive(Clone, Copy)]
-struct Loaded {
-    ok: bool,
-    long: usize,
-}
-
-// A file that is not taken; why was said.
-fn unread() -> Loaded
-    ensures { result ≡ record { ok = false; long = 0 } }
-{
-    Loaded { ok: false, long: 0 }
-}
-
 // Says what is wrong with a file.
 fn complain(rt: &impl Eprint, path: &str, what: &str) {
-    let _ = rt.eprint(path);
-    let _ = rt.eprint(what);
+    let _ = eprintln!(rt; "{path}: {what}");
 }
 
 // Warns of what restores bring: a damaged byte may have made one of another call.
@@ -42,12 +27,10 @@ fn warn_of_images(rt: &impl Eprint, path: &str, recording: &[u8]) {
     if restores.count == 0 {
         return;
     }
-    let _ = rt.eprint("warning: ");
-    complain(rt, path, ": bytes taken as images of restores: ");
-    let _ = rt.eprint(images.bytes);
-    let _ = rt.eprint(", from record ");
-    let _ = rt.eprint(restores.first);
-    let _ = rt.eprint(" on\n");
+    let _ = eprintln!(rt;
+        "warning: {path}: bytes taken as images of restores: {}, from record {} on",
+        images.bytes, restores.first
+    );
 }
 
 // Warns of a recording's records that are no call.
@@ -56,22 +39,12 @@ fn warn(rt: &impl Eprint, path: &str, recording: &[u8]) {
     if ignored.count == 0 {
         return;
     }
-    let _ = rt.eprint("warning: ");
-    complain(
-        rt,
-        path,
-        ": records that are no call, of an unknown kind or cut: ",
-    );
-    let _ = rt.eprint(ignored.count);
-    let _ = rt.eprint(", the first at byte ");
-    let _ = rt.eprint(ignored.first);
     let left = endings::portion_of(recording, Share::LeftOut);
     let numbers = left.records;
-    let _ = rt.eprint("; bytes left out: ");
-    let _ = rt.eprint(left.bytes);
-    let _ = rt.eprint(", from record ");
-    let _ = rt.eprint(numbers.first);
-    let _ = rt.eprint(" on\n");
+    let _ = eprintln!(rt;
+        "warning: {path}: records that are no call, of an unknown kind or cut: {}, the first at byte {}; bytes left out: {}, from record {} on",
+        ignored.count, ignored.first, left.bytes, numbers.first
+    );
 }
 
 // The recording ends within a restore, which may have swallowed the rest; it says so.
@@ -83,97 +56,83 @@ fn ends_within(rt: &impl Eprint, path: &str, recording: &[u8]) -> bool
     if restores.count == 0 {
         return false;
     }
-    complain(
-        rt,
-        path,
-        ": ends within a restore, so there is no verdict; it is record ",
+    let _ = eprintln!(rt;
+        "{path}: ends within a restore, so there is no verdict; it is record {}, and bytes of its image are there: {}",
+        restores.first, cut.bytes
     );
-    let _ = rt.eprint(restores.first);
-    let _ = rt.eprint(", and bytes of its image are there: ");
-    let _ = rt.eprint(cut.bytes);
-    let _ = rt.eprint("\n");
     true
 }
 
-// Reads all that is left of an open file into the buffer.
-fn read_all<R: Read>(rt: &impl Eprint, from: &mut R, path: &str, buffer: &mut [u8]) -> Loaded
-    ensures { result.long ≤ length buffer.new }
+// Reads all that is left of an open file into the buffer, and yields how many bytes that is. Where it yields nothing, as here and
+// below, the file is not taken, and why was said.
+fn read_all<R: Read>(rt: &impl Eprint, from: &mut R, path: &str, buffer: &mut [u8]) -> Option<usize>
+    ensures { IfSome result (λ long. long ≤ length buffer.new) }
 {
     let got = reading::read_full(from, buffer);
-    let mut beyond = [0u8; 1];
-    match from.read(&mut beyond) {
+    match from.read(&mut [0u8; 1]) {
         Err(why) => {
             reading::fail(rt, path, why);
-            unread()
+            None
         }
-        Ok(0) => Loaded {
-            ok: true,
-            long: got,
-        },
+        Ok(0) => Some(got),
         Ok(_) => {
-            complain(rt, path, ": longer than 1048576 bytes\n");
-            unread()
+            complain(rt, path, "longer than 1048576 bytes");
+            None
         }
     }
 }
 
 // Reads the file with this path into the buffer.
-fn read_file(rt: &(impl Files + Eprint), path: &str, buffer: &mut [u8]) -> Loaded
-    ensures { result.long ≤ length buffer.new }
+fn read_file(rt: &(impl Files + Eprint), path: &str, buffer: &mut [u8]) -> Option<usize>
+    ensures { IfSome result (λ long. long ≤ length buffer.new) }
 {
-    let mut from = match File::open(rt, path) {
-        Ok(from) => from,
+    match File::open(rt, path) {
+        Ok(mut from) => read_all(rt, &mut from, path, buffer),
         Err(why) => {
             reading::fail(rt, path, why);
-            return unread();
+            None
         }
-    };
-    read_all(rt, &mut from, path, buffer)
+    }
 }
 
 // Reads the recording with this path into the buffer. It begins with a good table, and does not end within a restore.
-fn read_recording(rt: &(impl Files + Eprint), path: &str, buffer: &mut [u8]) -> Loaded
-    ensures bound { result.long ≤ length buffer.new }
-    ensures table { result.ok ≡ true → table_refusal (table_in (take result.long buffer.new)) ≡ 0 }
-    ensures whole { result.ok ≡ true → cut_images (take result.long buffer.new) ≡ 0 }
+fn read_recording(rt: &(impl Files + Eprint), path: &str, buffer: &mut [u8]) -> Option<usize>
+    ensures bound { IfSome result (λ long. long ≤ length buffer.new) }
+    ensures table { IfSome result (λ long. table_refusal (table_in (take long buffer.new)) ≡ 0) }
+    ensures whole { IfSome result (λ long. cut_images (take long buffer.new) ≡ 0) }
 {
-    let recording = read_file(rt, path, buffer);
-    if !recording.ok {
-        return unread();
-    }
-    let long = recording.long;
-    let refusal = endings::table_refusal(&buffer[..long]);
+    let long = read_file(rt, path, buffer)?;
+    let recording = &buffer[..long];
+    let refusal = endings::table_refusal(recording);
     if refusal != 0 {
-        complain(rt, path, ": table refused: ");
-        let _ = rt.eprint(refusal);
-        let _ = rt.eprint("\n");
-        return unread();
+        let _ = eprintln!(rt; "{path}: table refused: {refusal}");
+        return None;
     }
-    if ends_within(rt, path, &buffer[..long]) {
-        return unread();
+    if ends_within(rt, path, recording) {
+        return None;
     }
-    warn_of_images(rt, path, &buffer[..long]);
-    warn(rt, path, &buffer[..long]);
-    recording
+    warn_of_images(rt, path, recording);
+    warn(rt, path, recording);
+    Some(long)
 }
 
 // Reads the recording that the argument at this place names.
-fn load(rt: &(impl Files + Env + Eprint), place: usize, buffer: &mut [u8]) -> Loaded
-    ensures bound { result.long ≤ length buffer.new }
-    ensures table { result.ok ≡ true → table_refusal (table_in (take result.long buffer.new)) ≡ 0 }
-    ensures whole { result.ok ≡ true → cut_images (take result.long buffer.new) ≡ 0 }
+fn load(rt: &(impl Files + Env + Eprint), place: usize, buffer: &mut [u8]) -> Option<usize>
+    ensures bound { IfSome result (λ long. long ≤ length buffer.new) }
+    ensures table { IfSome result (λ long. table_refusal (table_in (take long buffer.new)) ≡ 0) }
+    ensures whole { IfSome result (λ long. cut_images (take long buffer.new) ≡ 0) }
 {
     let mut path = [0u8; 4096];
     let n = match rt.arg(place, &mut path) {
         Ok(n) => n,
         Err(why) => {
             reading::fail_argument(rt, why);
-            return unread();
+            return None;
         }
     };
     let Ok(name) = str::from_utf8(&path[..n]) else {
-        complain(rt, "argument", ": no UTF-8 text\n");
-        return unread();
+        complain(rt, "argument", "no UTF-8 text");
+        return None;
     };
     read_recording(rt, name, buffer)
 }
@@ -199,17 +158,13 @@ fn tell(rt: &(impl Print + Eprint), first: &[u8], second: &[u8])
 // verdict is stands in `endings`.
 pub fn compare_named(rt: &(impl Files + Env + Print + Eprint), i: usize, j: usize) {
     let mut first = [0u8; 1048576];
-    let one = load(rt, i, &mut first);
-    if !one.ok {
+    let Some(m) = load(rt, i, &mut first) else {
         return;
-    }
+    };
     let mut second = [0u8; 1048576];
-    let other = load(rt, j, &mut second);
-    if !other.ok {
+    let Some(n) = load(rt, j, &mut second) else {
         return;
-    }
-    let m = one.long;
-    let n = other.long;
+    };
     tell(rt, &first[..m], &second[..n]);
 }
 

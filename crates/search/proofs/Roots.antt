@@ -1,23 +1,25 @@
 -- The roots of a session's tasks: gathered one by one, searched for the tasks, and screens of the table.
-use Prim.Native.Nat.{ℕ, zero, suc, ◌+◌, ◌≤◌, ◌<◌}
+use Prim.Native.Nat.{ℕ, zero, suc, ◌+◌, ◌<◌}
 use mathlib.Core.Path.{◌≡◌, refl, sym, ◌∙◌, ap}
 use mathlib.Core.Bool.{Bool, true, not, ◌&&◌}
 use mathlib.Core.List.{List, [], ◌∷◌, map}
 use native.Mathlib.Numerals.{add-one}
 use native.Mathlib.Omega.{arith}
-use lib.ListN.{length, get_or, set, take, length-map, get_or-map}
-use lib.Seq.{take-suc, take-suc-set, get_or-take, length-take-le}
+use lib.ListN.{length, get_or, set, take, length-take, length-map, get_or-map}
+use lib.Seq.{take-suc, take-suc-set}
 use lib.Dec.{eqb}
 use Rattle.model.specs.Lists.{find, All}
-use Rattle.model.specs.Table.{size_of, mode_of, affinity_of, is_single_instance}
+use Rattle.model.specs.Table.{size_of, affinity_of, is_single_instance}
 use Rattle.model.specs.Session.{Stack}
 use Rattle.model.specs.Search.{has_root, akin, has_affinity}
-use Rattle.model.proofs.Logic.{All-at, All-map}
+use Rattle.model.proofs.Logic.{Decides, and-decides, self-decides, same_test, All-map}
 use Rattle.model.proofs.ListLaws.{find-map, All-to-map, All-of-map}
 use Rattle.session.specs.declared.Task.{Task}
 use Rattle.session.specs.declared.Session.{Session}
 use Rattle.session.specs.Stored.{no_task, view_task, view, sound_stored, root, roots_of}
-use Rattle.session.proofs.StoredLaws.{sound-view}
+use Rattle.session.proofs.StoredLaws.{sound-view, sound-blank, blank-few}
+use Rattle.search.specs.Ready.{ReadyFor}
+use Rattle.search.specs.Roots.{RootsFor}
 
 take-map : {A B : Type 0} (f : A → B) (n : ℕ) (xs : List A) → take n (map f xs) ≡ map f (take n xs)
 take-map f zero xs = refl
@@ -58,12 +60,30 @@ module _ (tb : List ℕ) where
       (All-to-map root (λ x. x < size_of tb) (take c.n c.tasks)
       (All-of-map view_task (λ t. t.root < size_of tb) (take c.n c.tasks) (All-map (λ t k. k.known) (view c).tasks (sound-view tb c ok).each)))
 
-  pub root-known : (roots : List ℕ) (n : ℕ) → n ≤ length roots → All (λ x. x < size_of tb) (take n roots) → (i : ℕ) → i < n → get_or roots i 0 < size_of tb
-  root-known roots n fits e i h =
-      rw (get_or-take n roots i 0 h) at (All-at (λ x. x < size_of tb) (take n roots) i 0 (omega (arith, length-take-le n roots fits)) e)
+  -- with what was read of the root and of b
+  pub akin-test : (b x : ℕ) {instance : Bool} {kin own : ℕ} → instance ≡ is_single_instance tb x → kin ≡ affinity_of tb x → own ≡ affinity_of tb b
+      → akin tb b x ≡ ((not (eqb own 0) && eqb kin own) && not instance)
+  unfolding akin
+  akin-test b x i k o = rw (i, k, o) (turned (not (is_single_instance tb x)) (eqb (affinity_of tb x) (affinity_of tb b)) (not (eqb (affinity_of tb b) 0)))
+    where
+      turned : (p q r : Bool) → ((p && q) && r) ≡ ((r && q) && p)
+      turned p q r =
+          same_test (and-decides (and-decides (self-decides p) (self-decides q)) (self-decides r))
+          (record {
+            holds = λ e. let k = d.holds e in ((k.1, k.0.1), k.0.0);
+            shows = λ k. d.shows ((k.1, k.0.1), k.0.0);
+          })
+        where
+          d : Decides ((r && q) && p) (((r ≡ true) × (q ≡ true)) × (p ≡ true))
+          d = and-decides (and-decides (self-decides r) (self-decides q)) (self-decides p)
 
-  -- with the mode and the two affinities that were read
-  pub akin-test : (b x : ℕ) {mode kin own : ℕ} → mode ≡ mode_of tb x → kin ≡ affinity_of tb x → own ≡ affinity_of tb b
-      → akin tb b x ≡ ((not (eqb mode 3) && eqb kin own) && not (eqb own 0))
-  unfolding akin is_single_instance
-  akin-test b x m k o = rw (m, k, o)
+-- what both searches rely on
+pub roots-for : (tb : List ℕ) (s : Session) (b : ℕ) → ReadyFor tb s b → {stored : List ℕ} → stored ≡ roots_of s.tasks → RootsFor tb (take s.n stored) b
+roots-for tb s b k {stored} e =
+    let few = blank-few s (sound-blank _ _ k.ready.sound) in
+    record {
+      good = k.ready.good;
+      few = omega (arith, length-take s.n stored);
+      each = rw e (roots-known tb s k.ready.sound);
+      known = k.known;
+    }

@@ -1,30 +1,12 @@
--- A sentence that was written by its number; and numbers that have none.
-use Prim.Native.Nat.{ℕ, zero, suc, ◌+◌, ◌≤◌}
+-- Numbers that have no sentence.
+use Prim.Native.Nat.{ℕ, zero, suc, ◌≤◌}
 use mathlib.Core.Path.{◌≡◌, refl, ap}
-use mathlib.Core.Bool.{true}
-use mathlib.Core.List.{List, []}
+use mathlib.Core.List.{[]}
 use native.Mathlib.Omega.{arith}
-use lib.Dec.{leb}
-use lib.ListN.{length, get_or-eq_default}
-use borrow.Author.Tests.{leb-true, ne_eqb}
-use Rattle.model.specs.Sentences.{rule_sentences, rule_sentence, refusal_sentence, longest_sentence}
+use lib.ListN.{get_or-eq_default}
+use borrow.Author.Tests.{ne_eqb}
+use Rattle.model.specs.Sentences.{rule_sentences, rule_sentence, refusal_sentence}
 use Rattle.model.specs.Texts.{ascii}
-use Rattle.model.specs.Written.{written}
-use Rattle.model.proofs.WrittenLaws.{wrote-nil}
-
--- what a writer of a sentence ensures
-abbrev pub Says : List ℕ → ℕ → List ℕ → List ℕ → ℕ → Type 0
-Says d at text d' next = (next ≡ at + length text) × ((d' ≡ written d at text) × (next ≤ at + longest_sentence))
-
-module _ (d : List ℕ) (at : ℕ) where
-  -- the number n is k, whose sentence was written; it is computed that no sentence is longer than the longest
-  pub said : (sentence : ℕ → List ℕ) (k : ℕ) → leb (length (sentence k)) longest_sentence ≡ true → {n : ℕ} → n ≡ k → {d' : List ℕ} {next : ℕ}
-      → (next ≡ at + length (sentence k)) × (d' ≡ written d at (sentence k)) → Says d at (sentence n) d' next
-  said sentence k short e w = let l = leb-true (length (sentence k)) longest_sentence short in rw e (w.0, (w.1, omega (arith, w.0)))
-
-  -- there is none, and nothing was written
-  pub said-none : {text : List ℕ} → text ≡ [] → Says d at text d at
-  said-none e = let w = wrote-nil d at in rw e (w.place, (w.text, omega arith))
 
 -- none of the numbers 1 to k
 abbrev Others : ℕ → ℕ → Type 0

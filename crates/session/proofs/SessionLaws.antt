@@ -9,8 +9,8 @@ use Rattle.model.specs.Lists.{to_front}
 use Rattle.model.specs.Session.{Stack, State, on_tasks, count, most_tasks}
 use Rattle.model.proofs.ListLaws.{map-set, map-to_front, to_front-length}
 use Rattle.session.specs.declared.Task.{Task}
-use Rattle.session.specs.Stored.{blank_task, with_tasks, hold_task, hold, pad}
-use Rattle.session.proofs.Setters.{with_count}
+use Rattle.session.specs.Stored.{blank_task, hold_task, hold, pad}
+use Rattle.session.proofs.Setters.{with_tasks, with_count}
 use Rattle.session.proofs.Padding.{pad-set, pad-to_front}
 
 module _ (v : State ℕ) where

@@ -1,5 +1,6 @@
 -- A stored session or task with one field changed, the others kept: those that only proofs speak of.
 use Prim.Native.Nat.{ℕ}
+use mathlib.Core.List.{List}
 use Rattle.session.specs.declared.Task.{Task}
 use Rattle.session.specs.declared.Session.{Session}
 
@@ -22,3 +23,7 @@ with_edition c e = record { tasks = c.tasks; n = c.n; main = c.main; edition = e
 -- a session with this No-History mark
 abbrev pub with_no_history : Session → ℕ → Session
 with_no_history c h = record { tasks = c.tasks; n = c.n; main = c.main; edition = c.edition; no_history = h }
+
+-- a session with these tasks
+abbrev pub with_tasks : Session → List Task → Session
+with_tasks c ts = record { tasks = ts; n = c.n; main = c.main; edition = c.edition; no_history = c.no_history }

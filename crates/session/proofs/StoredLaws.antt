@@ -16,8 +16,8 @@ use Rattle.model.proofs.ListLaws.{All-take, All-drop, All-append, All-to-map}
 use Rattle.model.proofs.Sound.{Sound, sound-decides}
 use Rattle.session.specs.declared.Task.{Task}
 use Rattle.session.specs.declared.Session.{Session}
-use Rattle.session.specs.Stored.{blank_task, fresh_session, no_task, with_tasks, view_task, view, pad, hold_task, hold, blank_above, is_blank, storage_blank, sound_stored}
-use Rattle.session.proofs.Setters.{with_count}
+use Rattle.session.specs.Stored.{blank_task, fresh_session, no_task, view_task, view, pad, hold_task, hold, blank_above, is_blank, storage_blank, sound_stored}
+use Rattle.session.proofs.Setters.{with_tasks, with_count}
 use Rattle.session.proofs.Known.{Screens32, Sized}
 use Rattle.session.proofs.Padding.{pad-length, take-pad, drop-pad, pad-take}
 

@@ -31,10 +31,6 @@ with_height t h = record { root = t.root; height = h; screens = t.screens }
 abbrev pub with_screens : Task → List ℕ → Task
 with_screens t xs = record { root = t.root; height = t.height; screens = xs }
 
--- a session with these tasks
-abbrev pub with_tasks : Session → List Task → Session
-with_tasks c ts = record { tasks = ts; n = c.n; main = c.main; edition = c.edition; no_history = c.no_history }
-
 -- ---- what is stored
 
 -- the task that is stored

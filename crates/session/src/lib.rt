@@ -3,9 +3,9 @@
 
 ghost use Rattle.std.specs.Prelude.{◌<◌, ◌≤◌, ◌≡◌, true, set, if◌then◌else◌};
 ghost use Rattle.model.specs.Session.{top as top_of, most_height, is_edition, screens_in};
-ghost use Rattle.session.specs.Stored.{fresh_session, view, view_task, with_screens, storage_blank, pushed, popped};
+ghost use Rattle.session.specs.Stored.{blank_task, fresh_session, view, view_task, with_screens, storage_blank, pushed, popped};
 
-// A task: the screen that created it, and its screens, bottom first.
+// A task: the screen that created it, and its screens, bottom first. An array and a height: C reads it, and memory is fixed.
 #[repr(C)]
 #[derive(Clone, Copy)]
 pub struct Task {
@@ -15,7 +15,7 @@ pub struct Task {
 }
 
 // A session: n tasks, front first, the main place, the edition (6, 7 or 8, and 8 where no task stands), and the No-History mark: 1
-// where the front screen was pushed or made new by a start with the No-History flag, else 0.
+// where the front screen was pushed or made new by a start with the No-History flag, else 0. An array and a count, as a task is.
 #[repr(C)]
 #[derive(Clone, Copy)]
 pub struct Session {
@@ -39,13 +39,8 @@ impl Session {
     pub fn fresh() -> Session
         ensures { result ≡ fresh_session }
     {
-        let blank = Task {
-            root: 0,
-            height: 0,
-            screens: [0; Session::SCREENS],
-        };
         Session {
-            tasks: [blank; Session::TASKS],
+            tasks: [Task::blank(); Session::TASKS],
             n: 0,
             main: 0,
             edition: 8,
@@ -66,31 +61,31 @@ impl Session {
         ensures { result ≡ screens_in (view self).tasks }
     {
         let mut total: u64 = 0;
-        let mut i: u8 = 0;
-        while i < self.n {
-            let k = i as usize;
-            let t = self.tasks[k];
-            total += wide(t.height);
-            i += 1;
+        for t in &self.tasks[..usize::from(self.n)] {
+            total += u64::from(t.height);
         }
         total
     }
 }
 
-fn wide(x: u8) -> u64
-    ensures { result ≡ x }
-{
-    x as u64
-}
-
 impl Task {
+    // Storage for a task in which nothing stands.
+    pub fn blank() -> Task
+        ensures { result ≡ blank_task }
+    {
+        Task {
+            root: 0,
+            height: 0,
+            screens: [0; Session::SCREENS],
+        }
+    }
+
     // The screen on top.
     pub fn top(self) -> u8
         requires { (0 < self.height) × (self.height ≤ most_height) }
         ensures { result ≡ top_of (view_task self) }
     {
-        let h = (self.height - 1) as usize;
-        self.screens[h]
+        self.screens[usize::from(self.height - 1)]
     }
 
     // The task with b at a place of its storage. Every place is stored, and not one byte, for which a copy of the task would have
@@ -99,11 +94,9 @@ impl Task {
         ensures { result ≡ with_screens self (set self.screens at b) }
     {
         let mut out = self;
-        let mut i: u8 = 0;
-        while i < Session::HEIGHT {
-            let k = i as usize;
+        for i in 0..Session::HEIGHT {
+            let k = usize::from(i);
             out.screens[k] = pick(i == at, b, out.screens[k]);
-            i += 1;
         }
         out
     }
@@ -123,9 +116,8 @@ impl Task {
         requires { (0 < self.height) × (self.height ≤ most_height) }
         ensures { result ≡ popped self }
     {
-        let h = (self.height - 1) as usize;
         let mut out = self;
-        out.screens[h] = 0;
+        out.screens[usize::from(self.height - 1)] = 0;
         out.height = self.height - 1;
         out
     }
@@ -135,8 +127,5 @@ impl Task {
 pub fn pick(c: bool, x: u8, y: u8) -> u8
     ensures { result ≡ (if c then x else y) }
 {
-    if c {
-        return x;
-    }
-    y
+    if c { x } else { y }
 }

@@ -84,7 +84,7 @@ before-first tb s good few sized sums =
     }
 
 -- a test holds of a list where it holds at each place
-all_from : {A : Type 0} (p : A → Bool) (d : A) (l : List A) → ((j : ℕ) → j < length l → p (get_or l j d) ≡ true) → all p l ≡ true
+pub all_from : {A : Type 0} (p : A → Bool) (d : A) (l : List A) → ((j : ℕ) → j < length l → p (get_or l j d) ≡ true) → all p l ≡ true
 all_from p d [] h = refl
 all_from p d (x ∷ xs) h = rw (h 0 (suc-le-suc zero-le)) (all_from p d xs (λ j l. h (suc j) (suc-le-suc l)))
 

@@ -3,3 +3,4 @@ pub mod StartLaws
 pub mod Picks
 pub mod Planning
 pub mod Seeking
+pub mod LengthLaws

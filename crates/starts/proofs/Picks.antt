@@ -17,8 +17,8 @@ use Rattle.model.specs.Marks.{mark_after, closed_at}
 use Rattle.model.proofs.Marks.{close_at}
 use Rattle.session.specs.declared.Session.{Session}
 use Rattle.session.specs.declared.Task.{Task}
-use Rattle.session.specs.Stored.{view, view_task, hold, with_tasks, task_behind}
-use Rattle.session.proofs.Setters.{with_count, with_main}
+use Rattle.session.specs.Stored.{view, view_task, hold, task_behind}
+use Rattle.session.proofs.Setters.{with_tasks, with_count, with_main}
 use Rattle.session.proofs.Known.{Sized}
 use Rattle.rules.specs.Startable.{Startable}
 use Rattle.rules.specs.Shows.{index_of}
@@ -26,21 +26,22 @@ use Rattle.rules.proofs.Tasks.{front-screen}
 use Rattle.rules.proofs.Rooms.{FrontUnsought, unsought}
 use Rattle.effects.specs.Carriable.{Changeable}
 use Rattle.effects.proofs.Carriable.{Carriable}
-use Rattle.effects.specs.Fronted.{shift_of, place_for, front_after, closed_for, count_after, main_after}
+use Rattle.effects.specs.Fronted.{shift_of, above_for, front_after, closed_for, count_after, main_after}
 use Rattle.effects.specs.Rows.{shifted}
 use Rattle.effects.proofs.Fronts.{changeable, carried}
 use Rattle.effects.proofs.Counts.{closed-effect, closed-few}
 use Rattle.closing.proofs.Closable.{Markable}
 use Rattle.starts.specs.Checks.{room_refusal}
 use Rattle.starts.proofs.StartLaws.{start-carriable, start-sized, start-markable, finish-closes, finish-closed}
+use Rattle.std.specs.Prelude.{Option}
 
 -- the screens that an effect closes in the task t
 abbrev pub closed_in : ℕ → Effect → Task → ℕ
-closed_in b d t = closed_for d t.height (place_for b d t)
+closed_in b d t = closed_for d t.height (above_for b d t)
 
 -- ---- the task at the index of the task found is the one that the effect changes
 
-module _ (c : Session) (t : Found) where
+module _ (c : Session) (t : Option Found) where
   change-read : (d : Effect) → FrontUnsought t d → Changeable d (task_behind c (shift_of d (place_of t) c.n)) → Changeable d (task_behind c (index_of t))
   change-read Effect.New u h = h
   change-read (Effect.InFront x) u h = rw u h

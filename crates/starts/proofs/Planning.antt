@@ -11,14 +11,14 @@ use borrow.Author.Tests.{lt-leb}
 use Rattle.model.specs.declared.Change.{Change}
 use Rattle.model.specs.declared.Effect.{Effect}
 use Rattle.model.specs.declared.Flags.{Flags}
-use Rattle.model.specs.declared.Mark.{Mark}
-use Rattle.std.specs.Prelude.{if◌then◌else◌}
+use Rattle.model.specs.declared.Position.{Position}
+use Rattle.std.specs.Prelude.{if◌then◌else◌, Option, None, Some}
 use Rattle.model.specs.Session.{State, top, most_height}
 use Rattle.model.specs.Search.{place_of}
 use Rattle.model.specs.Rules.{choose}
 use Rattle.model.specs.Calls.{effect_in, caller_closes, started_with, no_history_after, start_by, closed_by_choice, closed_with, closed_by_start}
 use Rattle.model.proofs.Start.{started_by}
-use Rattle.model.specs.Marks.{mark_in, closed_at}
+use Rattle.model.specs.Marks.{mark_in, closed_at, stands_at}
 use Rattle.model.proofs.Marks.{close_at}
 use Rattle.model.proofs.MarkStands.{Stands}
 use Rattle.session.specs.declared.Session.{Session}
@@ -28,20 +28,18 @@ use Rattle.session.proofs.Setters.{with_no_history}
 use Rattle.session.proofs.Known.{Sized}
 use Rattle.rules.specs.Shows.{index_of}
 use Rattle.rules.specs.Startable.{Startable}
-use Rattle.effects.specs.Fronted.{shift_of, place_for, front_after, closed_for, count_after, main_after}
+use Rattle.effects.specs.Fronted.{shift_of, above_for, front_after, closed_for, count_after, main_after}
 use Rattle.effects.specs.Rows.{shifted}
 use Rattle.effects.proofs.Fronts.{shift-low}
 use Rattle.closing.proofs.Closable.{Markable}
 use Rattle.closing.proofs.Closed.{screen-there}
 use Rattle.closing.proofs.Marked.{closable, closed-gone}
-use Rattle.starts.specs.Checks.{room_refusal}
 use Rattle.starts.proofs.Picks.{Picked, picked-carriable, picked-put, picked-sized, picked-markable, picked-finished, picked-closed, picked-few, picked-finish-closed}
 use Rattle.plans.specs.declared.Plan.{Plan}
-use Rattle.plans.specs.Puts.{Puttable}
-use Rattle.plans.proofs.Puts.{put_of}
-use Rattle.plans.specs.Plans.{closes, closes_with, Opens}
+use Rattle.plans.specs.Puts.{Puttable, put_of}
+use Rattle.plans.specs.Plans.{closes, Opens}
 use Rattle.plans.proofs.Answered.{Uncovers}
-use Rattle.plans.proofs.Closes.{NearFront, put_in, plan-closes, plan-puttable, closed-puttable, marked-puttable}
+use Rattle.plans.proofs.Closes.{NearFront, put_in, plan-closes, plan-puttable, closed-puttable, marked-puttable, behind_of}
 use Rattle.starts.specs.declared.Chosen.{Chosen}
 use Rattle.starts.specs.Steps.{mark_if, Plannable, plan_shift, plan_mark, plan_next, plan_closed, carrying_plan, start_plan}
 
@@ -66,25 +64,25 @@ made_closed finishing tb c b f = closed_by_start finishing (choose tb (view c) b
 -- ---- where a marked screen may stand
 
 -- in front where no task goes back, or on top of the second task where some do
-abbrev Within : Mark → ℕ → Type 0
+abbrev Within : Option Position → ℕ → Type 0
 Within mark k =
     NearFront mark
-    × (((i : ℕ) → mark ≡ Mark.Stands 0 i → k ≡ 0) × ((j i : ℕ) → mark ≡ Mark.Stands (suc j) i → 1 ≤ k))
+    × (((i : ℕ) → mark ≡ stands_at 0 i → k ≡ 0) × ((j i : ℕ) → mark ≡ stands_at (suc j) i → 1 ≤ k))
 
-none : (k : ℕ) → Within Mark.Gone k
+none : (k : ℕ) → Within None k
 none k = (
   tt,
   (
-    λ i e. let z : ◌≡◌ {A = ℕ} 0 1 = cc in absurd (omega arith),
-    λ j i e. let z : ◌≡◌ {A = ℕ} 0 1 = cc in absurd (omega arith),
+    λ i e. let z : ◌≡◌ {A = ℕ} 0 1 = ap closed_at e in absurd (omega arith),
+    λ j i e. let z : ◌≡◌ {A = ℕ} 0 1 = ap closed_at e in absurd (omega arith),
   ),
 )
 
-first : (i : ℕ) → Within (Mark.Stands 0 i) 0
-first i = (tt, (λ l e. refl, λ j l e. let z : 0 ≡ suc j = cc in absurd (omega arith)))
+first : (i : ℕ) → Within (stands_at 0 i) 0
+first i = (tt, (λ l e. refl, λ j l e. let z : 0 ≡ suc j = ap behind_of e in absurd (omega arith)))
 
-behind : (k : ℕ) → 1 ≤ k → Within (Mark.Stands 1 0) k
-behind k some = ((refl, refl), (λ i e. let z : ◌≡◌ {A = ℕ} 1 0 = cc in absurd (omega arith), λ j i e. some))
+behind : (k : ℕ) → 1 ≤ k → Within (stands_at 1 0) k
+behind k some = ((refl, refl), (λ i e. let z : ◌≡◌ {A = ℕ} 1 0 = ap behind_of e in absurd (omega arith), λ j i e. some))
 
 within-change : (c : Change) (is_b : Bool) → Within (mark_in c is_b) 0
 within-change Change.Keep is_b = first 0
@@ -101,7 +99,7 @@ within true Effect.New p n is_b some = behind n some
 within true (Effect.InFront c) p n is_b some = within-change c is_b
 within true (Effect.MoveAnd c) p n is_b some = go p
   where
-    go : (p : ℕ) → Within (if leb p 1 then mark_in c is_b else Mark.Stands 1 0) (pred p)
+    go : (p : ℕ) → Within (if leb p 1 then mark_in c is_b else stands_at 1 0) (pred p)
     go zero = within-change c is_b
     go (suc zero) = within-change c is_b
     go (suc (suc p)) = rw (lt-leb (suc (suc p)) 1 (omega arith)) (behind (suc p) (omega arith))
@@ -112,32 +110,20 @@ second_at (suc k) [] l n x = absurd (omega arith)
 second_at (suc k) (t ∷ ts) l n x = refl
 
 -- where the front task goes, the marked screen stood in it
-uncovers : (mark : Mark) (one one' : Bool) (t : Task) (k n m v : ℕ) → Within mark k → Uncovers (closes mark one one' t k n m v)
-uncovers Mark.Gone one one' t k n m v w e = absurd (omega (arith, e))
-uncovers (Mark.Stands zero i) true one' t k n m v w e = (w.1.0 i refl, refl)
-uncovers (Mark.Stands zero i) false one' t k n m v w e = absurd (omega (arith, e))
-uncovers (Mark.Stands (suc j) i) one true t k n m v w e = absurd (omega (arith, e))
-uncovers (Mark.Stands (suc j) i) one false t k n m v w e = absurd (omega (arith, e))
+uncovers-there : (j i : ℕ) (one one' : Bool) (t : Task) (k n m v : ℕ) → Within (stands_at j i) k → Uncovers (closes (stands_at j i) one one' t k n m v)
+uncovers-there zero i true one' t k n m v w e = (w.1.0 i refl, refl)
+uncovers-there zero i false one' t k n m v w e = absurd (omega (arith, e))
+uncovers-there (suc j) i one true t k n m v w e = absurd (omega (arith, e))
+uncovers-there (suc j) i one false t k n m v w e = absurd (omega (arith, e))
 
-accepted : (mark : Mark) (one one' : Bool) (t : Task) (k n m v : ℕ) → (closes mark one one' t k n m v).refusal ≡ 0
-accepted Mark.Gone one one' t k n m v = refl
-accepted (Mark.Stands zero i) true one' t k n m v = refl
-accepted (Mark.Stands zero i) false one' t k n m v = refl
-accepted (Mark.Stands (suc j) i) one true t k n m v = refl
-accepted (Mark.Stands (suc j) i) one false t k n m v = refl
-
-carrying-accepts : (caller : Bool) (b : ℕ) (c : Session) (t : Task) (x : Chosen) → (carrying_plan b c t x caller).refusal ≡ 0
-carrying-accepts caller b c t x =
-    accepted (plan_mark b c t x caller) (leb (plan_next b c t x).height 1) (leb (task_behind c 0).height 1) (plan_next b c t x)
-    (plan_shift b c t x) (count_after x.effect c.n) (main_after x.effect x.place c.main) c.edition
+uncovers : (mark : Option Position) (one one' : Bool) (t : Task) (k n m v : ℕ) → Within mark k → Uncovers (closes mark one one' t k n m v)
+uncovers None one one' t k n m v w e = absurd (omega (arith, e))
+uncovers (Some p) one one' t k n m v w e = uncovers-there p.behind p.below one one' t k n m v w e
 
 -- ---- a start for which there is room
 
 module _ {tb : List ℕ} {c : Session} {b : ℕ} {f : Flags} (z : Sized c) (h : Startable tb c b) {t : Task} {x : Chosen}
     (ok : Plannable tb c b f t x) (caller : Bool) where
-  pub room : room_refusal tb c b f ≡ 0
-  room = sym (ap (λ (y : Chosen). y.refusal) ok.chosen) ∙ ok.room
-
   abbrev found : ℕ
   found = index_of (choose tb (view c) b f).found
 
@@ -150,7 +136,7 @@ module _ {tb : List ℕ} {c : Session} {b : ℕ} {f : Flags} (z : Sized c) (h : 
   abbrev shift : ℕ
   shift = plan_shift b c t x
 
-  abbrev mark : Mark
+  abbrev mark : Option Position
   mark = plan_mark b c t x caller
 
   abbrev is_b : Bool
@@ -161,13 +147,13 @@ module _ {tb : List ℕ} {c : Session} {b : ℕ} {f : Flags} (z : Sized c) (h : 
   put = put_in c next shift (count_after x.effect c.n) (main_after x.effect x.place c.main) c.edition
 
   put-started : put ≡ hold (started_by (choose tb (view c) b f) b (view c))
-  put-started = picked-put z h room picks (ap (front_after b x.effect) ok.task) refl refl refl
+  put-started = picked-put z h ok.room picks (ap (front_after b x.effect) ok.task) refl refl refl
 
   markable : Markable put x.effect x.place is_b
-  markable = picked-markable z h room picks put-started refl
+  markable = picked-markable z h ok.room picks put-started refl
 
   put-sized : Sized put
-  put-sized = picked-sized z h room picks put-started
+  put-sized = picked-sized z h ok.room picks put-started
 
   put-blank : storage_blank put ≡ true
   put-blank = markable.blank
@@ -183,8 +169,8 @@ module _ {tb : List ℕ} {c : Session} {b : ℕ} {f : Flags} (z : Sized c) (h : 
   put-makes = go caller
     where
       go : (caller : Bool) → hold (close_at (mark_if caller x.effect x.place is_b) (view put)) ≡ hold (carried caller tb c b f)
-      go true = picked-finished z h room picks put-started refl refl
-      go false = sym (closed-gone put put-sized put-blank {m = Mark.Gone} refl) ∙ put-started
+      go true = picked-finished z h ok.room picks put-started refl refl
+      go false = sym (closed-gone put put-sized put-blank {m = None} refl) ∙ put-started
 
   -- ---- the mark
 
@@ -192,7 +178,7 @@ module _ {tb : List ℕ} {c : Session} {b : ℕ} {f : Flags} (z : Sized c) (h : 
   stands = within caller x.effect x.place c.n is_b h.some
 
   -- the test of the second task's height reads the old front task
-  same : (j i : ℕ) → mark ≡ Mark.Stands (suc j) i → leb (task_behind put 1).height 1 ≡ leb (task_behind c 0).height 1
+  same : (j i : ℕ) → mark ≡ stands_at (suc j) i → leb (task_behind put 1).height 1 ≡ leb (task_behind c 0).height 1
   same j i e =
       ap (λ (u : Task). leb u.height 1)
       (second_at shift c.tasks (stands.1.1 j i e) (let l = z.tasks in omega arith) next)
@@ -210,7 +196,7 @@ module _ {tb : List ℕ} {c : Session} {b : ℕ} {f : Flags} (z : Sized c) (h : 
   carrying-puttable : Puttable c plan
   carrying-puttable =
       closed-puttable c (plan_closed b c t x + closed_at mark)
-      (plan-puttable c next shift _ _ _ put-sized put-blank (shift-low c z x.place x.effect (picked-carriable z h room picks))
+      (plan-puttable c next shift _ _ _ put-sized put-blank (shift-low c z x.place x.effect (picked-carriable z h ok.room picks))
       mark stands.0 put-marked _ _ same)
 
   carrying-uncovers : Uncovers plan
@@ -218,26 +204,23 @@ module _ {tb : List ℕ} {c : Session} {b : ℕ} {f : Flags} (z : Sized c) (h : 
 
   -- the screens that the effect closes
   effect-closes : plan_closed b c t x ≡ closed_by_choice (choose tb (view c) b f) b (view c)
-  effect-closes = rw ok.task (picked-closed z h room picks)
+  effect-closes = rw ok.task (picked-closed z h ok.room picks)
 
   pub start-few : plan_closed b c t x ≤ most_height
-  start-few = rw ok.task (picked-few z h room picks)
+  start-few = rw ok.task (picked-few z h ok.room picks)
 
   -- and with the marked one
   carrying-closes : plan.closed ≡ carried_closed caller tb c b f
   carrying-closes = go caller
     where
       go : (caller : Bool) → plan_closed b c t x + closed_at (mark_if caller x.effect x.place is_b) ≡ carried_closed caller tb c b f
-      go true = picked-finish-closed z h room picks refl effect-closes
+      go true = picked-finish-closed z h ok.room picks refl effect-closes
       go false = let e = effect-closes in omega (arith, e)
 
   pub start-opens : Opens mark next
   start-opens i e = screen-there put put-sized 0 i (closable put 0 i put-blank e put-marked)
 
 -- ---- with the No-History mark
-
-pub plan-accepts : (fin noh : Bool) (b : ℕ) (c : Session) (t : Task) (x : Chosen) → (start_plan b c t x fin noh).refusal ≡ 0
-plan-accepts fin noh b c t x = carrying-accepts (caller_closes fin c.no_history x.rule) b c t x
 
 module _ {tb : List ℕ} {c : Session} {b : ℕ} {f : Flags} (z : Sized c) (h : Startable tb c b) {t : Task} {x : Chosen}
     (ok : Plannable tb c b f t x) (fin : Bool) where
@@ -267,9 +250,6 @@ module _ {tb : List ℕ} {c : Session} {b : ℕ} {f : Flags} (z : Sized c) (h : 
       carrying-closes z h ok caller
       ∙ ap (λ (y : Chosen). carried_closed (caller_closes fin c.no_history y.rule) tb c b f) ok.chosen
 
-  pub start-accepts : (start_plan b c t x fin f.noh).refusal ≡ 0
-  start-accepts = plan-accepts fin f.noh b c t x
-
 -- ---- by what the code has of it
 
 count-some : (d : Effect) (n : ℕ) → 1 ≤ n → 1 ≤ count_after d n
@@ -279,17 +259,12 @@ count-some (Effect.MoveAnd c) n some = some
 
 module _ {tb : List ℕ} {c : Session} {b : ℕ} {f : Flags} (z : Sized c) (h : Startable tb c b) {t : Task} {x : Chosen}
     (ok : Plannable tb c b f t x) (caller : Bool) {a : ℕ} (top-is : a ≡ top (view_task (task_behind c 0)))
-    {mark : Mark} (mark-is : mark ≡ mark_if caller x.effect x.place (eqb b a)) {next : Task} (next-is : next ≡ front_after b x.effect t)
-    {n : ℕ} (count-is : n ≡ count_after x.effect c.n) {place : ℕ} (place_is : place ≡ place_for b x.effect t)
-    {closed : ℕ} (closed_is : closed ≡ closed_for x.effect t.height place) where
+    {mark : Option Position} (mark-is : mark ≡ mark_if caller x.effect x.place (eqb b a)) {next : Task} (next-is : next ≡ front_after b x.effect t)
+    {n : ℕ} (count-is : n ≡ count_after x.effect c.n) {above : Option ℕ} (above-is : above ≡ above_for b x.effect t)
+    {closed : ℕ} (closed_is : closed ≡ closed_for x.effect t.height above) where
   pub closing-requires : Opens mark next × (1 ≤ n) × (closed ≤ most_height)
   closing-requires = (
     rw (mark-is, top-is, next-is) (start-opens z h ok caller),
     rw count-is (count-some x.effect c.n h.some),
-    rw (closed_is, place_is) (start-few z h ok caller),
+    rw (closed_is, above-is) (start-few z h ok caller),
   )
-
-  pub plan-is : {k : ℕ} → k ≡ shift_of x.effect x.place c.n → {m : ℕ} → m ≡ main_after x.effect x.place c.main
-      → closes_with mark next (record { second = (task_behind c 0).height; shift = k; n = n; main = m; edition = c.edition; closed = closed })
-      ≡ carrying_plan b c t x caller
-  plan-is Shift-is main-is = rw (mark-is, top-is, next-is, count-is, Shift-is, main-is, closed_is, place_is)

@@ -1,151 +1,137 @@
 // A start in steps, each a function: its own checks, seek, choose, decide. Which task, which rule and whether there is room is known
-// before anything is put, so a refused start's plan changes nothing. Its flags are read from the word once, where it seeks.
+// before anything is put, so a refused start has no plan. Its flags are read from the word once, where it seeks.
 #![tactic(auto)]
 
 ghost use Rattle.std.specs.Prelude.{◌≡◌};
 ghost use Rattle.model.specs.Calls.{caller_closes, no_history_after};
-ghost use Rattle.model.specs.Table.{table_refusal};
-ghost use Rattle.model.specs.Refusals.{refusal as refusal_of};
+ghost use Rattle.model.specs.Refusals.{refusal as refusal_of, refusal_in, numbered, unless};
 ghost use Rattle.model.specs.Flags.{flags_of};
 ghost use Rattle.session.specs.Stored.{Ready};
+ghost use Rattle.starts.specs.Lengths.{Lengths};
 ghost use Rattle.rules.specs.Shows.{Filled};
 ghost use Rattle.rules.specs.Startable.{Startable};
 ghost use Rattle.starts.specs.Checks.{start_entry};
-ghost use Rattle.starts.specs.Steps.{none_sought, Seeks, or_else, SoughtFrom, chosen_by, mark_if, PlannableSomehow, without_rule, accepted_by, decided_by, decided_stored, Planned};
+ghost use Rattle.starts.specs.Steps.{Seeks, or_else, SoughtFrom, chosen_by, room_sought, mark_if, PlannableSomehow, without_rule, accepted_by, decided_by, decided_stored, Planned};
 
-use model::{Change, Effect, Flags, Found, Group, Mark, Rule};
+use model::{Change, Effect, Flags, Found, Group, Position, Refusal, Rule};
 use plans::{Moved, Plan};
 use rules::Asks;
 use session::{Session, Task};
+use table::Table;
 
 // ---- its own checks
 
-// The checks before it looks for room, where n tasks stand: 3, 4, 21, or 0.
-pub fn entry_refusal(table: &[u8], n: u8, b: u8, word: u32) -> u8
-    requires { table_refusal table.now ≡ 0 }
-    ensures { result ≡ refusal_of (start_entry table.now n b word) }
+// The checks before it looks for room, where n tasks stand: 3, 4, 21.
+pub fn check(table: &Table<'_>, n: u8, b: u8, word: u32) -> Result<(), Refusal>
+    ensures { refusal_in result ≡ refusal_of (start_entry table.now n b word) }
 {
-    if b >= table::size(table) {
-        return 3;
+    if b >= table.size() {
+        return Err(Refusal::UnknownScreen);
     }
     if flags::has_other_bit(word) {
-        return 4;
+        return Err(Refusal::UnknownFlag);
     }
     if n == 0 {
-        return 21;
+        return Err(Refusal::NoTask);
     }
-    0
+    Ok(())
 }
 
 // ---- seek and choose
 
-// What a start of b seeks: the refusal so far, or 0 and the group of rules, what it asks of the flags, the No-History flag, the
-// task found, and its index (0, the front task, where none was found).
+// What a start of b seeks: the group of rules, what it asks of the flags, the No-History flag, the task found, and its index (0, the
+// front task, where none was found).
 #[derive(Clone, Copy)]
 pub struct Sought {
-    pub refusal: u8,
     pub index: usize,
-    pub found: Found,
+    pub found: Option<Found>,
     pub group: Group,
     pub asks: Asks,
     pub noh: bool,
 }
 
-// Nothing is sought where the start is refused.
-pub fn none_sought(refusal: u8) -> Sought
-    ensures { result ≡ none_sought refusal }
-{
-    let asks = Asks {
-        single: false,
-        new_task: false,
-        ctp: false,
-        rtf: false,
-        ctk: false,
-    };
-    Sought {
-        refusal: refusal,
-        index: 0,
-        found: Found::Nowhere,
-        group: Group::NotApart,
-        asks: asks,
-        noh: false,
+// How a start of b with these flags comes by what it seeks.
+pub trait Seeker {
+    fn seek_task(table: &[u8], s: Session, b: u8, f: Flags) -> Sought
+        requires { Startable table.now s b }
+        ensures { Seeks table.now s b f result };
+}
+
+// By the rules, from the flags and the screen's mode.
+pub struct ByRules;
+
+impl Seeker for ByRules {
+    fn seek_task(table: &[u8], s: Session, b: u8, f: Flags) -> Sought {
+        let front = s.tasks[0];
+        let group = rules::group_of(table, front.top(), b, f);
+        let asks = rules::asks_of(table, b, f);
+        let found = rules::sought_by(table, s, b, group, asks.new_task);
+        Sought {
+            index: rules::index_of(found),
+            found: found,
+            group: group,
+            asks: asks,
+            noh: f.noh,
+        }
     }
 }
 
-fn seek_task(table: &[u8], s: Session, b: u8, f: Flags) -> Sought
-    requires { Startable table.now s b }
-    ensures { Seeks table.now s b f result }
+// What a start seeks; checked are the checks before its own. Inlined, since a call of it copies the session.
+#[inline(always)]
+pub fn seek<By: Seeker>(
+    table: &[u8],
+    s: Session,
+    b: u8,
+    word: u32,
+    checked: Result<(), Refusal>,
+) -> Result<Sought, Refusal>
+    requires { refusal_in checked ≡ 0 → Ready table.now s }
+    ensures { SoughtFrom table.now s b word (refusal_in checked) result }
 {
-    let front = s.tasks[0];
-    let group = rules::group_of(table, front.top(), b, f);
-    let asks = rules::asks_of(table, b, f);
-    let found = rules::sought_by(table, s, b, group, asks.new_task);
-    Sought {
-        refusal: 0,
-        index: rules::index_of(found),
-        found: found,
-        group: group,
-        asks: asks,
-        noh: f.noh,
-    }
+    checked?;
+    check(&Table::of(table), s.n, b, word)?;
+    Ok(By::seek_task(table, s, b, flags::read(word)))
 }
 
-// What a start seeks; refusal is that of the checks before its own.
-pub fn seek(table: &[u8], s: Session, b: u8, word: u32, refusal: u8) -> Sought
-    requires { refusal ≡ 0 → Ready table.now s }
-    ensures { SoughtFrom table.now s b word refusal result }
-{
-    if refusal != 0 {
-        return none_sought(refusal);
-    }
-    let own = entry_refusal(table, s.n, b, word);
-    if own != 0 {
-        return none_sought(own);
-    }
-    seek_task(table, s, b, flags::read(word))
-}
-
-// What is chosen: the rule, what it does, the place of the task found, and 23, 24 or 0.
+// What is chosen: the rule, what it does, and the place of the task found, 0 for none, as `rules::place_of` has it.
 #[derive(Clone, Copy)]
 pub struct Chosen {
     pub rule: Rule,
     pub effect: Effect,
     pub place: u8,
-    pub refusal: u8,
 }
 
-// t is the task at the index.
-fn choose(s: Session, t: Task, sought: Sought, b: u8) -> Chosen
+// There is room for it, or the refusal 23 or 24; t is the task at the index.
+fn choose(s: Session, t: Task, sought: Sought, b: u8) -> Result<Chosen, Refusal>
     requires { Filled t }
-    ensures { result ≡ chosen_by b s t sought }
+    ensures { numbered result ≡ unless (room_sought b s t sought) (chosen_by b s t sought) }
 {
-    let group = sought.group;
-    let asks = sought.asks;
-    let found = sought.found;
-    let rule = rules::rule_in(group, t, s.main, b, asks, found);
+    let rule = rules::rule_in(sought.group, t, s.main, b, sought.asks, sought.found);
     let effect = rules::effect_of(rule, s.edition, s.main);
-    Chosen {
-        refusal: rules::room_refusal(s.n, t, effect),
+    rules::check_room(s.n, t, effect)?;
+    Ok(Chosen {
         rule: rule,
         effect: effect,
-        place: rules::place_of(found),
-    }
+        place: rules::place_of(sought.found),
+    })
 }
 
 // ---- plan
 
 // The caller of a start closes: of a finishing one, and where it has the No-History mark, but by R7.
+#[tactic(auto, unfolding(model::specs::Calls::caller_closes))]
 fn caller_closes(finishing: bool, no_history: u8, rule: Rule) -> bool
     ensures { result ≡ caller_closes finishing no_history rule }
 {
-    finishing | ((no_history == 1) & !rules::is_r7(rule))
+    finishing | ((no_history == 1) & (rule != Rule::R7))
 }
 
 // The No-History mark after a start, where noh is the flag: a plain one by R7 leaves it.
+#[tactic(auto, unfolding(model::specs::Calls::no_history_after))]
 fn no_history_after(finishing: bool, no_history: u8, noh: bool, rule: Rule, effect: Effect) -> u8
     ensures { result ≡ no_history_after finishing no_history noh rule effect }
 {
-    if !finishing & rules::is_r7(rule) {
+    if !finishing & (rule == Rule::R7) {
         return no_history;
     }
     if noh {
@@ -155,28 +141,28 @@ fn no_history_after(finishing: bool, no_history: u8, noh: bool, rule: Rule, effe
 }
 
 // The mark of a start: none but where its caller closes.
-fn mark_if(closes: bool, effect: Effect, place: u8, same: bool) -> Mark
+fn mark_if(closes: bool, effect: Effect, place: u8, same: bool) -> Option<Position>
     ensures { result ≡ mark_if closes effect place same }
 {
     if closes {
         return closing::mark_of(effect, place, same);
     }
-    Mark::Gone
+    None
 }
 
-// What is decided of a start: its plan, which has its refusal; the rule, what it does, the task found for it, and how many screens
+// What is decided of a start that is not refused: its plan, the rule, what it does, the task found for it, and how many screens
 // the rule alone creates and closes, before a caller closes.
 #[derive(Clone, Copy)]
 pub struct Decided {
     pub plan: Plan,
     pub rule: Rule,
     pub effect: Effect,
-    pub found: Found,
+    pub found: Option<Found>,
     pub created: u8,
     pub closed: u8,
 }
 
-// A plan that no rule made, by which so many screens are created where it is not refused: R18 stands for none, and it does nothing.
+// What is decided of a call whose plan no rule made, and which creates so many screens: R18 stands for none, and it does nothing.
 pub fn without_rule(plan: Plan, created: u8) -> Decided
     ensures { result ≡ without_rule plan created }
 {
@@ -184,7 +170,7 @@ pub fn without_rule(plan: Plan, created: u8) -> Decided
         plan: plan,
         rule: Rule::R18,
         effect: Effect::InFront(Change::Keep),
-        found: Found::Nowhere,
+        found: None,
         created: created,
         closed: 0,
     }
@@ -205,9 +191,9 @@ fn accepted(s: Session, t: Task, chosen: Chosen, sought: Sought, b: u8, finishin
     let n = effects::count_after(effect, s.n);
     let main = effects::main_after(effect, chosen.place, s.main);
     let mark = mark_if(closes, effect, chosen.place, b == front.top());
-    let topmost = effects::place_for(t, b, effect);
-    let next = effects::front_after(t, b, effect, topmost);
-    let closed = effects::closed_by(effect, t.height, topmost);
+    let above = effects::above_for(t, b, effect);
+    let next = effects::front_after(t, b, effect, above);
+    let closed = effects::closed_by(effect, t.height, above);
     let moved = Moved {
         second: front.height,
         shift: shift,
@@ -228,35 +214,40 @@ fn accepted(s: Session, t: Task, chosen: Chosen, sought: Sought, b: u8, finishin
     }
 }
 
-// What is decided of a start of b, or of a finishing one; t is the task at the index. The rule of a refused one is not told.
-pub fn decide(s: Session, t: Task, sought: Sought, b: u8, finishing: bool) -> Decided
+// What is decided of a start of b, or of a finishing one; t is the task at the index.
+pub fn decide(
+    s: Session,
+    t: Task,
+    sought: Sought,
+    b: u8,
+    finishing: bool,
+) -> Result<Decided, Refusal>
     requires { Planned s b t sought }
-    ensures { result ≡ decided_by finishing b s t sought }
+    ensures { numbered result ≡ decided_by finishing b s t sought }
 {
-    if sought.refusal != 0 {
-        return without_rule(plans::still(s, sought.refusal), 0);
-    }
-    let chosen = choose(s, t, sought, b);
-    if chosen.refusal != 0 {
-        return without_rule(plans::still(s, chosen.refusal), 0);
-    }
-    accepted(s, t, chosen, sought, b, finishing)
+    let chosen = choose(s, t, sought, b)?;
+    Ok(accepted(s, t, chosen, sought, b, finishing))
 }
 
-// What is decided of a start of b with a flag word, or of a finishing one; refusal is that of the checks before its own.
-pub fn decide_start(
+// The lengths that a session's type says. It does nothing: of a session that is lent the check does not know them.
+pub fn lengths(s: Session)
+    ensures { Lengths s }
+{}
+
+// What is decided of a start of b with a flag word, or of a finishing one; checked are the checks before its own. The session
+// is lent, and by itself: one by value is copied, since the task at the index is read from it, and so is one in a `Checked`, by `why`.
+pub fn decide_start<By: Seeker>(
     table: &[u8],
-    s: Session,
+    s: &Session,
     b: u8,
     word: u32,
     finishing: bool,
-    refusal: u8,
-) -> Decided
-    requires { refusal ≡ 0 → Ready table.now s }
-    ensures { result ≡ decided_stored (or_else refusal (refusal_of (start_entry table.now s.n b word))) table.now s b (flags_of word) finishing }
+    checked: Result<(), Refusal>,
+) -> Result<Decided, Refusal>
+    requires { refusal_in checked ≡ 0 → Ready table.now s.now }
+    ensures { numbered result ≡ decided_stored (or_else (refusal_in checked) (refusal_of (start_entry table.now s.now.n b word))) table.now s.now b (flags_of word) finishing }
 {
-    let sought = seek(table, s, b, word, refusal);
-    let i = sought.index;
-    let t = s.tasks[i];
-    decide(s, t, sought, b, finishing)
+    lengths(*s);
+    let sought = seek::<By>(table, *s, b, word, checked)?;
+    decide(*s, s.tasks[sought.index], sought, b, finishing)
 }

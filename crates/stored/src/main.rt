@@ -74,14 +74,11 @@ fn take(rt: &(impl Files + Env + Print + Eprint), place: usize, program: Program
             return program;
         }
     };
-    if &word[..n] == b"--reasons".as_slice() {
-        return Program::Player(Manner::Reasons);
-    }
-    if &word[..n] == b"--words".as_slice() {
-        return Program::Player(Manner::Sentences);
-    }
-    if &word[..n] == b"--depth".as_slice() {
-        return Program::Depth;
+    match &word[..n] {
+        b"--reasons" => return Program::Player(Manner::Reasons),
+        b"--words" => return Program::Player(Manner::Sentences),
+        b"--depth" => return Program::Depth,
+        _ => {}
     }
     let Ok(path) = str::from_utf8(&word[..n]) else {
         let _ = rt.eprintln("argument: no UTF-8 text");

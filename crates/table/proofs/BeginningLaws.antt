@@ -6,11 +6,12 @@ use mathlib.Core.List.{List}
 use native.Mathlib.Omega.{arith}
 use lib.Dec.{leb}
 use lib.ListN.{length}
+use Rattle.std.specs.Prelude.{Result, Ok, Err}
 use borrow.Author.Tests.{leb-true, leb-false}
 use Rattle.model.specs.Table.{size_of, most_screens}
 use Rattle.model.specs.Player.{starts_with_table}
 use Rattle.model.proofs.Logic.{Decides, and-decides, leb-decides, refuted, contradiction, if-elim}
-use Rattle.table.specs.declared.Beginning.{Beginning}
+use Rattle.table.specs.declared.NoTable.{NoTable}
 use Rattle.table.specs.Beginnings.{beginning_of}
 
 module _ (l : List ℕ) where
@@ -32,24 +33,24 @@ module _ (l : List ℕ) where
 
   -- ---- by N and the length
 
-  pub begins-table : Good → long ≤ length l → beginning_of l ≡ Beginning.Table long
+  pub begins-table : Good → long ≤ length l → beginning_of l ≡ Ok long
   unfolding beginning_of
   begins-table g fits = rw (starts-decides.shows (g, fits))
 
-  pub begins-cut : Good → length l < long → beginning_of l ≡ Beginning.Cut long
+  pub begins-cut : Good → length l < long → beginning_of l ≡ Err (NoTable.Cut long)
   unfolding beginning_of
   begins-cut g short = rw (refuted (starts_with_table l) starts-decides (λ h. let k = h.1 in omega arith), good-decides.shows g)
 
-  pub begins-bad : (Good → ⊥) → beginning_of l ≡ Beginning.Bad
+  pub begins-bad : (Good → ⊥) → beginning_of l ≡ Err NoTable.Bad
   unfolding beginning_of
   begins-bad n = rw (refuted (starts_with_table l) starts-decides (λ h. n h.0), refuted (leb 1 (size_of l) && leb (size_of l) most_screens) good-decides n)
 
   -- ---- by the answer
 
-  abbrev pub Said : Beginning → Type 0
-  Said (Beginning.Table n) = (n ≡ long) × (Good × (long ≤ length l))
-  Said (Beginning.Cut n) = (n ≡ long) × (Good × (length l < long))
-  Said Beginning.Bad = Good → ⊥
+  abbrev pub Said : Result ℕ NoTable → Type 0
+  Said (Ok n) = (n ≡ long) × (Good × (long ≤ length l))
+  Said (Err (NoTable.Cut n)) = (n ≡ long) × (Good × (length l < long))
+  Said (Err NoTable.Bad) = Good → ⊥
 
   cut_short : Good → starts_with_table l ≡ false → length l < long
   cut_short g e = go (leb long (length l)) refl
@@ -69,11 +70,11 @@ module _ (l : List ℕ) where
 
   -- ---- by what a caller is told
 
-  pub told : {b : Beginning} (x : Beginning) → b ≡ beginning_of l → b ≡ x → Said x
+  pub told : {b : Result ℕ NoTable} (x : Result ℕ NoTable) → b ≡ beginning_of l → b ≡ x → Said x
   told x e f = subst Said (sym e ∙ f) said
 
-  pub starts_with : {n : ℕ} {b : Beginning} → b ≡ beginning_of l → b ≡ Beginning.Table n → (starts_with_table l ≡ true) × (n ≡ long)
-  starts_with {n} {b} e f = let k = told (Beginning.Table n) e f in (starts-decides.shows k.1, k.0)
+  pub starts_with : {n : ℕ} {b : Result ℕ NoTable} → b ≡ beginning_of l → b ≡ Ok n → (starts_with_table l ≡ true) × (n ≡ long)
+  starts_with {n} {b} e f = let k = told (Ok n) e f in (starts-decides.shows k.1, k.0)
 
-  pub starts-otherwise : (b : Beginning) → b ≡ beginning_of l → ((n : ℕ) → b ≡ Beginning.Table n → ⊥) → starts_with_table l ≡ false
+  pub starts-otherwise : (b : Result ℕ NoTable) → b ≡ beginning_of l → ((n : ℕ) → b ≡ Ok n → ⊥) → starts_with_table l ≡ false
   starts-otherwise b e other = refuted (starts_with_table l) starts-decides (λ h. other long (e ∙ begins-table h.0 h.1))

@@ -3,8 +3,17 @@
 
 ghost use Rattle.std.specs.Prelude.{◌+◌, ◌*◌, ◌<◌, ◌≡◌, leb, length};
 ghost use Rattle.model.specs.Lists.{all_below};
-ghost use Rattle.model.specs.Table.{size_of, main_screen, mode_of, affinity_of, single_instance, table_refusal};
+ghost use Rattle.model.specs.Refusals.{refusal_in};
+ghost use Rattle.model.specs.Table.{size_of, main_screen, mode_of, affinity_of, is_single_top, is_single_task, is_single_instance, single_instance, table_refusal};
 ghost use Rattle.table.specs.Beginnings.{beginning_of};
+ghost use Rattle.table.specs.Modes.{mode_named};
+
+pub mod good;
+pub mod screen_mode;
+
+pub use crate::good::Table;
+pub use crate::screen_mode::{Mode, UnknownMode};
+use model::Refusal;
 
 // The most screens that a table has, and the bytes of the longest table.
 const SCREENS: u8 = 64;
@@ -27,12 +36,44 @@ pub fn main_screen(table: &[u8]) -> u8
     table[1]
 }
 
-// The mode of a screen.
+// The byte of a screen's mode.
 pub fn mode(table: &[u8], x: u8) -> u8
     requires { 2 + 2 * x < length table.now }
     ensures { result ≡ mode_of table.now x }
 {
-    table[2 + 2 * (x as usize)]
+    table[2 + 2 * usize::from(x)]
+}
+
+// The mode of a screen, if its byte names one.
+pub fn launch_mode(table: &[u8], x: u8) -> Option<Mode>
+    requires { 2 + 2 * x < length table.now }
+    ensures { result ≡ mode_named (mode_of table.now x) }
+{
+    Mode::try_from(mode(table, x)).ok()
+}
+
+// Whether a screen is single-top.
+pub fn is_single_top(table: &[u8], x: u8) -> bool
+    requires { 2 + 2 * x < length table.now }
+    ensures { result ≡ is_single_top table.now x }
+{
+    launch_mode(table, x) == Some(Mode::SingleTop)
+}
+
+// Whether a screen is single-task.
+pub fn is_single_task(table: &[u8], x: u8) -> bool
+    requires { 2 + 2 * x < length table.now }
+    ensures { result ≡ is_single_task table.now x }
+{
+    launch_mode(table, x) == Some(Mode::SingleTask)
+}
+
+// Whether a screen is single-instance.
+pub fn is_single_instance(table: &[u8], x: u8) -> bool
+    requires { 2 + 2 * x < length table.now }
+    ensures { result ≡ is_single_instance table.now x }
+{
+    launch_mode(table, x) == Some(Mode::SingleInstance)
 }
 
 // The affinity of a screen.
@@ -40,7 +81,7 @@ pub fn affinity(table: &[u8], x: u8) -> u8
     requires { 3 + 2 * x < length table.now }
     ensures { result ≡ affinity_of table.now x }
 {
-    table[3 + 2 * (x as usize)]
+    table[3 + 2 * usize::from(x)]
 }
 
 // Each of the n modes is one of the four.
@@ -48,41 +89,39 @@ fn modes_fit(table: &[u8], n: u8) -> bool
     requires { 2 * n < length table.now }
     ensures { result ≡ all_below n (λ x. leb (mode_of table.now x) single_instance) }
 {
-    let mut x: u8 = 0;
-    while x < n {
-        if mode(table, x) > 3 {
+    for x in 0..n {
+        if launch_mode(table, x).is_none() {
             return false;
         }
-        x += 1;
     }
     true
 }
 
-// 1 for a table whose length or number of screens is wrong, 2 for a wrong main screen or mode, 0 for a good table.
-pub fn refusal(table: &[u8]) -> u8
-    ensures { result ≡ table_refusal table.now }
+// Refuses a table whose length or number of screens is wrong, and then one with a wrong main screen or mode.
+pub fn check(table: &[u8]) -> Result<(), Refusal>
+    ensures { refusal_in result ≡ table_refusal table.now }
 {
     let long = table.len();
     if long < 2 {
-        return 1;
+        return Err(Refusal::TableLength);
     }
     let n = size(table);
-    if long != 2 + 2 * (n as usize) {
-        return 1;
+    if long != 2 + 2 * usize::from(n) {
+        return Err(Refusal::TableLength);
     }
     if n < 1 {
-        return 1;
+        return Err(Refusal::TableLength);
     }
     if n > SCREENS {
-        return 1;
+        return Err(Refusal::TableLength);
     }
     if main_screen(table) >= n {
-        return 2;
+        return Err(Refusal::TableContents);
     }
     if !modes_fit(table, n) {
-        return 2;
+        return Err(Refusal::TableContents);
     }
-    0
+    Ok(())
 }
 
 // The length that the table at the start of an input has by its N, whether or not so much is there. Without a byte N is 0.
@@ -92,30 +131,29 @@ pub fn length_said(input: &[u8]) -> usize
     if input.len() == 0 {
         return 2;
     }
-    2 + 2 * (size(input) as usize)
+    2 + 2 * usize::from(size(input))
 }
 
-// What an input begins with: a table of this length, one of this length that is cut, or an N that no table has.
-#[derive(Clone, Copy)]
-pub enum Beginning {
-    Table(usize),
+// What an input begins with, where it is no whole table: one of this length that is cut, or an N that no table has.
+#[derive(Clone, Copy, PartialEq, Eq)]
+pub enum NoTable {
     Cut(usize),
     Bad,
 }
 
-// What this input begins with.
-pub fn beginning_of(input: &[u8]) -> Beginning
+// The length of the table at the start of this input.
+pub fn beginning_of(input: &[u8]) -> Result<usize, NoTable>
     ensures { result ≡ beginning_of input.now }
 {
     let long = length_said(input);
     if long < 4 {
-        return Beginning::Bad;
+        return Err(NoTable::Bad);
     }
     if long > LONGEST {
-        return Beginning::Bad;
+        return Err(NoTable::Bad);
     }
     if long > input.len() {
-        return Beginning::Cut(long);
+        return Err(NoTable::Cut(long));
     }
-    Beginning::Table(long)
+    Ok(long)
 }

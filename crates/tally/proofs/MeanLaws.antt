@@ -5,7 +5,7 @@ use mathlib.Core.Bool.{Bool, true, false}
 use native.Mathlib.Omega.{arith}
 use native.Mathlib.Nat.{div-add-mod', mod-lt, div-lt_iff_lt-mul, add-mul, one-mul, le_antisymm, le-mul_of_pos_right}
 use lib.Dec.{eqb, ltb}
-use borrow.Author.Tests.{ltb-true, ltb-false, eqb-true, eqb-false, lt-ltb, le-ltb, eq-eqb, ne_eqb}
+use borrow.Author.Tests.{ltb-true, ltb-false, eqb-true, eqb-false}
 use Rattle.std.specs.Prelude.{if◌then◌else◌}
 use Rattle.tally.specs.Tallied.{half_to_even, mean_tenths, IsRounded, RoundsHalfToEven}
 
@@ -82,19 +82,6 @@ pub mean-some : (sum n : ℕ) → (n ≡ 0 → ⊥) → half_to_even (10 * sum) 
 unfolding mean_tenths
 mean-some sum zero f = absurd (f refl)
 mean-some sum (suc n) f = refl
-
-module _ (x n : ℕ) where
-  pub half-low : 2 * (x % n) < n → x / n ≡ half_to_even x n
-  half-low l = rw (lt-ltb _ _ l)
-
-  pub half_high : n ≤ 2 * (x % n) → n < 2 * (x % n) → x / n + 1 ≡ half_to_even x n
-  half_high m l = rw (le-ltb _ _ m, lt-ltb _ _ l)
-
-  pub half-even : n ≤ 2 * (x % n) → 2 * (x % n) ≤ n → x / n % 2 ≡ 0 → x / n ≡ half_to_even x n
-  half-even m l e = rw (le-ltb _ _ m, le-ltb _ _ l, eq-eqb _ _ e)
-
-  pub half-odd : n ≤ 2 * (x % n) → 2 * (x % n) ≤ n → (x / n % 2 ≡ 0 → ⊥) → x / n + 1 ≡ half_to_even x n
-  half-odd m l f = rw (le-ltb _ _ m, le-ltb _ _ l, ne_eqb _ _ f)
 
 -- the mean of heights up to 32 is at most 32, so it fits
 pub half-small : (x n : ℕ) → 1 ≤ n → x ≤ 320 * n → half_to_even x n < 65536

@@ -1,31 +1,18 @@
 -- One answer more, by what the code computes.
 use Prim.Native.Nat.{ℕ, ◌+◌, ◌*◌, ◌-◌, ◌≤◌, max}
-use mathlib.Core.Path.{◌≡◌, sym, ap}
+use mathlib.Core.Path.{◌≡◌, ap}
 use mathlib.Core.Bool.{Bool, true, false, ◌||◌, not}
 use native.Mathlib.Omega.{arith}
 use native.Mathlib.Nat.{one-mul, zero-mul, add-zero, max-zero}
 use lib.Dec.{eqb, leb}
-use borrow.Author.Tests.{ne_eqb, leb-true}
+use borrow.Author.Tests.{leb-true}
 use Rattle.std.specs.Prelude.{if◌then◌else◌}
 use Rattle.model.specs.Session.{most_height}
 use Rattle.tally.specs.declared.Tally.{Tally}
-use Rattle.tally.specs.Tallied.{mean_tenths}
-use Rattle.tally.specs.Tallies.{is_tally, accepted_by, with_answer, takes, added, reported}
+use Rattle.tally.specs.Tallies.{accepted_by, with_answer, takes, added}
 use Rattle.tally.proofs.Checks.{Takes}
 
 -- ---- what an answer brings
-
-pub accepted-one : (refusal : ℕ) → refusal ≡ 0 → 1 ≡ accepted_by refusal
-accepted-one refusal e = rw e
-
-pub accepted-none : (refusal : ℕ) → (refusal ≡ 0 → ⊥) → 0 ≡ accepted_by refusal
-accepted-none refusal f = rw (ne_eqb refusal 0 f)
-
-pub seen_one : (refusal height : ℕ) → refusal ≡ 0 → height ≡ accepted_by refusal * height
-seen_one refusal height e = rw e (sym (one-mul height))
-
-pub seen_none : (refusal height : ℕ) → (refusal ≡ 0 → ⊥) → 0 ≡ accepted_by refusal * height
-seen_none refusal height f = rw (ne_eqb refusal 0 f) (sym (zero-mul height))
 
 -- a call is accepted or refused
 pub accepted-most : (refusal : ℕ) → accepted_by refusal ≤ 1
@@ -68,15 +55,3 @@ added-taken t refusal height e = rw e
 pub added-not : (t : Tally) (refusal height : ℕ) → takes t refusal height ≡ false → record { tally = t; refusal = 31 } ≡ added t refusal height
 unfolding added
 added-not t refusal height e = rw e
-
--- ---- the report
-
-pub reported-tally : (t : Tally) → is_tally t ≡ true
-    → record { accepted = t.accepted; refused = t.refused; tenths = mean_tenths t.sum t.accepted; refusal = 0; greatest = t.greatest }
-    ≡ reported t
-unfolding reported
-reported-tally t e = rw e
-
-pub reported-not : (t : Tally) → is_tally t ≡ false → record { accepted = 0; refused = 0; tenths = 0; refusal = 31; greatest = 0 } ≡ reported t
-unfolding reported
-reported-not t e = rw e

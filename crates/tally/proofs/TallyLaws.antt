@@ -13,9 +13,8 @@ use Rattle.model.specs.Lists.{All}
 use Rattle.model.proofs.Logic.{refuted, contradiction}
 use Rattle.model.proofs.ListLaws.{All-take}
 use Rattle.tally.specs.declared.Tally.{Tally}
-use Rattle.tally.specs.declared.Added.{Added}
 use Rattle.tally.specs.Tallied.{those, is_accepted, can_be_tallied, most_calls, tallied, front_height, report_of}
-use Rattle.tally.specs.Tallies.{count_of, tally_of, is_tally, added, added_all, reported, TalliesJoin, ReportsLists}
+use Rattle.tally.specs.Tallies.{Added, count_of, tally_of, is_tally, added, added_all, reported, TalliesJoin, ReportsLists}
 use Rattle.tally.proofs.Checks.{IsTally, tally-decides, Takes, takes-decides}
 use Rattle.tally.proofs.Steps.{added-taken, added-not}
 use Rattle.tally.proofs.ListLaws.{one_if, those-append, those-pass, those-split, greatest-within, greatest-sum, sum-greatest, heights-within, count-snoc}

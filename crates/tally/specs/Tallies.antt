@@ -1,9 +1,10 @@
 -- The tally of a list of answers, what an answer makes of a tally, and what a tally reports.
-use Rattle.std.specs.Prelude.{ℕ, ◌+◌, ◌*◌, max, ◌≡◌, ◌↔◌, Bool, true, not, ◌&&◌, ◌||◌, List, [], ◌∷◌, ◌++◌, eqb, leb, ltb, if◌then◌else◌}
+use Rattle.std.specs.Prelude.{ℕ, ◌+◌, ◌*◌, max, ◌≡◌, ◌↔◌, Bool, true, not, ◌&&◌, ◌||◌, List, [], ◌∷◌, ◌++◌, eqb, leb, ltb, if◌then◌else◌, Result, Ok, Err}
 use Rattle.model.specs.declared.Answer.{Answer}
+use Rattle.model.specs.declared.Refusal.{Refusal}
+use Rattle.model.specs.Refusals.{refusal_number}
 use Rattle.model.specs.Session.{most_height}
 use Rattle.tally.specs.declared.Tally.{Tally}
-use Rattle.tally.specs.declared.Added.{Added}
 use Rattle.tally.specs.declared.Report.{Report}
 use Rattle.tally.specs.Tallied.{most_calls, tallied, accepted_in, refused_in, greatest_in, sum_in, mean_tenths, report_of}
 
@@ -45,10 +46,20 @@ unfoldable pub takes : Tally → ℕ → ℕ → Bool
 takes t refusal height =
     (is_tally t && (not (eqb refusal 0) || leb height most_height)) && ltb (t.accepted + t.refused) most_calls
 
+-- the tally after an answer, and the refusal
+pub record Added : Type 0 where
+  pub tally : Tally
+  pub refusal : ℕ
+
 -- the tally after an answer and 0, or 31 "and keeps its numbers"
 unfoldable pub added : Tally → ℕ → ℕ → Added
 added t refusal height =
     if takes t refusal height then record { tally = with_answer t refusal height; refusal = 0 } else record { tally = t; refusal = 31 }
+
+-- what an answer makes of a tally, or its refusal: then the tally is as it was
+abbrev pub added_as : Tally → Result Tally Refusal → Added
+added_as t (Ok next) = record { tally = next; refusal = 0 }
+added_as t (Err r) = record { tally = t; refusal = refusal_number r }
 
 -- the tally after a list of answers, added one by one
 unfoldable pub added_all : Tally → List Answer → Tally

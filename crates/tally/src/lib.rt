@@ -1,12 +1,13 @@
 // The depth report: a tally of answers, one answer more, and the report of a tally.
 #![tactic(auto)]
 
-ghost use Rattle.std.specs.Prelude.{◌+◌, ◌*◌, ◌≤◌, ◌<◌, max, ◌≡◌, true, []};
+ghost use Rattle.std.specs.Prelude.{◌*◌, ◌≤◌, ◌<◌, ◌≡◌, true, []};
 ghost use Rattle.model.specs.Session.{most_height};
 ghost use Rattle.tally.specs.Tallied.{half_to_even, mean_tenths, RoundsHalfToEven};
-ghost use Rattle.tally.specs.Tallies.{tally_of, is_tally, accepted_by, with_answer, takes, added, reported};
+ghost use Rattle.tally.specs.Tallies.{tally_of, is_tally, accepted_by, with_answer, takes, added, added_as, reported};
 ghost use Rattle.tally.specs.Tallies.{KnowsTallies, TalliesJoin, ReportsLists};
 
+use model::Refusal;
 use session::Session;
 
 // The numbers of a list of answers: the sum of the front heights after accepted calls, the accepted calls, the refused calls,
@@ -21,7 +22,7 @@ pub struct Tally {
 }
 
 // A report: the accepted calls, the refused calls, the mean front height in tenths, the report's own refusal (0 if none), the
-// greatest front height.
+// greatest front height. The refusal is a number: the C interface has a byte here.
 #[repr(C)]
 #[derive(Clone, Copy)]
 pub struct Report {
@@ -32,37 +33,9 @@ pub struct Report {
     pub greatest: u8,
 }
 
-// The tally after an answer and 0, or the tally as it was and 31.
-#[derive(Clone, Copy)]
-pub struct Added {
-    pub tally: Tally,
-    pub refusal: u8,
-}
-
 // ---- numbers
 
-fn wide(height: u8) -> u32
-    ensures { result ≡ height }
-{
-    height as u32
-}
-
-fn wider(calls: u16) -> u32
-    ensures { result ≡ calls }
-{
-    calls as u32
-}
-
-fn larger(x: u8, y: u8) -> u8
-    ensures { result ≡ max x y }
-{
-    if x < y {
-        return y;
-    }
-    x
-}
-
-// x / n, rounded to the nearest, and a half to the even neighbour.
+// x / n, rounded to the nearest, and a half to the even neighbour. The library has no such division.
 fn half_to_even(x: u32, n: u32) -> u32
     requires { (x < 0x80000000) × (1 ≤ n) }
     ensures { result ≡ half_to_even x n }
@@ -89,27 +62,22 @@ fn tenths(sum: u32, accepted: u16) -> u16
     if accepted == 0 {
         return 0;
     }
-    half_to_even(10 * sum, wider(accepted)) as u16
+    // It is below 65536: no height is above 32. `From` does not narrow.
+    half_to_even(10 * sum, u32::from(accepted)) as u16
 }
 
 // How many accepted calls an answer with this refusal is.
 fn accepted_by(refusal: u8) -> u16
     ensures { result ≡ accepted_by refusal }
 {
-    if refusal == 0 {
-        return 1;
-    }
-    0
+    u16::from(refusal == 0)
 }
 
 // The height that counts: a refused answer's is not looked at.
 fn height_seen(refusal: u8, height: u8) -> u8
     ensures { result ≡ accepted_by refusal * height }
 {
-    if refusal == 0 {
-        return height;
-    }
-    0
+    if refusal == 0 { height } else { 0 }
 }
 
 impl Tally {
@@ -119,6 +87,7 @@ impl Tally {
     const HEIGHT: u8 = Session::SCREENS as u8;
 
     // The tally of no answers.
+    #[tactic(auto, unfolding(crate::specs::Tallies::tally_of, crate::specs::Tallied::tallied))]
     pub fn none() -> Tally
         ensures { result ≡ tally_of [] }
     {
@@ -134,19 +103,20 @@ impl Tally {
     fn is_tally(self) -> bool
         ensures { result ≡ is_tally self }
     {
-        let calls = wider(self.accepted) + wider(self.refused);
-        let greatest = wide(self.greatest);
+        let calls = u32::from(self.accepted) + u32::from(self.refused);
+        let greatest = u32::from(self.greatest);
         (calls <= Tally::CALLS)
             & (self.greatest <= Tally::HEIGHT)
             & (greatest <= self.sum)
-            & (self.sum <= wider(self.accepted) * greatest)
+            & (self.sum <= u32::from(self.accepted) * greatest)
     }
 
     // An answer with this refusal and height is taken.
+    #[tactic(auto, unfolding(crate::specs::Tallies::takes))]
     fn takes(self, refusal: u8, height: u8) -> bool
         ensures { result ≡ takes self refusal height }
     {
-        let calls = wider(self.accepted) + wider(self.refused);
+        let calls = u32::from(self.accepted) + u32::from(self.refused);
         self.is_tally() & ((refusal != 0) | (height <= Tally::HEIGHT)) & (calls < Tally::CALLS)
     }
 
@@ -157,35 +127,29 @@ impl Tally {
     {
         let seen = height_seen(refusal, height);
         let accepted = accepted_by(refusal);
-        let greatest = larger(self.greatest, seen);
         Tally {
-            sum: self.sum + wide(seen),
+            sum: self.sum + u32::from(seen),
             accepted: self.accepted + accepted,
             refused: self.refused + (1 - accepted),
-            greatest: greatest,
+            greatest: self.greatest.max(seen),
         }
     }
 
-    // Adds the answer of a call, by its refusal and its front height.
-    pub fn add(self, refusal: u8, height: u8) -> Added
-        ensures step { result ≡ added self refusal height }
+    // Adds the answer of a call, by its refusal and its front height, the bytes of the C interface; 31 where it is not taken.
+    #[tactic(auto, unfolding(crate::specs::Tallies::added))]
+    pub fn add(self, refusal: u8, height: u8) -> Result<Tally, Refusal>
+        ensures step { added_as self result ≡ added self refusal height }
         ensures known { KnowsTallies }
         ensures joined { TalliesJoin }
     {
         if !self.takes(refusal, height) {
-            return Added {
-                tally: self,
-                refusal: 31,
-            };
+            return Err(Refusal::TallyRefused);
         }
-        let tally = self.with_answer(refusal, height);
-        Added {
-            tally: tally,
-            refusal: 0,
-        }
+        Ok(self.with_answer(refusal, height))
     }
 
     // The report of a tally.
+    #[tactic(auto, unfolding(crate::specs::Tallies::reported))]
     pub fn report(self) -> Report
         ensures numbers { result ≡ reported self }
         ensures known { KnowsTallies }
@@ -197,15 +161,14 @@ impl Tally {
                 accepted: 0,
                 refused: 0,
                 tenths: 0,
-                refusal: 31,
+                refusal: Refusal::TallyRefused.number(),
                 greatest: 0,
             };
         }
-        let mean = tenths(self.sum, self.accepted);
         Report {
             accepted: self.accepted,
             refused: self.refused,
-            tenths: mean,
+            tenths: tenths(self.sum, self.accepted),
             refusal: 0,
             greatest: self.greatest,
         }

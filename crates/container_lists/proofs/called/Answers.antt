@@ -1,24 +1,29 @@
 -- The call of a record, by its kind.
-use Rattle.container_lists.proofs.Playing.{plain_step, recorded-step, one-back, no_call}
+use mathlib.Core.Path.{◌∙◌}
+use native.Mathlib.Omega.{arith}
+use Rattle.container_lists.proofs.Playing.{plain_step, recorded-step, one-back, no_call, left_by}
 use Rattle.container_lists.proofs.called.Goals as goal
 
-pub returns-then-kind-eq1 : goal.returns-then-kind-eq1
-returns-then-kind-eq1 c =
+pub returns-in-1 : goal.returns-in-1
+returns-in-1 c =
     let a = c.args in
-    plain_step a.c a.kind a.operations.now c.step-reply.result c.if-kind-eq1.true c.step-reply.ensures.gives
+    left_by a.c c.step.result c.unwrap_or.ensures ∙ plain_step a.c a.kind a.operations.now _ c.in-1.is c.step.ensures.gives
 
-pub returns-then-kind-eq2 : goal.returns-then-kind-eq2
-returns-then-kind-eq2 c =
+pub returns-in-2 : goal.returns-in-2
+returns-in-2 c =
     let a = c.args in
-    recorded-step a.c a.kind a.operations.now c.step-reply-then-kind-eq2.result c.if-kind-eq1.false c.if-kind-eq2.true c.step-reply-then-kind-eq2.ensures.gives
+    let e = c.in-2.is in
+    left_by a.c c.step-in-2.result c.unwrap_or-in-2.ensures
+    ∙ recorded-step a.c a.kind a.operations.now _ (λ i. omega (arith, i, e)) e c.step-in-2.ensures.gives
 
-pub returns-then-kind-eq3 : goal.returns-then-kind-eq3
-returns-then-kind-eq3 c =
+pub returns-in-3 : goal.returns-in-3
+returns-in-3 c =
     let a = c.args in
-    one-back a.c a.kind a.operations.now c.back-reply.result c.if-kind-eq1.false c.if-kind-eq2.false c.if-kind-eq3.true
-    c.back-reply.ensures.gives
+    let e = c.in-3.is in
+    left_by a.c c.back.result c.unwrap_or-in-3.ensures
+    ∙ one-back a.c a.kind a.operations.now _ (λ i. omega (arith, i, e)) (λ i. omega (arith, i, e)) e c.back.ensures.gives
 
-pub returns : goal.returns
-returns c =
+pub returns-in_default : goal.returns-in_default
+returns-in_default c =
     let a = c.args in
-    no_call a.c a.kind a.operations.now c.if-kind-eq1.false c.if-kind-eq2.false c.if-kind-eq3.false
+    no_call a.c a.kind a.operations.now (λ i. omega (arith, i)) (λ i. omega (arith, i)) (λ i. omega (arith, i))

@@ -1,13 +1,9 @@
 -- The loop's invariant: the session can be played on, and so many records were met at most that their number does not overflow;
--- the buffer is as long as a block. The number of blocks left falls.
-use Rattle.std.proofs.Common.{◌+◌, ◌*◌, ◌≤◌, ◌≡◌, length}
+-- the buffer is as long as a block.
+use Rattle.std.proofs.Common.{◌*◌, ◌≤◌, ◌≡◌, length}
 use Rattle.play.specs.Playable.{Playable}
 use Rattle.reading.specs.Blocks.{most_records}
 use Rattle.depth_files.proofs.run.Given as goal
 
-abbrev pub invariant-loop-left : goal.invariant-loop-left
-invariant-loop-left g l =
-    Playable l.table l.s × ((l.calls + 10000 * l.left ≤ 10000000000000000000) × (length l.input ≡ 6 * most_records))
-
-abbrev pub decreases-loop-left : goal.decreases-loop-left
-decreases-loop-left g l = l.left
+abbrev pub invariant-loop-block : goal.invariant-loop-block
+invariant-loop-block g l = Playable l.table l.s × ((l.calls ≤ most_records * l._block) × (length l.input ≡ 6 * most_records))

@@ -3,8 +3,5 @@ use native.Mathlib.Omega.{arith}
 use Rattle.play.proofs.BlockLaws.{records-few, records-many}
 use Rattle.depths.proofs.count_records.Goals as goal
 
-pub returns-then-whole-input : goal.returns-then-whole-input
-returns-then-whole-input c = let l = c.args.input.now in omega (arith, records-few l, records-many l, c.if-whole-input.true)
-
 pub returns : goal.returns
-returns c = let l = c.args.input.now in omega (arith, records-few l, records-many l, c.if-whole-input.false)
+returns c = let l = c.args.input.now in omega (arith, records-few l, records-many l, c.div_ceil.ensures)

@@ -3,13 +3,14 @@ use Prim.Native.Nat.{ℕ, ◌<◌}
 use mathlib.Core.Path.{◌≡◌, refl, sym, ◌∙◌, ap, subst}
 use borrow.Author.Rules.{rules}
 use lib.ListN.{length}
+use Rattle.std.specs.Prelude.{Option}
 use Rattle.model.specs.declared.Change.{Change}
 use Rattle.model.specs.Effects.{changed}
 use Rattle.session.specs.declared.Task.{Task}
 use Rattle.session.specs.Stored.{view_task, pushed}
 use Rattle.effects.specs.Carriable.{Alterable}
-use Rattle.effects.specs.Fronted.{place_in, changed_task}
-use Rattle.effects.proofs.Changes.{kept, clear-is, place_inside}
+use Rattle.effects.specs.Fronted.{above_in, changed_task}
+use Rattle.effects.proofs.Changes.{kept, clear-is, inside-by}
 use Rattle.effects.proofs.Bases.{base-low, base-pushed}
 use Rattle.effects.proofs.changed.Goals as goal
 
@@ -18,8 +19,8 @@ module _ (t : Task) {change d : Change} (e : change ≡ d) where
   found : Alterable change t → Alterable d t
   found h = subst (λ (x : Change). Alterable x t) e h
 
-  placed : (b : ℕ) {place : ℕ} → place ≡ place_in b change t → place ≡ place_in b d t
-  placed b {place} h = subst (λ (x : Change). place ≡ place_in b x t) e h
+  placed : (b : ℕ) {above : Option ℕ} → above ≡ above_in b change t → above ≡ above_in b d t
+  placed b {above} h = subst (λ (x : Change). above ≡ above_in b x t) e h
 
   told : (b : ℕ) → changed_task b d t ≡ changed_task b change t
   told b = ap (λ (x : Change). changed_task b x t) (sym e)
@@ -30,12 +31,7 @@ cleared-requires c =
     let e = c.in-Clear.is in
     let l : length t.screens ≡ 32 = search rules in
     let blank = found t e c.requires.0 in
-    (blank, place_inside t l blank c.args.b (placed t e c.args.b c.requires.1))
-
-pub lifted-requires : goal.lifted-requires
-lifted-requires c =
-    let e = c.in-Lift.is in
-    (found c.args.t e c.requires.0, placed c.args.t e c.args.b c.requires.1)
+    (blank, inside-by t l blank c.args.b _ (placed t e c.args.b c.requires.1))
 
 pub push-requires : goal.push-requires
 push-requires c =
@@ -57,11 +53,6 @@ returns-in-Clear c =
     let e = c.in-Clear.is in
     let l : length t.screens ≡ 32 = search rules in
     c.cleared.ensures ∙ clear-is t l (found t e c.requires.0) c.args.b (placed t e c.args.b c.requires.1) ∙ told t e c.args.b
-
-pub returns-in-Lift : goal.returns-in-Lift
-returns-in-Lift c =
-    let a = c.args in
-    c.lifted.ensures ∙ told a.t c.in-Lift.is a.b
 
 pub returns-in-Renew : goal.returns-in-Renew
 returns-in-Renew c =

@@ -1,34 +1,26 @@
--- `effects::closed_up` meets its contract. The loop's invariant: j screens have come down by one.
-use Prim.Native.Nat.{ℕ, ◌+◌}
-use mathlib.Core.Path.{◌≡◌, ◌∙◌, ap}
+-- `effects::closed_up` meets its contract: the next k come down by one, and then b is stored.
+use Prim.Native.Nat.{◌+◌}
+use mathlib.Core.Path.{◌≡◌, ◌∙◌, ap, ap₂}
+use mathlib.Core.List.{List}
+use Prim.Native.Nat.{ℕ}
 use native.Mathlib.Omega.{arith}
 use borrow.Author.Rules.{rules}
-use lib.ListN.{length, get_or, set}
-use Rattle.session.specs.declared.Task.{Task}
+use lib.ListN.{length, set}
 use Rattle.session.specs.Stored.{with_screens}
-use Rattle.effects.proofs.Rows.{closing_up, close-begin, close-step, close-end}
+use Rattle.effects.proofs.Rows.{closing_up, copied-nearer, close-end}
 use Rattle.effects.proofs.closed_up.Goals as goal
-
-pub loop-j-init : goal.loop-j-init
-loop-j-init c = (search rules, ap (with_screens c.args.t) (close-begin c.args.m c.args.t.screens))
-
-pub loop-j-preserved : goal.loop-j-preserved
-loop-j-preserved c =
-    let here = c.loop-j in
-    let a = c.args in
-    let l : length a.t.screens ≡ 32 = search rules in (
-      omega arith,
-      ap (λ (o : Task). with_screens o (set o.screens (a.m + here.j) (get_or o.screens (a.m + here.j + 1) 0))) here.invariant.1
-          ∙ ap (with_screens a.t) (close-step 0 a.m here.j a.t.screens (omega arith)),
-    )
 
 pub returns : goal.returns
 returns c =
-    let here = c.loop-j in
     let a = c.args in
-    let l : length a.t.screens ≡ 32 = search rules in
-    let k : here.j ≡ a.k = omega (arith, here.invariant.0, c.loop-j-test.false) in
+    let xs = a.t.screens in
+    let l : length xs ≡ 32 = search rules in
+    let to = c.from-to.result in
+    let from = to + 1 in
+    let m = c.from-to.ensures in
+    let k = c.from.ensures in
+    let e = c.copy_within.ensures.after
+    ∙ copied-nearer to c.from.result from (from + c.from.result) xs (omega arith) (omega arith) ∙ ap₂ (λ m k. closing_up m k xs) m k in
     c.with_screen.ensures
-    ∙ ap (λ (o : Task). with_screens o (set o.screens (a.m + a.k) a.b)) here.invariant.1
-    ∙ ap (λ (j : ℕ). with_screens a.t (set (closing_up a.m j a.t.screens) (a.m + a.k) a.b)) k
-    ∙ ap (with_screens a.t) (close-end a.m a.k a.b a.t.screens (omega arith))
+    ∙ ap (λ (ys : List ℕ). with_screens a.t (set ys (a.m + a.k) a.b)) e
+    ∙ ap (with_screens a.t) (close-end a.m a.k a.b xs (omega arith))

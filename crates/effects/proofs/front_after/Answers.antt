@@ -1,19 +1,10 @@
 -- `effects::front_after` meets its contract: the task is told by the change of its screens and by its root.
-use mathlib.Core.Path.{sym, ◌∙◌, ap, ap₂, subst}
+use mathlib.Core.Path.{◌∙◌, ap, ap₂}
 use Rattle.model.specs.declared.Change.{Change}
 use Rattle.session.proofs.Setters.{with_root}
-use Rattle.effects.specs.Carriable.{Alterable}
-use Rattle.effects.specs.Fronted.{place_in, changed_task, root_after}
-use Rattle.effects.proofs.Bases.{alterable, front-is}
+use Rattle.effects.specs.Fronted.{changed_task, root_after}
+use Rattle.effects.proofs.Bases.{front-is}
 use Rattle.effects.proofs.front_after.Goals as goal
-
-pub changed-out-requires : goal.changed-out-requires
-changed-out-requires c =
-    let t = c.args.t in
-    let e = sym c.change_of.ensures in (
-      subst (λ (x : Change). Alterable x t) e (alterable t c.args.effect c.requires.0),
-      c.requires.1 ∙ ap (λ (x : Change). place_in c.args.b x t) e,
-    )
 
 pub returns : goal.returns
 returns c =

@@ -38,4 +38,8 @@ returns c =
     rw kind at (wrote longest_line (c.write_line.ensures.place, (c.write_line.ensures.text, c.write_line.ensures.bound))) in
     let all : Wrote out 0 (apart_lines d) c.write_line.new.out c.write_line.result =
     wrote-append (wrote-append (wrote-append (wrote-append w1 (omega arith) w2) (omega arith) w3) (omega arith) w4) (omega arith) w5 in
-    record { length = rw e (all.place ∙ zero-add (length (apart_lines d))); text = rw e all.text; bound = omega arith }
+    record {
+      length = rw e (all.place ∙ zero-add (length (apart_lines d)));
+      text = rw e all.text;
+      bound = omega arith;
+    }

@@ -4,16 +4,16 @@ use Rattle.image.proofs.ReadTask.{part_none, part-next, part-all}
 use Rattle.image.proofs.read_task.Goals as goal
 
 pub loop-i-init : goal.loop-i-init
-loop-i-init c = let a = c.args in (omega arith, part_none a.body.now a.at a.height c.requires.1)
+loop-i-init c = let a = c.args in part_none a.body.now a.at a.height c.requires.1
 
 pub loop-i-preserved : goal.loop-i-preserved
 loop-i-preserved c =
     let a = c.args in
     let here = c.loop-i in
-    (omega arith, part-next a.body.now a.at a.height c.requires.1 here.out here.i here.invariant.1 c.loop-i-test.true c.requires.0)
+    part-next a.body.now a.at a.height c.requires.1 here.out here.i here.invariant c.loop-i-test.true c.requires.0
 
 pub returns : goal.returns
 returns c =
     let a = c.args in
     let here = c.loop-i in
-    part-all a.body.now a.at a.height c.requires.1 here.out here.i here.invariant.1 (omega arith)
+    part-all a.body.now a.at a.height c.requires.1 here.out here.i here.invariant (omega arith)

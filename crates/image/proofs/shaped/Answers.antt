@@ -9,5 +9,5 @@ returns-then-long-lt6 c = sym (shaped-short c.args.image.now c.if-long-lt6.true)
 pub returns : goal.returns
 returns c =
     let image = c.args.image.now in
-    rw (c.closes.ensures, c.wide-high.ensures.0, c.wide-low.ensures.0)
+    rw (c.closes.ensures)
     (sym (shaped-long image c.if-long-lt6.false))

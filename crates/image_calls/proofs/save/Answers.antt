@@ -13,7 +13,7 @@ pub returns-then-out-length : goal.returns-then-out-length
 returns-then-out-length c =
     let a = c.args in
     let e = save-short a.table.now a.s a.out.now c.requires (omega arith) in
-    rw c.refuse_save.ensures (sym e)
+    rw (c.refuse_save.ensures, c.number.ensures) (sym e)
 
 pub write-requires : goal.write-requires
 write-requires c =

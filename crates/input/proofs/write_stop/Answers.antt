@@ -4,6 +4,6 @@ use Rattle.input.proofs.write_stop.Goals as goal
 
 pub returns : goal.returns
 returns c =
-    let place = rw c.refused.ensures at c.write_line.ensures.place in
-    let text = rw c.refused.ensures at c.write_line.ensures.text in
+    let place = rw (c.refused.ensures, c.number.ensures) at c.write_line.ensures.place in
+    let text = rw (c.refused.ensures, c.number.ensures) at c.write_line.ensures.text in
     record { length = omega (arith, place); text = text; bound = c.write_line.ensures.bound }

@@ -19,9 +19,9 @@ module _ (s : ℕ) {first second third : ℕ} (e₁ : first ≡ step s) (e₂ : 
   unfolding record_from
   made n = rw (seven third, thrice, e₂, e₁)
 
-pub overflow_cast-screen-2 : goal.overflow_cast-screen-2
-overflow_cast-screen-2 c =
-    omega (arith, mod-lt c.step-second.result {m = c.args.n} c.requires.0)
+pub overflow_cast-screen : goal.overflow_cast-screen
+overflow_cast-screen c =
+    omega (arith, mod-lt c.step-second.result {m = c.from.result} (omega (arith, c.requires.0)))
 
 pub returns : goal.returns
 returns c =
@@ -29,4 +29,7 @@ returns c =
     let e₁ = c.step-first.ensures in
     let e₂ = c.step-second.ensures in
     let e₃ = c.step-third.ensures in
-    record { state = thrice a.state e₁ e₂ e₃; bytes = c.write.ensures.bytes ∙ ap (written a.out.now a.at) (made a.state e₁ e₂ e₃ a.n) }
+    record {
+      state = thrice a.state e₁ e₂ e₃;
+      bytes = rw c.from.ensures at c.write.ensures.bytes ∙ ap (written a.out.now a.at) (made a.state e₁ e₂ e₃ a.n);
+    }

@@ -3,11 +3,8 @@ use Rattle.model.specs.Calls.{back}
 use Rattle.navigator.proofs.Promised.{call-promised}
 use Rattle.navigator.proofs.back.Goals as goal
 
-pub back-requires : goal.back-requires
-back-requires c = c.shared_refusal-refusal.ensures
-
 pub returns : goal.returns
 returns c =
     let a = c.args in
-    let told = call-promised a.table.now a.s c.back.result back c.back.ensures in
+    let told = call-promised a.table.now a.s c.back.result back (rw (c.checked.ensures.table, c.checked.ensures.session) at c.back.ensures) in
     record { gives = told.0; keeps = told.1.0; promise = told.1.1 }

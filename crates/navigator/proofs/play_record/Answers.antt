@@ -13,11 +13,8 @@ returns-then-calls-eq0 c =
 pub read-r-requires : goal.read-r-requires
 read-r-requires c = omega (arith, c.if-calls-eq0.false)
 
-pub make-requires : goal.make-requires
-make-requires c = c.shared_refusal-refusal.ensures
-
 pub returns : goal.returns
 returns c =
     let a = c.args in
-    let e = played-read a.table.now a.s a.calls.now (omega (arith, c.if-calls-eq0.false)) c.read-r.ensures c.make.ensures.reply in
+    let e = played-read a.table.now a.s a.calls.now (omega (arith, c.if-calls-eq0.false)) c.read-r.ensures (rw (c.checked.ensures.table, c.checked.ensures.session) at c.make.ensures.reply) in
     record { gives = e; keeps = played-keeps a.table.now a.s a.calls.now e; promise = promise3 a.table.now }

@@ -1,13 +1,10 @@
--- What `chart_calls::start` gives with the refusal of the shared checks.
+-- What `calls::start` gives by the chart, with the refusal of the shared checks.
 use Rattle.model.specs.Calls.{start}
 use Rattle.navigator.proofs.Promised.{call-promised}
 use Rattle.navigator.proofs.start_by_chart.Goals as goal
 
-pub start-requires : goal.start-requires
-start-requires c = c.shared_refusal-refusal.ensures
-
 pub returns : goal.returns
 returns c =
     let a = c.args in
-    let told = call-promised a.table.now a.s c.start.result (start a.b a.word) c.start.ensures in
+    let told = call-promised a.table.now a.s c.start.result (start a.b a.word) (rw (c.checked.ensures.table, c.checked.ensures.session) at c.start.ensures) in
     record { gives = told.0; keeps = told.1.0; promise = told.1.1 }

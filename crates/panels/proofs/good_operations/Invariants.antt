@@ -1,15 +1,14 @@
 -- The count, and the kinds one by one.
-use Prim.Native.Nat.{◌*◌, ◌-◌, ◌≤◌}
 use mathlib.Core.Path.{◌≡◌}
 use mathlib.Core.Bool.{true}
-use lib.ListN.{drop}
+use lib.ListN.{length}
 use Rattle.model.specs.Lists.{all}
 use Rattle.panels.specs.Operations.{operations_in, good_count, good_kind}
 use Rattle.panels.proofs.good_operations.Given as goal
 
-abbrev pub invariant-loop-i : goal.invariant-loop-i
-invariant-loop-i l =
-    (l.i ≤ l.n) × (good_count l.length ≡ true) × (all good_kind (operations_in l.operations) ≡ all good_kind (operations_in (drop (2 * l.i) l.operations)))
+abbrev pub invariant-loop-left : goal.invariant-loop-left
+invariant-loop-left l =
+    (good_count (length l.operations) ≡ true) × (all good_kind (operations_in l.operations) ≡ all good_kind (operations_in l.left))
 
-abbrev pub decreases-loop-i : goal.decreases-loop-i
-decreases-loop-i l = l.n - l.i
+abbrev pub decreases-loop-left : goal.decreases-loop-left
+decreases-loop-left l = length l.left

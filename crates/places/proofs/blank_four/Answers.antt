@@ -7,7 +7,7 @@ use Rattle.places.proofs.Fours.{fours-begin, fours-step, fours-end}
 use Rattle.places.proofs.blank_four.Goals as goal
 
 pub loop-i-init : goal.loop-i-init
-loop-i-init c = (search rules, fours-begin _ _ _ _)
+loop-i-init c = fours-begin _ _ _ _
 
 pub loop-i-preserved : goal.loop-i-preserved
 loop-i-preserved c =
@@ -17,7 +17,7 @@ loop-i-preserved c =
     let lb : length a.b.screens ≡ 32 = search rules in
     let lc : length a.c.screens ≡ 32 = search rules in
     let ld : length a.d.screens ≡ 32 = search rules in
-    (omega arith, o.invariant.1 ∙ fours-step a.a a.b a.c a.d o.i la lb lc ld (omega arith) o.zero)
+    o.invariant ∙ fours-step a.a a.b a.c a.d o.i la lb lc ld (omega arith) o.zero
 
 pub returns : goal.returns
 returns c =
@@ -27,4 +27,4 @@ returns c =
     let lb : length a.b.screens ≡ 32 = search rules in
     let lc : length a.c.screens ≡ 32 = search rules in
     let ld : length a.d.screens ≡ 32 = search rules in
-    sym (o.invariant.1 ∙ fours-end a.a a.b a.c a.d o.i la lb lc ld (omega arith) o.zero)
+    sym (o.invariant ∙ fours-end a.a a.b a.c a.d o.i la lb lc ld (omega arith) o.zero)

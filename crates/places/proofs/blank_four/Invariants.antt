@@ -1,5 +1,4 @@
 -- Invariant: the test so far and the screens from i on, of all four tasks, decide.
-use Prim.Native.Nat.{◌-◌, ◌≤◌}
 use mathlib.Core.Path.{◌≡◌}
 use mathlib.Core.Bool.{◌&&◌}
 use mathlib.Core.List.{[], ◌∷◌}
@@ -9,7 +8,4 @@ use Rattle.places.proofs.Fours.{rests}
 use Rattle.places.proofs.blank_four.Given as goal
 
 abbrev pub invariant-loop-i : goal.invariant-loop-i
-invariant-loop-i l = (l.i ≤ 32) × (all is_blank (l.a ∷ l.b ∷ l.c ∷ l.d ∷ []) ≡ (l.zero && rests l.i l.a l.b l.c l.d))
-
-abbrev pub decreases-loop-i : goal.decreases-loop-i
-decreases-loop-i l = 32 - l.i
+invariant-loop-i l = all is_blank (l.a ∷ l.b ∷ l.c ∷ l.d ∷ []) ≡ (l.zero && rests l.i l.a l.b l.c l.d)

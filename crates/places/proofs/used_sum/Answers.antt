@@ -6,7 +6,6 @@ use mathlib.Core.List.{◌∷◌, []}
 use native.Mathlib.Omega.{arith}
 use lib.ListN.{length, get_or, take}
 use lib.Seq.{take-suc}
-use borrow.Author.Tests.{eq-eqb, ne_eqb}
 use borrow.Author.Rules.{rules}
 use Rattle.std.specs.Prelude.{if◌then◌else◌}
 use Rattle.model.specs.Table.{is_single_instance}
@@ -41,21 +40,21 @@ returns-then-h-gt-SCREENS c =
     let l : length a.t.screens ≡ 32 = search rules in
     rw (refuted _ (task-fits a.table.now a.t l) (λ f. omega arith))
 
-pub mode-requires : goal.mode-requires
-mode-requires c =
+pub is_single_instance-requires : goal.is_single_instance-requires
+is_single_instance-requires c =
     let g = good-shaped c.args.table.now c.requires in
     omega arith
 
-pub returns-then-mode-ne3 : goal.returns-then-mode-ne3
-unfolding is_single_instance plain_sum used_sum
-returns-then-mode-ne3 c =
+pub returns-then-not-is_single_instance : goal.returns-then-not-is_single_instance
+unfolding plain_sum used_sum
+returns-then-not-is_single_instance c =
     let a = c.args in
     let t = a.t in
     let tb = a.table.now in
     let l : length t.screens ≡ 32 = search rules in
-    let x : is_single_instance tb t.root ≡ false = ne_eqb _ 3 (λ e. c.if-mode-ne3.true (c.mode.ensures ∙ e)) in
+    let x : is_single_instance tb t.root ≡ false = sym c.is_single_instance.ensures ∙ c.if-not-is_single_instance.true in
     let xs = take t.height t.screens in
-    c.plain_sum.ensures
+    (rw c.from-h.ensures at c.plain_sum.ensures)
     ∙ ap (λ (b : Bool). if b then total xs else no_sum)
     (same_test
     (record {
@@ -65,31 +64,31 @@ returns-then-mode-ne3 c =
     (task-fits tb t l))
 
 pub returns-then-h-gt1 : goal.returns-then-h-gt1
-unfolding is_single_instance used_sum
+unfolding used_sum
 returns-then-h-gt1 c =
     let a = c.args in
     let l : length a.t.screens ≡ 32 = search rules in
-    let x : is_single_instance a.table.now a.t.root ≡ true = eq-eqb _ 3 (sym c.mode.ensures ∙ c.if-mode-ne3.false) in
+    let x : is_single_instance a.table.now a.t.root ≡ true = sym c.is_single_instance.ensures ∙ c.if-not-is_single_instance.false in
     rw (refuted _ (task-fits a.table.now a.t l) (λ f. let h = (f.lone x).0 in omega arith))
 
 pub returns-then-top-root : goal.returns-then-top-root
-unfolding is_single_instance used_sum
+unfolding used_sum
 returns-then-top-root c =
     let a = c.args in
     let l : length a.t.screens ≡ 32 = search rules in
-    let x : is_single_instance a.table.now a.t.root ≡ true = eq-eqb _ 3 (sym c.mode.ensures ∙ c.if-mode-ne3.false) in
+    let x : is_single_instance a.table.now a.t.root ≡ true = sym c.is_single_instance.ensures ∙ c.if-not-is_single_instance.false in
     let e = c.top.ensures ∙ view-screen a.t (omega arith) 0 0 (omega arith) in
     rw (refuted _ (task-fits a.table.now a.t l) (λ f. c.if-top-root.true (e ∙ (f.lone x).1)))
 
 pub returns : goal.returns
-unfolding is_single_instance used_sum
+unfolding used_sum
 returns c =
     let a = c.args in
     let t = a.t in
     let tb = a.table.now in
     let l : length t.screens ≡ 32 = search rules in
     let h : t.height ≡ 1 = omega arith in
-    let x : is_single_instance tb t.root ≡ true = eq-eqb _ 3 (sym c.mode.ensures ∙ c.if-mode-ne3.false) in
+    let x : is_single_instance tb t.root ≡ true = sym c.is_single_instance.ensures ∙ c.if-not-is_single_instance.false in
     let e : get_or t.screens 0 0 ≡ t.root = sym (c.top.ensures ∙ view-screen t (omega arith) 0 0 (omega arith)) ∙ c.if-top-root.false in
     let u = (task-fits tb t l).shows (record {
       known = omega arith;

@@ -8,35 +8,29 @@ use Rattle.play.proofs.Replies.{fresh-playable}
 use Rattle.reading.specs.Blocks.{most_records}
 use Rattle.player_files.proofs.run.Goals as goal
 
-pub loop-left-init : goal.loop-left-init
-loop-left-init g c =
+pub loop-block-init : goal.loop-block-init
+loop-block-init g c =
     let none = c.none-met.ensures.count in (
       rw c.fresh-s.ensures (fresh-playable c.args.table.now),
-      (omega arith, (omega arith, length-replicate {A = ℕ} (6 * most_records) 0)),
+      (omega arith, length-replicate {A = ℕ} (6 * most_records) 0),
     )
 
 pub slice_bounds-turn-end : goal.slice_bounds-turn-end
-slice_bounds-turn-end g c = sym c.loop-left.invariant.1.1.1
+slice_bounds-turn-end g c = sym c.loop-block.invariant.1.1
 
 pub turn-t-requires : goal.turn-t-requires
-turn-t-requires g c = let inv = c.loop-left.invariant in record { playable = inv.0; input_len = inv.1.1.1 }
+turn-t-requires g c = let inv = c.loop-block.invariant in record { playable = inv.0; input_len = inv.1.1 }
 
 pub joined-met-requires : goal.joined-met-requires
 joined-met-requires g c =
     let few = c.turn-t.ensures.few in
-    let all = c.loop-left.invariant.1 in
-    (omega (arith, few.0, all.0, all.1.0), omega (arith, few.1, all.1.0))
+    let all = c.loop-block.invariant.1 in
+    (omega (arith, few.0, all.0), omega (arith, few.1))
 
-pub overflow_add-others : goal.overflow_add-others
-overflow_add-others g c = omega (arith, c.loop-left.invariant.1.1.0)
-
-pub loop-left-preserved : goal.loop-left-preserved
-loop-left-preserved g c =
-    let all = c.loop-left.invariant.1 in
+pub loop-block-preserved : goal.loop-block-preserved
+loop-block-preserved g c =
+    let all = c.loop-block.invariant.1 in
     let sum = c.joined-met.ensures.sum in (
       c.turn-t.ensures.keeps,
-      (
-        omega (arith, sum, c.turn-t.ensures.few.0, all.0),
-        (omega (arith, all.1.0), c.turn-t.auto.input ∙ all.1.1),
-      ),
+      (omega (arith, sum, c.turn-t.ensures.few.0, all.0), c.turn-t.auto.input ∙ all.1),
     )

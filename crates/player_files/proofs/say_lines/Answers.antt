@@ -14,6 +14,6 @@ returns g c =
     let room = sym (length-replicate {A = ℕ} (longest_line * most_records) 0) in
     let fit = fitting-all a.block.now (replicate (longest_line * most_records) 0) (lines_fit c.requires.block_len_bound room refl) in
     record {
-      played = c.play-played.ensures.session ∙ ap (λ (rs : List Record). hold (session_after a.table.now (view a.s) rs)) fit;
-      keeps = c.play-played.ensures.keeps;
+      played = c.print_played.ensures ∙ c.play-played.ensures.session ∙ ap (λ (rs : List Record). hold (session_after a.table.now (view a.s) rs)) fit;
+      keeps = rw c.print_played.ensures c.play-played.ensures.keeps;
     }

@@ -16,17 +16,17 @@ few n input h room =
 
 pub say-said-requires-clause-block_len_bound : goal.say-said-requires-clause-block_len_bound
 say-said-requires-clause-block_len_bound g c =
-    few _ _ c.read_block-read.ensures.0 (omega (arith, c.read_block-read.auto.buffer, c.requires.input_len))
+    few _ _ c.read_block-got.ensures.0 (omega (arith, c.read_block-got.auto.buffer, c.requires.input_len))
 
 pub returns : goal.returns
 returns g c =
-    let block = take c.read_block-read.result.count c.read_block-read.new.buffer in
+    let block = take c.read_block-got.result.count c.read_block-got.new.buffer in
     record {
-      read = c.read_block-read.ensures.0;
+      read = c.read_block-got.ensures.0;
       played = c.say-said.ensures.played;
       met = c.restores-met.ensures;
       few = met-few (records_in block) c.restores-met.ensures
-          (few _ _ c.read_block-read.ensures.0 (omega (arith, c.read_block-read.auto.buffer, c.requires.input_len)));
+          (few _ _ c.read_block-got.ensures.0 (omega (arith, c.read_block-got.auto.buffer, c.requires.input_len)));
       full = λ h. eqb-true _ _ (and_right c.say-said.result.went _ h);
       keeps = c.say-said.ensures.keeps;
     }

@@ -4,8 +4,8 @@ use lib.ListN.{length}
 use Rattle.recording.proofs.Ignoring.{Noted}
 use Rattle.recording.proofs.ignored.Given as goal
 
-abbrev pub invariant-loop-p : goal.invariant-loop-p
-invariant-loop-p l = Noted l.input l.from l.seen l.p
+abbrev pub invariant-loop-n : goal.invariant-loop-n
+invariant-loop-n l = Noted l.input l.from l.seen l.p
 
-abbrev pub decreases-loop-p : goal.decreases-loop-p
-decreases-loop-p l = length l.input - l.p
+abbrev pub decreases-loop-n : goal.decreases-loop-n
+decreases-loop-n l = length l.input - l.p

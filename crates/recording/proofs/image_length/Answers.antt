@@ -3,10 +3,10 @@ use borrow.Author.Tests.{eq-eqb, ne_eqb}
 use Rattle.recording.specs.CallBytes.{image_length}
 use Rattle.recording.proofs.image_length.Goals as goal
 
-pub returns-then-kind-eq6 : goal.returns-then-kind-eq6
+pub returns-then-bytes-eq6 : goal.returns-then-bytes-eq6
 unfolding image_length
-returns-then-kind-eq6 c = rw (eq-eqb _ _ c.if-kind-eq6.true)
+returns-then-bytes-eq6 c = rw (eq-eqb _ _ c.if-bytes-eq6.true) c.word_at.ensures
 
 pub returns : goal.returns
 unfolding image_length
-returns c = rw (ne_eqb _ _ c.if-kind-eq6.false)
+returns c = rw (ne_eqb _ _ c.if-bytes-eq6.false)

@@ -1,32 +1,30 @@
--- `records::write` meets its contract: six stores one after the other are the bytes written.
-use mathlib.Core.Path.{refl}
-use native.Mathlib.Numerals.{towards_suc}
+-- Two stores, and the bytes of the word copied behind them, are the bytes written.
+use Prim.Native.Nat.{ℕ, ◌+◌, ◌-◌, ◌/◌, ◌%◌}
+use mathlib.Core.Path.{◌≡◌, sym, ◌∙◌}
+use mathlib.Core.List.{List, append_assoc, ◌∷◌}
 use native.Mathlib.Omega.{arith}
-use lib.ListN.{length-set}
-use Rattle.model.proofs.WrittenLaws.{written-sets}
-use Rattle.records.specs.Records.{bytes_of_record}
+use lib.ListN.{length, take, drop, set, length-set}
+use lib.Seq.{drop-drop}
+use borrow.Rule.Slice.PartMut.{put_mid}
+use Rattle.model.specs.Written.{written}
+use Rattle.model.proofs.WrittenLaws.{written-cons}
+use Rattle.records.specs.Records.{word_bytes}
 use Rattle.records.proofs.write.Goals as goal
 
-pub bounds-out-at-2 : goal.bounds-out-at-2
-bounds-out-at-2 c = simp length-set (omega arith)
+-- bytes that fill a part of the buffer
+part-written : (d : List ℕ) (p end : ℕ) (bytes : List ℕ) → end ≡ p + length bytes → put_mid p (end - p) d bytes ≡ written d p bytes
+unfolding written
+part-written d p end bytes e =
+    let k : end - p ≡ length bytes = omega arith in
+    rw (k, drop-drop (length bytes) p d) (sym (append_assoc (take p d) bytes (drop (p + length bytes) d)))
 
-pub bounds-out-at-3 : goal.bounds-out-at-3
-bounds-out-at-3 c = simp length-set (omega arith)
-
-pub bounds-out-at-4 : goal.bounds-out-at-4
-bounds-out-at-4 c = simp length-set (omega arith)
-
-pub bounds-out-at-5 : goal.bounds-out-at-5
-bounds-out-at-5 c = simp length-set (omega arith)
-
-pub bounds-out-at-6 : goal.bounds-out-at-6
-bounds-out-at-6 c = simp length-set (omega arith)
-
-pub shape_of-out : goal.shape_of-out
-shape_of-out c = simp length-set
-
-pub returns : goal.returns
-returns c =
+pub returns-clause-bytes : goal.returns-clause-bytes
+returns-clause-bytes c =
     let a = c.args in
-    let w = written-sets a.out.now a.at (bytes_of_record a.kind a.screen a.word) c.requires in
-    record { place = refl; bytes = simp towards_suc w }
+    let d = a.out.now in
+    let high : a.word / 0x1000000 % 0x100 ≡ a.word / 0x1000000 = omega arith in
+    let copied = c.copy_from_slice.ensures.after ∙ c.to_be_bytes.ensures in
+    let bytes : c.copy_from_slice.new.self ≡ word_bytes a.word = rw high at copied in
+    rw bytes (part-written (set (set d a.at a.kind) (a.at + 1) a.screen) (a.at + 2) (a.at + 6) (word_bytes a.word) (omega arith))
+    ∙ written-cons (set d a.at a.kind) (a.at + 1) a.screen (word_bytes a.word) {next = a.at + 2} (omega arith) (omega (arith, length-set d a.at a.kind))
+    ∙ written-cons d a.at a.kind (a.screen ∷ word_bytes a.word) {next = a.at + 1} (omega arith) (omega arith)

@@ -1,18 +1,18 @@
--- `rules::holds_screen` meets its contract: the topmost has a place where there is one.
+-- `rules::holds_screen` meets its contract: some stand above the topmost, or none, where there is one.
 use Prim.Native.Nat.{ℕ, zero, suc}
 use mathlib.Core.Path.{◌≡◌, refl, ◌∙◌, ap}
-use mathlib.Core.Bool.{not}
-use native.Mathlib.Omega.{arith}
-use borrow.Author.Tests.{ne_eqb}
+use Rattle.std.specs.Prelude.{is_some}
 use lib.Dec.{eqb}
-use Rattle.model.specs.Lists.{is_place}
+use Rattle.model.specs.Lists.{find, is_place}
 use Rattle.model.specs.Search.{holds}
+use Rattle.session.specs.Stored.{view_task}
+use Rattle.search.specs.Above.{above_of}
 use Rattle.rules.proofs.holds_screen.Goals as goal
 
-not-zero : (p : ℕ) → not (eqb p 0) ≡ is_place p
-not-zero zero = refl
-not-zero (suc p) = rw (ne_eqb (suc p) 0 (λ e. omega arith))
+some-above : (p : ℕ) → is_some (above_of p) ≡ is_place p
+some-above zero = refl
+some-above (suc p) = refl
 
 pub returns : goal.returns
 unfolding holds
-returns c = not-zero c.topmost.result ∙ ap is_place c.topmost.ensures
+returns c = c.is_some.ensures ∙ ap is_some c.topmost.ensures ∙ some-above (find (eqb c.args.b) (view_task c.args.t).screens)

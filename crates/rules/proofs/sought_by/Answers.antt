@@ -3,20 +3,27 @@ use mathlib.Core.Path.{◌≡◌, refl, sym, ◌∙◌, ap}
 use mathlib.Core.Bool.{Bool, true, false, not}
 use mathlib.Core.List.{List}
 use Prim.Native.Nat.{ℕ}
+use borrow.Author.Rules.{rules}
 use borrow.Author.Tests.{not-true, not-false}
 use Rattle.model.specs.declared.Flags.{Flags}
-use Rattle.model.specs.declared.Found.{Found}
 use Rattle.model.specs.declared.Group.{Group}
 use Rattle.model.specs.Session.{State}
 use Rattle.model.specs.Rules.{sought_by}
 use Rattle.model.proofs.Logic.{never}
 use Rattle.session.specs.Stored.{view}
 use Rattle.search.specs.Numbers.{sought_in}
-use Rattle.rules.specs.Seeks.{is_instance, seeks_in}
+use Rattle.rules.specs.Seeks.{seeks_in}
+use Rattle.std.specs.Prelude.{None}
 use Rattle.rules.proofs.sought_by.Goals as goal
 
+abbrev is_instance : Group → Bool
+is_instance Group.Instance = true
+is_instance Group.Task = false
+is_instance Group.NotApart = false
+is_instance Group.Apart = false
+
 module _ (tb : List ℕ) (s : State ℕ) (b : ℕ) (f : Flags) where
-  nothing : (g : Group) → seeks_in g f.mtk ≡ false → Found.Nowhere ≡ sought_by tb s b f g
+  nothing : (g : Group) → seeks_in g f.mtk ≡ false → None ≡ sought_by tb s b f g
   unfolding sought_by
   nothing Group.Instance e = never e
   nothing Group.Task e = never e
@@ -39,6 +46,7 @@ pub returns : goal.returns
 unfolding view
 returns c f e =
     let a = c.args in
+    let alone : c.eq.result ≡ is_instance a.group = search rules in
     c.found_of.ensures ∙ c.seek.ensures
-    ∙ ap (λ (x : Bool). sought_in x a.table.now a.s.edition a.b (view a.s).tasks) c.is_instance.ensures
+    ∙ ap (λ (x : Bool). sought_in x a.table.now a.s.edition a.b (view a.s).tasks) alone
     ∙ something a.table.now (view a.s) a.b f a.group (rw e (sym c.seeks.ensures ∙ not-false _ (ap not c.if-not-seeks.false)))

@@ -11,7 +11,7 @@ use Rattle.search.proofs.Roots.{next-root}
 use Rattle.search.proofs.roots_of.Goals as goal
 
 pub loop-i-init : goal.loop-i-init
-loop-i-init c = (search rules, (length-replicate {A = ℕ} 16 0, refl))
+loop-i-init c = (length-replicate {A = ℕ} 16 0, refl)
 
 pub bounds-s-i : goal.bounds-s-i
 bounds-s-i c = search (rules, long)
@@ -21,11 +21,11 @@ loop-i-preserved c =
     let o = c.loop-i in
     let ts = c.args.s.tasks in
     let l : length ts ≡ 16 = search (rules, long) in
-    (omega arith, (length-set o.roots o.i _ ∙ o.invariant.1.0, next-root ts o.roots o.i (omega arith) (omega arith) o.invariant.1.1))
+    (length-set o.roots o.i _ ∙ o.invariant.0, next-root ts o.roots o.i (omega arith) (omega arith) o.invariant.1)
 
 pub returns : goal.returns
 returns c =
     let o = c.loop-i in
     let ts = c.args.s.tasks in
     let l : length ts ≡ 16 = search (rules, long) in
-    sym (take_all o.i o.roots (omega arith)) ∙ o.invariant.1.1 ∙ take_all o.i (roots_of ts) (omega (arith, length-map ts root))
+    sym (take_all o.i o.roots (omega arith)) ∙ o.invariant.1 ∙ take_all o.i (roots_of ts) (omega (arith, length-map ts root))

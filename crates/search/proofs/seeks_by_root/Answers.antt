@@ -8,4 +8,4 @@ returns-then-edition-ne6 c = let a = c.args in seeks-other a.table.now a.edition
 pub returns : goal.returns
 returns c =
     let a = c.args in
-    seeks-six a.table.now a.edition a.b c.if-edition-ne6.false c.mode-mode.ensures c.affinity.ensures
+    seeks-six a.table.now a.edition a.b c.if-edition-ne6.false c.is_single_instance.ensures c.is_single_task.ensures c.affinity.ensures

@@ -1,38 +1,23 @@
--- A loop over the roots. Invariant: those from i on decide.
-use mathlib.Core.Path.{◌≡◌, refl, sym, ◌∙◌, ap}
+-- The chain tests each root: the definition's test, place by place.
 use mathlib.Core.Bool.{not}
-use native.Mathlib.Omega.{arith}
-use lib.ListN.{length}
-use borrow.Author.Tests.{eq-eqb, ne_eqb}
 use borrow.Author.Rules.{rules}
-use Rattle.model.proofs.Walks.{all-take-fail, all-take-next, all-take-end}
+use borrow.Author.Tests.{eq-eqb, ne_eqb, not-true}
+use Rattle.std.specs.Prelude.{◌↔◌, ◌≢◌, IsTrue, EachIndex, slice_index}
+use mathlib.Core.Path.{ap}
+use Rattle.model.proofs.Logic.{same_test, contradiction}
+use Rattle.model.proofs.Walks.{all-at}
 use Rattle.soundness.specs.Tests.{other_root}
+use Rattle.soundness.proofs.Places.{all_from}
 use Rattle.soundness.proofs.no_root.Goals as goal
 
-pub loop-i-init : goal.loop-i-init
-loop-i-init c = (search rules, refl)
-
-pub returns-then-b-roots : goal.returns-then-b-roots
-unfolding other_root
-returns-then-b-roots c =
-    let a = c.args in
-    let l : length a.roots ≡ 16 = search rules in
-    let o = c.loop-i in
-    let e = ap not (eq-eqb a.b _ c.if-b-roots.true) in
-    sym (o.invariant.1 ∙ all-take-fail (other_root a.b) a.roots a.n (omega arith) o.i 0 (omega arith) e)
-
-pub loop-i-preserved : goal.loop-i-preserved
-unfolding other_root
-loop-i-preserved c =
-    let a = c.args in
-    let l : length a.roots ≡ 16 = search rules in
-    let o = c.loop-i in
-    let e = ap not (ne_eqb a.b _ c.if-b-roots.false) in
-    (omega arith, o.invariant.1 ∙ all-take-next (other_root a.b) a.roots a.n (omega arith) o.i 0 (omega arith) e)
-
 pub returns : goal.returns
+unfolding other_root
 returns c =
-    let a = c.args in
-    let l : length a.roots ≡ 16 = search rules in
-    let o = c.loop-i in
-    sym (o.invariant.1 ∙ all-take-end (other_root a.b) a.roots a.n (omega arith) o.i (omega arith))
+    let xs = c.args.roots.now in
+    let b = c.args.b in
+    let e : IsTrue c.all.result ↔ EachIndex xs (λ k. b ≢ slice_index xs k) = search rules in
+    same_test (record { holds = e.0; shows = e.1 })
+    (record {
+      holds = λ h k l q. contradiction (eq-eqb b _ q) (not-true _ (all-at (other_root b) xs k 0 l h));
+      shows = λ f. all_from (other_root b) 0 xs (λ k l. ap not (ne_eqb b _ (f k l)));
+    })

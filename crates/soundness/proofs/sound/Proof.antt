@@ -7,6 +7,7 @@ use mathlib.Core.Bool.{true, ◌&&◌, not}
 use mathlib.Core.List.{List}
 use native.Mathlib.Omega.{arith}
 use lib.ListN.{length}
+use lib.Seq.{length-take-le}
 use borrow.Author.Rules.{rules}
 use Rattle.model.specs.Lists.{all}
 use Rattle.model.proofs.Logic.{refuted, same_test, contradiction, and_left, and_right}
@@ -75,19 +76,24 @@ returns-4 c =
 returns-5 : tie.Need-returns-then-not-all_roots
 returns-5 c = sym (roots-fail (fourth c.before.before) (said-no c.all_roots.ensures (ap not c.if-not-all_roots.true)))
 
+standing-long : tie.Need-slice_bounds-standing-end
+standing-long c =
+    let b = fourth c.before.before.before in
+    sym (length-take-le c.args.s.n c.if-n-gt12.roots (omega (arith, b.few, b.long)))
+
 roots-differ-requires : tie.Need-roots_differ-requires
-roots-differ-requires c κs = let b = fourth c.before.before in (b.good, (b.few, read_known b (are-roots c)))
+roots-differ-requires c κs = let b = fourth c.before.before.before in (b.good, read_known b (are-roots c.before))
 
 returns-6 : tie.Need-returns-then-not-roots_differ
 returns-6 c =
-    let test = c.before.before in
+    let test = c.before.before.before in
     let e = rw (roots-read (fourth test.before.before) (are-roots test)) at (said-no c.roots_differ.ensures (ap not c.if-not-roots_differ.true)) in
     sym (refuted _ (session-fits _ _) (λ f. contradiction f.pairs e))
 
 returns-7 : tie.Need-returns
 returns-7 c =
     let left = c.before.before.before in
-    let test = left.before.before in
+    let test = left.before.before.before in
     let b = fourth test.before.before in
     let y = are-roots test in
     let r = roots-read b y in
@@ -125,5 +131,5 @@ sound_spec =
     (λ c κs. search rules) (λ c. search rules) (λ c. search rules) (λ c. search rules) (λ c. search rules)
     (λ c κs. search rules) returns-3 (λ c. search rules) (λ c. search rules) (λ c. search rules) (λ c. search rules)
     (λ c κs. search rules) (λ c. search rules) (λ c. search rules) (λ c. search rules) (λ c. search rules)
-    (λ c κs. search rules) returns-4 (λ c κs. search rules) returns-5 roots-differ-requires returns-6
+    (λ c κs. search rules) returns-4 (λ c κs. search rules) returns-5 (λ c. search rules) standing-long roots-differ-requires returns-6
     (λ c κs. search rules) (λ c κs. search rules) (λ c κs. search rules) returns-7)

@@ -1,7 +1,8 @@
 -- The length that N says is 4 to 130 exactly where N is good.
 use mathlib.Core.Path.{sym, ◌∙◌, ap}
 use native.Mathlib.Omega.{arith}
-use Rattle.table.specs.declared.Beginning.{Beginning}
+use Rattle.std.specs.Prelude.{Ok, Err}
+use Rattle.table.specs.declared.NoTable.{NoTable}
 use Rattle.table.proofs.BeginningLaws.{begins-table, begins-cut, begins-bad}
 use Rattle.table.proofs.beginning_of.Goals as goal
 
@@ -15,10 +16,10 @@ pub returns-then-long-input : goal.returns-then-long-input
 returns-then-long-input c =
     let said = c.length_said-long in
     let l = c.args.input.now in
-    ap Beginning.Cut said.ensures ∙ sym (begins-cut l (record { some = omega arith; most = omega arith }) (omega arith))
+    ap (λ n. Err (NoTable.Cut n)) said.ensures ∙ sym (begins-cut l (record { some = omega arith; most = omega arith }) (omega arith))
 
 pub returns : goal.returns
 returns c =
     let said = c.length_said-long in
     let l = c.args.input.now in
-    ap Beginning.Table said.ensures ∙ sym (begins-table l (record { some = omega arith; most = omega arith }) (omega arith))
+    ap Ok said.ensures ∙ sym (begins-table l (record { some = omega arith; most = omega arith }) (omega arith))

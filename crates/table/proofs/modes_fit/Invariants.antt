@@ -1,5 +1,4 @@
--- A loop over the screens. Invariant: each mode below x fits.
-use Prim.Native.Nat.{◌-◌, ◌≤◌}
+-- Invariant: each mode below x fits.
 use mathlib.Core.Path.{◌≡◌}
 use mathlib.Core.Bool.{true}
 use lib.Dec.{leb}
@@ -8,7 +7,4 @@ use Rattle.model.specs.Table.{mode_of, single_instance}
 use Rattle.table.proofs.modes_fit.Given as goal
 
 abbrev pub invariant-loop-x : goal.invariant-loop-x
-invariant-loop-x l = (l.x ≤ l.n) × (all_below l.x (λ y. leb (mode_of l.table y) single_instance) ≡ true)
-
-abbrev pub decreases-loop-x : goal.decreases-loop-x
-decreases-loop-x l = l.n - l.x
+invariant-loop-x l = all_below l.x (λ y. leb (mode_of l.table y) single_instance) ≡ true

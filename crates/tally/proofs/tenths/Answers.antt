@@ -9,10 +9,10 @@ returns-then-accepted-eq0 c = let a = c.args in mean-none a.sum a.accepted c.if-
 
 pub overflow_cast-result : goal.overflow_cast-result
 overflow_cast-result c =
-    rw (c.half_to_even.ensures, c.wider.ensures)
+    rw (c.half_to_even.ensures, c.from.ensures)
     (record { fits = half-small (10 * c.args.sum) c.args.accepted (omega arith) (omega arith) })
 
 pub returns : goal.returns
 returns c =
     let a = c.args in
-    rw (c.half_to_even.ensures, c.wider.ensures) (mean-some a.sum a.accepted c.if-accepted-eq0.false)
+    rw (c.half_to_even.ensures, c.from.ensures) (mean-some a.sum a.accepted c.if-accepted-eq0.false)

@@ -17,15 +17,15 @@ pub returns-then-not-words : goal.returns-then-not-words
 unfolding reason_line
 returns-then-not-words c =
     let r = c.args.r in
-    let w1 : Wrote c.args.out.now c.args.at (ascii "  ") c.write_text-refusal.new.out c.write_text-refusal.result =
-    record { place = c.write_text-refusal.ensures.place; text = c.write_text-refusal.ensures.bytes } in
-    let w2 : Wrote c.write_text-refusal.new.out c.write_text-refusal.result (decimal r.refusal ++ space ∷ []) c.write_decimal-rule.new.out c.write_decimal-rule.result =
-    wrote 4 (c.write_decimal-rule.ensures.place, (c.write_decimal-rule.ensures.text, c.write_decimal-rule.ensures.bound)) in
-    let w3 : Wrote c.write_decimal-rule.new.out c.write_decimal-rule.result (decimal r.rule ++ space ∷ []) c.write_decimal-place.new.out c.write_decimal-place.result =
-    wrote 4 (c.write_decimal-place.ensures.place, (c.write_decimal-place.ensures.text, c.write_decimal-place.ensures.bound)) in
-    let w4 : Wrote c.write_decimal-place.new.out c.write_decimal-place.result (decimal r.place ++ space ∷ []) c.write_decimal-found.new.out c.write_decimal-found.result =
-    wrote 4 (c.write_decimal-found.ensures.place, (c.write_decimal-found.ensures.text, c.write_decimal-found.ensures.bound)) in
-    let w5 : Wrote c.write_decimal-found.new.out c.write_decimal-found.result (decimal r.found ++ newline ∷ []) c.write_decimal.new.out c.write_decimal.result =
+    let w1 : Wrote c.args.out.now c.args.at (ascii "  ") c.write_text-at.new.out c.write_text-at.result =
+    record { place = c.write_text-at.ensures.place; text = c.write_text-at.ensures.bytes } in
+    let w2 : Wrote c.write_text-at.new.out c.write_text-at.result (decimal r.refusal ++ space ∷ []) c.write_decimal-at.new.out c.write_decimal-at.result =
+    wrote 4 (c.write_decimal-at.ensures.place, (c.write_decimal-at.ensures.text, c.write_decimal-at.ensures.bound)) in
+    let w3 : Wrote c.write_decimal-at.new.out c.write_decimal-at.result (decimal r.rule ++ space ∷ []) c.write_decimal-at-2.new.out c.write_decimal-at-2.result =
+    wrote 4 (c.write_decimal-at-2.ensures.place, (c.write_decimal-at-2.ensures.text, c.write_decimal-at-2.ensures.bound)) in
+    let w4 : Wrote c.write_decimal-at-2.new.out c.write_decimal-at-2.result (decimal r.place ++ space ∷ []) c.write_decimal-at-3.new.out c.write_decimal-at-3.result =
+    wrote 4 (c.write_decimal-at-3.ensures.place, (c.write_decimal-at-3.ensures.text, c.write_decimal-at-3.ensures.bound)) in
+    let w5 : Wrote c.write_decimal-at-3.new.out c.write_decimal-at-3.result (decimal r.found ++ newline ∷ []) c.write_decimal.new.out c.write_decimal.result =
     wrote 4 (c.write_decimal.ensures.place, (c.write_decimal.ensures.text, c.write_decimal.ensures.bound)) in
     let all : Wrote c.args.out.now c.args.at (reason_line false r) c.write_decimal.new.out c.write_decimal.result =
     number_behind r.found newline (number_behind r.place space (number_behind r.rule space (number_behind r.refusal space
@@ -39,19 +39,19 @@ pub returns : goal.returns
 unfolding reason_line
 returns c =
     let r = c.args.r in
-    let w1 : Wrote c.args.out.now c.args.at (ascii "  ") c.write_text-refusal.new.out c.write_text-refusal.result =
-    record { place = c.write_text-refusal.ensures.place; text = c.write_text-refusal.ensures.bytes } in
-    let w2 : Wrote c.write_text-refusal.new.out c.write_text-refusal.result (decimal r.refusal ++ space ∷ []) c.write_decimal-rule.new.out c.write_decimal-rule.result =
-    wrote 4 (c.write_decimal-rule.ensures.place, (c.write_decimal-rule.ensures.text, c.write_decimal-rule.ensures.bound)) in
-    let w3 : Wrote c.write_decimal-rule.new.out c.write_decimal-rule.result (decimal r.rule ++ space ∷ []) c.write_decimal-place.new.out c.write_decimal-place.result =
-    wrote 4 (c.write_decimal-place.ensures.place, (c.write_decimal-place.ensures.text, c.write_decimal-place.ensures.bound)) in
-    let w4 : Wrote c.write_decimal-place.new.out c.write_decimal-place.result (decimal r.place ++ space ∷ []) c.write_decimal-found.new.out c.write_decimal-found.result =
-    wrote 4 (c.write_decimal-found.ensures.place, (c.write_decimal-found.ensures.text, c.write_decimal-found.ensures.bound)) in
-    let w5 : Wrote c.write_decimal-found.new.out c.write_decimal-found.result (decimal r.found ++ space ∷ []) c.write_decimal-sentence.new.out c.write_decimal-sentence.result =
-    wrote 4 (c.write_decimal-sentence.ensures.place, (c.write_decimal-sentence.ensures.text, c.write_decimal-sentence.ensures.bound)) in
-    let w6 : Wrote c.write_decimal-sentence.new.out c.write_decimal-sentence.result (sentence_of r) c.write_sentence-end.new.out c.write_sentence-end.result =
-    wrote longest_sentence (c.write_sentence-end.ensures.place, (c.write_sentence-end.ensures.text, c.write_sentence-end.ensures.bound)) in
-    let w7 = wrote_one c.write_sentence-end.new.out c.write_sentence-end.result newline (omega arith) in
+    let w1 : Wrote c.args.out.now c.args.at (ascii "  ") c.write_text-at.new.out c.write_text-at.result =
+    record { place = c.write_text-at.ensures.place; text = c.write_text-at.ensures.bytes } in
+    let w2 : Wrote c.write_text-at.new.out c.write_text-at.result (decimal r.refusal ++ space ∷ []) c.write_decimal-at.new.out c.write_decimal-at.result =
+    wrote 4 (c.write_decimal-at.ensures.place, (c.write_decimal-at.ensures.text, c.write_decimal-at.ensures.bound)) in
+    let w3 : Wrote c.write_decimal-at.new.out c.write_decimal-at.result (decimal r.rule ++ space ∷ []) c.write_decimal-at-2.new.out c.write_decimal-at-2.result =
+    wrote 4 (c.write_decimal-at-2.ensures.place, (c.write_decimal-at-2.ensures.text, c.write_decimal-at-2.ensures.bound)) in
+    let w4 : Wrote c.write_decimal-at-2.new.out c.write_decimal-at-2.result (decimal r.place ++ space ∷ []) c.write_decimal-at-3.new.out c.write_decimal-at-3.result =
+    wrote 4 (c.write_decimal-at-3.ensures.place, (c.write_decimal-at-3.ensures.text, c.write_decimal-at-3.ensures.bound)) in
+    let w5 : Wrote c.write_decimal-at-3.new.out c.write_decimal-at-3.result (decimal r.found ++ space ∷ []) c.write_decimal-at-4.new.out c.write_decimal-at-4.result =
+    wrote 4 (c.write_decimal-at-4.ensures.place, (c.write_decimal-at-4.ensures.text, c.write_decimal-at-4.ensures.bound)) in
+    let w6 : Wrote c.write_decimal-at-4.new.out c.write_decimal-at-4.result (sentence_of r) c.write_sentence-at.new.out c.write_sentence-at.result =
+    wrote longest_sentence (c.write_sentence-at.ensures.place, (c.write_sentence-at.ensures.text, c.write_sentence-at.ensures.bound)) in
+    let w7 = wrote_one c.write_sentence-at.new.out c.write_sentence-at.result newline (omega arith) in
     let all : Wrote c.args.out.now c.args.at (reason_line true r) _ _ =
     wrote-append (wrote-append (number_behind r.found space (number_behind r.place space (number_behind r.rule space
     (number_behind r.refusal space w1 (omega arith) w2) (omega arith) w3) (omega arith) w4) (omega arith) w5) (omega arith) w6) (omega arith) w7 in

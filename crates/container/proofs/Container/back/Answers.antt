@@ -23,22 +23,30 @@ returns-then-steps-eq0 c =
     let good : good_container a ≡ true = search (rules, not-false) in
     record { gives = back-38 a good (sized a _ c.well_formed.0) c.if-steps-eq0.true; undoes = back-restores; promise = keeps-promise }
 
-pub bounds-self-i : goal.bounds-self-i
-bounds-self-i c =
+pub bounds-self-from : goal.bounds-self-from
+bounds-self-from c =
     let good : good_container c.args.self ≡ true = search (rules, not-false) in
-    omega (arith, (is-good _ good).few, c.if-steps-eq0.false)
+    omega (arith, (is-good _ good).few, c.if-steps-eq0.false, c.from.ensures)
 
-pub settled-out-requires : goal.settled-out-requires
-settled-out-requires c =
+pub settled-requires : goal.settled-requires
+settled-requires c =
     let a = c.args.self in
     let good : good_container a ≡ true = search (rules, not-false) in
     let g = is-good a good in
     let some = c.if-steps-eq0.false in
     let z = sized a _ c.well_formed.0 in
-    record { shown = kept_low a z g (a.steps - 1) _ (omega (arith, some)); steps = omega (arith, g.few); kept = fits-fewer a.kept (a.steps - 1) a.steps (omega arith) g.each }
+    record {
+      shown = rw c.from.ensures (kept_low a z g (a.steps - 1) _ (omega (arith, some)));
+      steps = omega (arith, g.few);
+      kept = fits-fewer a.kept (a.steps - 1) a.steps (omega arith) g.each;
+    }
 
 pub returns : goal.returns
 returns c =
     let a = c.args.self in
     let good : good_container a ≡ true = search (rules, not-false) in
-    record { gives = back-0 a good (sized a _ c.well_formed.0) c.settled-out.result _ c.if-steps-eq0.false c.settled-out.ensures; undoes = back-restores; promise = keeps-promise }
+    record {
+      gives = back-0 a good (sized a _ c.well_formed.0) c.settled.result _ c.if-steps-eq0.false (rw c.from.ensures at c.settled.ensures);
+      undoes = back-restores;
+      promise = keeps-promise;
+    }

@@ -1,34 +1,24 @@
--- The steps and the panels now, and the kept ones one by one.
-use mathlib.Core.Path.{refl}
-use mathlib.Core.List.{[]}
-use native.Mathlib.Omega.{arith}
-use Rattle.container.proofs.Sizes.{sized}
-use Rattle.container.proofs.KeptLaws.{good-first, good-bad, fits_next, fits-stop, fits-end}
+-- The steps and the panels now, and the kept ones.
+use Prim.Native.Nat.{ℕ}
+use mathlib.Core.Path.{ap, ◌∙◌}
+use borrow.Author.Rules.{rules}
+use borrow.Author.Tests.{tests}
+use lib.ListN.{take}
+use Rattle.std.proofs.lemmas.Iterator.{YieldsList-from_slice}
+use Rattle.std.proofs.lemmas.Iterator.Search.{all_from_yields_List}
+use Rattle.model.specs.Lists.{all}
+use Rattle.container.specs.Stored.{fits}
+use Rattle.container.proofs.KeptLaws.{good-bad, good-kept, list_all-fits}
 use Rattle.container.proofs.Container.good.Goals as goal
 
 pub returns-then-n-self : goal.returns-then-n-self
-returns-then-n-self c = good-bad c.args.self c.if-n-self.true
-
-pub loop-i-init : goal.loop-i-init
-loop-i-init c = (omega arith, refl)
-
-pub bounds-self-i : goal.bounds-self-i
-bounds-self-i c = omega (arith, (good-first c.args.self c.if-n-self.false).0)
-
-pub returns-then-q-gt-MOST : goal.returns-then-q-gt-MOST
-returns-then-q-gt-MOST c =
-    let a = c.args.self in
-    let z = sized a _ c.well_formed.0 in
-    fits-stop a c.loop-i.i _ z c.if-n-self.false c.loop-i.invariant.1 c.loop-i-test.true c.if-q-gt-MOST.true
-
-pub loop-i-preserved : goal.loop-i-preserved
-loop-i-preserved c =
-    let a = c.args.self in
-    let z = sized a _ c.well_formed.0 in
-    (omega arith, fits_next a c.loop-i.i _ z c.if-n-self.false c.loop-i.invariant.1 c.loop-i-test.true c.if-q-gt-MOST.false)
+returns-then-n-self c = good-bad c.args.self (rw c.from-n.ensures at c.if-n-self.true)
 
 pub returns : goal.returns
 returns c =
     let a = c.args.self in
-    let z = sized a _ c.well_formed.0 in
-    fits-end a c.loop-i.i (record { count = 0; panels = [] }) z c.if-n-self.false c.loop-i.invariant.1 c.loop-i-test.false
+    let ks = take c.from-n.result a.kept in
+    all_from_yields_List fits _ _ c.all.result c.all.ensures.ran (YieldsList-from_slice ks cc) (λ x b q k. search (rules, tests))
+    ∙ list_all-fits ks
+    ∙ ap (λ (n : ℕ). all fits (take n a.kept)) c.from-n.ensures
+    ∙ good-kept a (rw c.from-n.ensures at c.if-n-self.false)

@@ -1,52 +1,44 @@
--- The loop's invariant: all panels so far, and all without the topmost p.
-use Prim.Native.Nat.{ℕ, ◌<◌}
-use mathlib.Core.Path.{◌≡◌, ap, ◌∙◌}
-use native.Mathlib.Omega.{arith}
-use borrow.Author.Rules.{rules}
+-- All panels so far, and all without the topmost p.
+use mathlib.Core.Path.{ap, ◌∙◌}
 use borrow.Author.Tests.{ne_eqb}
-use lib.ListN.{length, take}
+use mathlib.Core.List.{List}
+use Prim.Native.Nat.{ℕ}
 use Rattle.panels.specs.Operations.{remove_topmost}
-use Rattle.panels.specs.Stored.{hold_panels, view_panels}
-use Rattle.panels.proofs.PanelLaws.{none-held, none-removed, push-room, push-next, push-same, other-room, push-other}
+use Rattle.panels.specs.Stored.{hold_panels}
+use Rattle.panels.proofs.PanelLaws.{none-held, none-removed, push-room, push-next, push-same, other-room, push-other, until-low, all-viewed}
 use Rattle.panels.proofs.Panels.without_topmost.Goals as goal
 use Rattle.panels.proofs.Panels.without_topmost.Goals.{then-x-p, else-x-p}
 
-pub loop-i-init : goal.loop-i-init
-loop-i-init c = (omega arith, c.none-all.ensures ∙ none-held, c.none-out.ensures ∙ none-removed _)
+pub loop-x-init : goal.loop-x-init
+loop-x-init c = (c.none-all.ensures ∙ none-held, c.none-out.ensures ∙ none-removed _)
 
 pub push-out-requires : goal.push-out-requires
 push-out-requires c =
-    let l = c.loop-i in
+    let l = c.loop-x in
     let a = c.args in
-    let e : length a.self.panels ≡ 8 = search rules in
-    other-room a.self.panels l.i e (omega (arith, c.loop-i-test.true, c.requires)) a.p l.out l.invariant.2
+    other-room _ l.x-index (until-low a.self c.requires c.from-n.ensures) c.loop-x-test.true a.p l.out l.invariant.1
 
 pub push-all-requires : goal.push-all-requires
 push-all-requires c =
-    let l = c.loop-i in
-    let a = c.args in
-    let e : length a.self.panels ≡ 8 = search rules in
-    push-room a.self.panels l.i e (omega (arith, c.loop-i-test.true, c.requires)) l.all l.invariant.1
+    let l = c.loop-x in
+    push-room _ l.x-index (until-low c.args.self c.requires c.from-n.ensures) c.loop-x-test.true l.all l.invariant.0
 
-pub loop-i-preserved : goal.loop-i-preserved
-loop-i-preserved c =
-    let l = c.loop-i in
+pub loop-x-preserved : goal.loop-x-preserved
+loop-x-preserved c =
+    let l = c.loop-x in
     let a = c.args in
-    let e : length a.self.panels ≡ 8 = search rules in
-    let t = c.loop-i-test.true in
-    let b : l.i < 8 = omega (arith, c.requires) in (
-      omega arith,
-      c.push-all.ensures ∙ push-next a.self.panels l.i e b l.all l.invariant.1,
+    let t = c.loop-x-test.true in
+    let low = until-low a.self c.requires c.from-n.ensures in (
+      c.push-all.ensures ∙ push-next _ l.x-index low t l.all l.invariant.0,
       elim c.if-x-p.branch [
-        | then-x-p w ↦ w.out-is ∙ push-same a.self.panels l.i e b a.p l.all l.invariant.1 w.if-x-p.true
-        | else-x-p w ↦ w.out-is ∙ w.push-out.ensures ∙ push-other a.self.panels l.i e b a.p l.out l.invariant.2 (ne_eqb _ _ w.if-x-p.false)
+        | then-x-p w ↦ w.out-is ∙ push-same _ l.x-index low t a.p l.all l.invariant.0 w.if-x-p.true
+        | else-x-p w ↦ w.out-is ∙ w.push-out.ensures ∙ push-other _ l.x-index low t a.p l.out l.invariant.1 (ne_eqb _ _ w.if-x-p.false)
       ],
     )
 
 pub returns : goal.returns
-unfolding view_panels
 returns c =
     let a = c.args in
-    let l = c.loop-i in
-    let e : l.i ≡ a.self.count = omega (arith, l.invariant.0, c.loop-i-test.false) in
-    l.invariant.2 ∙ ap (λ (j : ℕ). hold_panels (remove_topmost a.p (take j a.self.panels))) e
+    let l = c.loop-x in
+    l.invariant.1
+    ∙ ap (λ (xs : List ℕ). hold_panels (remove_topmost a.p xs)) (all-viewed a.self c.from-n.ensures c.loop-x-test.false)

@@ -11,4 +11,4 @@ pub returns : goal.returns
 returns c =
     let t = c.args.self in
     let l : length t.screens ≡ 32 = search rules in
-    sym (view-screen t (omega arith) (t.height - 1) 0 (omega arith))
+    rw c.from.ensures (sym (view-screen t (omega arith) (t.height - 1) 0 (omega arith)))

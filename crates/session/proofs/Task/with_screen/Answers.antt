@@ -10,7 +10,7 @@ use Rattle.session.proofs.Storing.{storing-ahead, storing-step, storing-all, cho
 use Rattle.session.proofs.Task.with_screen.Goals as goal
 
 pub loop-i-init : goal.loop-i-init
-loop-i-init c = (search rules, refl)
+loop-i-init c = refl
 
 pub loop-i-preserved : goal.loop-i-preserved
 loop-i-preserved c =
@@ -21,11 +21,11 @@ loop-i-preserved c =
     let l : length xs ≡ 32 = search rules in
     let z = length-set xs a.at a.b in
     let n : here.i < length xs = omega (arith, c.loop-i-test.true) in
-    let read = ap (λ (o : Task). get_or o.screens here.i 0) here.invariant.1 ∙ storing-ahead 0 xs ys here.i z n in (
-      omega arith,
-      ap (λ (o : Task). with_screens o (set o.screens here.i c.pick.result)) here.invariant.1
-          ∙ ap (with_screens a.self) (storing-step 0 xs ys here.i z n (chosen-set xs a.at a.b here.i n read c.pick.ensures)),
-    )
+    let k = c.from-k.ensures in
+    let read = ap (λ (o : Task). get_or o.screens here.i 0) here.invariant ∙ storing-ahead 0 xs ys here.i z n in
+    rw k
+    (ap (λ (o : Task). with_screens o (set o.screens here.i c.pick.result)) here.invariant
+    ∙ ap (with_screens a.self) (storing-step 0 xs ys here.i z n (chosen-set xs a.at a.b here.i n read (rw k at c.pick.ensures))))
 
 pub returns : goal.returns
 returns c =
@@ -34,4 +34,4 @@ returns c =
     let xs = a.self.screens in
     let l : length xs ≡ 32 = search rules in
     let z = length-set xs a.at a.b in
-    here.invariant.1 ∙ ap (with_screens a.self) (storing-all xs (set xs a.at a.b) here.i (omega (arith, c.loop-i-test.false)) (omega (arith, c.loop-i-test.false)))
+    here.invariant ∙ ap (with_screens a.self) (storing-all xs (set xs a.at a.b) here.i (omega (arith, c.loop-i-test.false)) (omega (arith, c.loop-i-test.false)))

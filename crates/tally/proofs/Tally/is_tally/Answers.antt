@@ -8,12 +8,12 @@ use Rattle.tally.proofs.Tally.is_tally.Goals as goal
 
 pub overflow_mul-result : goal.overflow_mul-result
 overflow_mul-result c =
-    let l : c.wider-3.result ≤ 65535 = omega arith in
-    let m : c.wide-greatest.result ≤ 255 = omega arith in
+    let l : c.from-3.result ≤ 65535 = omega arith in
+    let m : c.from-greatest.result ≤ 255 = omega arith in
     let p = mul-le-mul l m in
     search rules
 
 pub returns : goal.returns
 returns c =
-    rw (c.wider.ensures, c.wider-2.ensures, c.wide-greatest.ensures, c.wider-3.ensures)
+    rw (c.from.ensures, c.from-2.ensures, c.from-greatest.ensures, c.from-3.ensures)
     (test-same c.args.self)

@@ -1,0 +1,9 @@
+-- The test of the mode is that of the byte.
+use mathlib.Core.Path.{◌∙◌}
+use Rattle.model.specs.Table.{mode_of, is_single_instance}
+use Rattle.table.proofs.ModeLaws.{instance_named}
+use Rattle.table.proofs.is_single_instance.Goals as goal
+
+pub returns : goal.returns
+unfolding is_single_instance
+returns c = (rw c.launch_mode.ensures at c.eq.ensures) ∙ instance_named (mode_of c.args.table.now c.args.x)
