@@ -7,9 +7,12 @@ ghost use Rattle.model.specs.Answers.{refused as refused_answer};
 ghost use Rattle.model.specs.Calls.{Call, edition_named};
 ghost use Rattle.model.specs.Refusals.{refusal_in, refusal_number, numbered};
 ghost use Rattle.records.specs.Records.{request_for};
+ghost use Rattle.checks.specs.Shared.{shared_refusal};
 ghost use Rattle.calls.specs.StoredCalls.{reply, start_of, call_stored, reply_stored, created_stored};
 ghost use Rattle.calls.specs.CallPlans.{launch_refusal, launch_plan, back_plan, carried_out, CanCarryOut};
 ghost use Rattle.calls.specs.RecordPlans.{plan_in, created_in, unruled, decided_for};
+
+pub mod by_number;
 
 use checks::Checked;
 use model::{Answer, Effect, Position, Refusal};
@@ -149,12 +152,35 @@ pub fn reply_of(s: &Session, plan: Result<Plan, Refusal>) -> Reply
     reply
 }
 
-// Launch, on an empty session, in an edition.
-pub fn launch(on: &Checked<'_>, edition: u8) -> Reply
-    ensures { result ≡ call_stored on.now.table.now on.now.session.now (Call.launch edition) }
+// Launch, on an empty session, in an edition. It moves and closes no task, so what is launched is stored in its place. The session
+// by value, and what the shared checks say beside it: one whose address is taken before it is copied once more.
+pub fn launch(table: &[u8], s: Session, edition: u8, refused: Result<(), Refusal>) -> Reply
+    requires { refusal_in refused ≡ shared_refusal table.now s }
+    ensures { result ≡ call_stored table.now s (Call.launch edition) }
 {
-    starts::lengths(*on.session);
-    reply_of(on.session, launch_plan(on, edition))
+    let mut session = s;
+    let on = Checked {
+        table: table,
+        session: &session,
+        refused: refused,
+    };
+    let planned = launch_plan(&on, edition);
+    let answer = match planned {
+        Ok(plan) => {
+            let answer = plans::answer_of(plan, session.tasks[1]);
+            session.tasks[0] = plan.front;
+            session.n = plan.n;
+            session.main = plan.main;
+            session.edition = plan.edition;
+            session.no_history = plan.no_history;
+            answer
+        }
+        Err(why) => answer::refused(why.number()),
+    };
+    Reply {
+        session: session,
+        answer: answer,
+    }
 }
 
 // Back, on a session that is not empty.

@@ -3,6 +3,8 @@
 #![tactic(auto)]
 
 ghost use Rattle.std.specs.Prelude.{◌≡◌};
+ghost use Rattle.session.specs.Stored.{Ready};
+ghost use Rattle.starts.specs.ByNumber.{SoughtByNumber};
 ghost use Rattle.chart_starts.specs.Decoding.{group_in, asks_in};
 
 use model::{Flags, Group};
@@ -60,4 +62,12 @@ impl Seeker for ByChart {
             noh: f.noh,
         }
     }
+}
+
+// What a start seeks by way of the chart; refusal is that of the checks before its own, by its number.
+pub fn seek(table: &[u8], s: Session, b: u8, word: u32, refusal: u8) -> Result<Sought, u8>
+    requires { refusal ≡ 0 → Ready table.now s }
+    ensures { SoughtByNumber table.now s b word refusal result }
+{
+    starts::by_number::seek::<ByChart>(table, s, b, word, refusal)
 }

@@ -67,7 +67,8 @@ pub fn launch(table: &[u8], s: Session, edition: u8) -> Reply
     ensures keeps { KeepsSound table.now s result.session }
     ensures promise { KeepsPromise3 table.now }
 {
-    calls::launch(&checked(table, &s), edition)
+    let refused = check(table, s);
+    calls::launch(table, s, edition, refused)
 }
 
 // Start of b with a flag word.

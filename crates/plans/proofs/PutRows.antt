@@ -1,4 +1,4 @@
--- What `plans::put` leaves of the row of tasks: a part of the row copied one place further, or one place nearer.
+-- What `plans::put_row` leaves of the row of tasks: a part of the row copied one place further, or one place nearer.
 use Prim.Native.Nat.{ℕ, suc, ◌+◌, ◌-◌, ◌<◌}
 use mathlib.Core.Path.{◌≡◌, ◌∙◌, ap}
 use mathlib.Core.List.{List, [], ◌∷◌, ◌++◌}

@@ -32,6 +32,10 @@ pub record Puttable (s : Session) (p : Plan) : Type 0 where
   pub few : p.shift < most_tasks
   pub second : Poppable p.pops (shifted p.front p.shift s.tasks)
 
+-- the session with the row that is put, and its own numbers
+abbrev pub row_put : Session → Plan → Session
+row_put s p = record { tasks = row_of p s.tasks; n = s.n; main = s.main; edition = s.edition; no_history = s.no_history }
+
 -- the session with its tasks and its numbers
 abbrev pub put_of : Session → Plan → Session
 put_of s p = record { tasks = row_of p s.tasks; n = p.n; main = p.main; edition = p.edition; no_history = p.no_history }

@@ -4,9 +4,11 @@
 ghost use Rattle.std.specs.Prelude.{◌+◌, ◌≤◌, ◌≡◌, leb};
 ghost use Rattle.model.specs.Session.{most_height, edition_kept};
 ghost use Rattle.model.specs.Marks.{closed_at};
-ghost use Rattle.plans.specs.Puts.{Puttable, put_of};
+ghost use Rattle.plans.specs.Puts.{Puttable, row_put, put_of};
 ghost use Rattle.plans.specs.Plans.{still_of, closes_with, gone_by, front_by, pops_by, count_by, main_by, Opens};
 ghost use Rattle.plans.specs.Shown.{answer_for, Showable};
+
+pub mod by_number;
 
 use model::{Answer, Position};
 use session::{Session, Task};
@@ -34,10 +36,11 @@ const LAST: usize = Session::TASKS - 1;
 
 // ---- put
 
-// Puts a plan into the session where it stands.
-pub fn put(s: &mut Session, plan: Plan)
+// Puts a plan's row of tasks into the session where it stands, whose numbers stay. Inlined, so that `put` is one body.
+#[inline(always)]
+pub fn put_row(s: &mut Session, plan: Plan)
     requires { Puttable s.old plan }
-    ensures { s.new ≡ put_of s.old plan }
+    ensures { s.new ≡ row_put s.old plan }
 {
     let shift = usize::from(plan.shift);
     s.tasks.copy_within(0..shift, 1);
@@ -50,6 +53,14 @@ pub fn put(s: &mut Session, plan: Plan)
         s.tasks.copy_within(gone + 1..Session::TASKS, gone);
         s.tasks[LAST] = Task::blank();
     }
+}
+
+// Puts a plan into the session where it stands: its row of tasks, and its numbers.
+pub fn put(s: &mut Session, plan: Plan)
+    requires { Puttable s.old plan }
+    ensures { s.new ≡ put_of s.old plan }
+{
+    put_row(s, plan);
     s.n = plan.n;
     s.main = plan.main;
     s.edition = plan.edition;

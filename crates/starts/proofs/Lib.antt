@@ -4,3 +4,4 @@ pub mod Picks
 pub mod Planning
 pub mod Seeking
 pub mod LengthLaws
+pub mod Numbers

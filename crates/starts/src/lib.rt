@@ -13,6 +13,8 @@ ghost use Rattle.rules.specs.Startable.{Startable};
 ghost use Rattle.starts.specs.Checks.{start_entry};
 ghost use Rattle.starts.specs.Steps.{Seeks, or_else, SoughtFrom, chosen_by, room_sought, mark_if, PlannableSomehow, without_rule, accepted_by, decided_by, decided_stored, Planned};
 
+pub mod by_number;
+
 use model::{Change, Effect, Flags, Found, Group, Position, Refusal, Rule};
 use plans::{Moved, Plan};
 use rules::Asks;
