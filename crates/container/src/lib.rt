@@ -41,8 +41,8 @@ impl Container {
     }
 
     // At most 8 steps, and at most 8 panels now and in each recorded step.
-    fn good(self) -> bool
-        ensures { result ≡ good_container self }
+    fn good(&self) -> bool
+        ensures { result ≡ good_container self.entry.now }
     {
         let n = usize::from(self.steps);
         if (Container::STEPS < n) | (Panels::MOST < self.now.count) {

@@ -6,7 +6,6 @@ use lib.ListN.{length, get_or, drop}
 use borrow.Author.Tests.{eq-eqb, ne_eqb}
 use Rattle.std.specs.Prelude.{Result, Ok, Err}
 use Rattle.std.specs.List.{IsSplitAt}
-use Rattle.std.specs.Result.{result_unwrap_or}
 use Rattle.model.specs.declared.Refusal.{Refusal}
 use Rattle.model.specs.Histories.{after}
 use Rattle.model.proofs.HistoryLaws.{after-append}
@@ -38,9 +37,11 @@ unfolding after call_of
 no_call c k l n m o = rw (ne_eqb k 1 n, ne_eqb k 2 m, ne_eqb k 3 o)
 
 -- a refused call leaves the container
-pub left_by : (c : Container) (r : Result Container Refusal) {d : Container} → d ≡ result_unwrap_or r c → d ≡ (called_as c r).container
-left_by c (Ok next) e = e
-left_by c (Err n) e = e
+pub made_by : (c : Container) {r : Result Container Refusal} {d : Container} → r ≡ Ok d → d ≡ (called_as c r).container
+made_by c e = sym (ap (λ (x : Result Container Refusal). (called_as c x).container) e)
+
+pub left_by : (c : Container) {r : Result Container Refusal} {n : Refusal} → r ≡ Err n → c ≡ (called_as c r).container
+left_by c e = sym (ap (λ (x : Result Container Refusal). (called_as c x).container) e)
 
 -- ---- c, and then the bytes that are left, leave what the whole list does
 

@@ -9,16 +9,19 @@ ghost use Rattle.container_lists.specs.CallBytes.{call_of, calls_in, EveryList};
 
 use container::Container;
 
-// The container after the call of one record: 1 a step, 2 a recorded step, 3 Back. An unknown kind is no call. A refused call
-// leaves the container.
-fn called(c: Container, kind: u8, operations: &[u8]) -> Container
-    ensures { result ≡ after by_container c (call_of kind operations.now) }
+// Carries out the call of one record: 1 a step, 2 a recorded step, 3 Back. An unknown kind is no call. A refused call leaves the
+// container.
+fn called(c: &mut Container, kind: u8, operations: &[u8])
+    ensures { c.new ≡ after by_container c.old (call_of kind operations.now) }
 {
-    match kind {
-        1 => c.step(0, operations).unwrap_or(c),
-        2 => c.step(1, operations).unwrap_or(c),
-        3 => c.back().unwrap_or(c),
-        _ => c,
+    let reply = match kind {
+        1 => c.step(0, operations),
+        2 => c.step(1, operations),
+        3 => c.back(),
+        _ => return,
+    };
+    if let Ok(next) = reply {
+        *c = next;
     }
 }
 
@@ -42,7 +45,7 @@ pub fn play(calls: &[u8]) -> Container
         let Some((operations, others)) = rest.split_at_checked(bytes_of(*count)) else {
             return c;
         };
-        c = called(c, *kind, operations);
+        called(&mut c, *kind, operations);
         left = others;
     }
     c

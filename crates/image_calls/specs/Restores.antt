@@ -1,7 +1,8 @@
 -- Demand 2 of document 00: "Restore, under a good table and from a sound present session, accepts exactly the images of
 -- sound sessions and brings that session back."
-use Rattle.std.specs.Prelude.{ℕ, ◌≡◌, ◌↔◌, true, List, Result}
-use Rattle.model.specs.Refusals.{refusal, unless}
+use Rattle.std.specs.Prelude.{ℕ, ◌≡◌, ◌↔◌, true, List, Result, Ok, Err}
+use Rattle.model.specs.declared.Refusal.{Refusal}
+use Rattle.model.specs.Refusals.{refusal, refusal_number, unless}
 use Rattle.model.specs.Session.{State, sound}
 use Rattle.model.specs.Image.{image, image_checks, session_in}
 use Rattle.session.specs.declared.Session.{Session}
@@ -12,6 +13,12 @@ use Rattle.calls.specs.declared.Reply.{Reply}
 -- what a restore brings: refused by k, the refusal of the checks before its own, or by 5, 6 or 7, or the session of the image
 abbrev pub restored_stored : ℕ → List ℕ → List ℕ → Result Session ℕ
 restored_stored k tb bytes = unless (or_else k (refusal (image_checks tb bytes))) (hold (session_in bytes))
+
+-- what was brought to where the session s stands then: refused by its number, or s
+module _ {A : Type 0} where
+  abbrev pub brought : Result A Refusal → Session → Result Session ℕ
+  brought (Ok x) s = Ok s
+  brought (Err r) s = Err (refusal_number r)
 
 -- the call was not refused
 abbrev pub Accepted : Reply → Type 0

@@ -4,10 +4,10 @@
 
 ghost use Rattle.std.specs.Prelude.{◌≡◌};
 ghost use Rattle.model.specs.Calls.{Call};
-ghost use Rattle.model.specs.Refusals.{refusal_in, numbered};
+ghost use Rattle.model.specs.Refusals.{refusal_in};
 ghost use Rattle.session.specs.Stored.{Ready};
 ghost use Rattle.calls.specs.StoredCalls.{call_stored};
-ghost use Rattle.image_calls.specs.Restores.{restored_stored};
+ghost use Rattle.image_calls.specs.Restores.{restored_stored, brought};
 ghost use Rattle.image_calls.specs.StoredSaves.{saved, save_stored};
 
 use calls::Reply;
@@ -15,10 +15,11 @@ use checks::Checked;
 use model::Refusal;
 use session::Session;
 
-// What a restore brings: the session read from a whole image, refused by the checks before its own, 5 where the bytes do not end as
-// an image does, 6 where no session can be read, or 7 where it is not sound.
-fn restored(on: &Checked<'_>, image: &[u8]) -> Result<Session, Refusal>
-    ensures { numbered result ≡ restored_stored (refusal_in on.now.refused) on.now.table.now image.now }
+// Brings the session of a whole image to where a session stands: refused by the checks before its own, 5 where the bytes do not end as
+// an image does, 6 where no session can be read, or 7 where it is not sound. A refused one leaves what stands there.
+fn restored(on: &Checked<'_>, image: &[u8], s: &mut Session) -> Result<(), Refusal>
+    ensures brings { brought result s.new ≡ restored_stored (refusal_in on.now.refused) on.now.table.now image.now }
+    ensures stays { (refusal_in result ≡ 0 → ⊥) → s.new ≡ s.old }
 {
     on.refused?;
     if !image::shaped(image) {
@@ -30,20 +31,24 @@ fn restored(on: &Checked<'_>, image: &[u8]) -> Result<Session, Refusal>
     if !soundness::sound(on.table, session) {
         return Err(Refusal::ImageUnsound);
     }
-    Ok(session)
+    *s = session;
+    Ok(())
 }
 
-// Restore: the session read from a whole image.
+// Restore: the session read from a whole image. The reply stands first, and the session is brought to it: as a result, it would be
+// copied where it is refused, too.
 pub fn restore(on: &Checked<'_>, image: &[u8]) -> Reply
     ensures { result ≡ call_stored on.now.table.now on.now.session.now (Call.restore image.now) }
 {
-    match restored(on, image) {
-        Ok(session) => Reply {
-            session: session,
-            answer: answer::look_at(session),
-        },
-        Err(refusal) => calls::refuse(*on.session, refusal),
-    }
+    let mut reply = Reply {
+        session: *on.session,
+        answer: answer::refused(0),
+    };
+    reply.answer = match restored(on, image, &mut reply.session) {
+        Ok(()) => answer::look_at(reply.session),
+        Err(refusal) => answer::refused(refusal.number()),
+    };
+    reply
 }
 
 // What a save gives: its refusal, or 0 and the length of the image. A number: the C interface has a byte there.

@@ -55,14 +55,14 @@ pub fn whole_length(calls: &[u8]) -> Option<usize>
 }
 
 // What the call of one whole record gives, with the image that follows it, and how many screens it creates. An unknown kind is no
-// call. One clause, which is what `checks::passed` asks.
-fn make_with_image(table: &[u8], s: Session, bytes: &[u8]) -> Made
-    requires ready { Ready table.now s }
+// call. One clause, which is what `checks::passed` asks. The session is lent: by value, it would be copied for each record.
+fn make_with_image(table: &[u8], s: &Session, bytes: &[u8]) -> Made
+    requires ready { Ready table.now s.now }
     requires whole { 6 ≤ length bytes.now }
-    ensures reply { result.reply ≡ reply_to table.now s (call_read bytes.now) }
-    ensures created { result.created ≡ created_for table.now (view s) (call_read bytes.now) }
+    ensures reply { result.reply ≡ reply_to table.now s.now (call_read bytes.now) }
+    ensures created { result.created ≡ created_for table.now (view s.now) (call_read bytes.now) }
 {
-    let on = checks::passed(table, &s);
+    let on = checks::passed(table, s);
     if bytes[0] == 6 {
         let reply = image_calls::restore(&on, &bytes[6..]);
         return Made {
@@ -126,7 +126,7 @@ fn after_calls(table: &[u8], begun: Session, calls: &[u8]) -> Counted
     let mut left = calls;
     while let Some(n) = whole_length(left) {
         let (first, rest) = left.split_at(n);
-        let made = make_with_image(table, s, first);
+        let made = make_with_image(table, &s, first);
         created += u64::from(made.created);
         closed += u64::from(made.reply.answer.closed);
         s = made.reply.session;

@@ -34,7 +34,7 @@ pub loop-left-preserved : goal.loop-left-preserved
 loop-left-preserved c =
     let l = c.loop-left in
     reached-more c.args.calls.now l.c l.left.now l.invariant c.in-len2-up.len_at_least c.bytes_of.ensures c.in-Some.ensures.cases
-    c.called-c.result c.called-c.ensures
+    _ c.called.ensures
 
 pub returns : goal.returns
 returns c =

@@ -1,4 +1,4 @@
--- `image_calls::restored` meets its contract: refused before, or by 5, 6 or 7, or the session read.
+-- `image_calls::restored` meets its contract: refused before, or by 5, 6 or 7, or the session read; a refused one leaves what stood.
 use mathlib.Core.Path.{◌≡◌, refl, sym, ◌∙◌, ap}
 use mathlib.Core.Bool.{true, false}
 use native.Mathlib.Omega.{arith}
@@ -20,29 +20,29 @@ pub sound-requires : goal.sound-requires
 sound-requires c =
     let o = c.args.on.now in (shared-ready o.table.now o.session.now (sym o.says ∙ ap refusal_in c.in_ok-on.was)).good
 
-pub returns-then-not-shaped : goal.returns-then-not-shaped
-returns-then-not-shaped c =
+pub returns-then-not-shaped-clause-brings : goal.returns-then-not-shaped-clause-brings
+returns-then-not-shaped-clause-brings c =
     let a = c.args in
     let e : image_shaped a.image.now ≡ false = sym c.shaped.ensures ∙ c.if-not-shaped.true in
     refused-by a.on.now.table.now a.image.now (refusal_in a.on.now.refused) (ap refusal_in c.in_ok-on.was) 5 (λ z. omega (arith, z)) (unshaped a.on.now.table.now a.image.now e)
 
-pub returns-in_default : goal.returns-in_default
-returns-in_default c =
+pub returns-in_default-clause-brings : goal.returns-in_default-clause-brings
+returns-in_default-clause-brings c =
     let a = c.args in
     let e : image_shaped a.image.now ≡ true = sym c.shaped.ensures ∙ c.if-not-shaped.false in
     let o : read_stored a.image.now ≡ None = sym c.read.ensures ∙ none_of c.read.result (λ s q. c.in_default.not-Some s q) in
     refused-by a.on.now.table.now a.image.now (refusal_in a.on.now.refused) (ap refusal_in c.in_ok-on.was) 6 (λ z. omega (arith, z)) (unread a.on.now.table.now a.image.now e o)
 
-pub returns-then-not-sound : goal.returns-then-not-sound
-returns-then-not-sound c =
+pub returns-then-not-sound-clause-brings : goal.returns-then-not-sound-clause-brings
+returns-then-not-sound-clause-brings c =
     let a = c.args in
     let e : image_shaped a.image.now ≡ true = sym c.shaped.ensures ∙ c.if-not-shaped.false in
     let o : read_stored a.image.now ≡ Some c.in-Some.session = sym c.read.ensures ∙ c.in-Some.is in
     let f : sound_stored a.on.now.table.now c.in-Some.session ≡ false = sym c.sound.ensures ∙ c.if-not-sound.true in
     refused-by a.on.now.table.now a.image.now (refusal_in a.on.now.refused) (ap refusal_in c.in_ok-on.was) 7 (λ z. omega (arith, z)) (unsound a.on.now.table.now a.image.now e o f)
 
-pub returns : goal.returns
-returns c =
+pub returns-clause-brings : goal.returns-clause-brings
+returns-clause-brings c =
     let a = c.args in
     let e : image_shaped a.image.now ≡ true = sym c.shaped.ensures ∙ c.if-not-shaped.false in
     let o : read_stored a.image.now ≡ Some c.in-Some.session = sym c.read.ensures ∙ c.in-Some.is in

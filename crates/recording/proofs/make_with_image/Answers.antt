@@ -23,8 +23,8 @@ returns-then-bytes-eq6 c =
     let l = a.bytes.now in
     let d = length-drop 6 l in
     rw (eq-eqb (get_or l 0 0) 6 c.if-bytes-eq6.true) (record {
-      reply = (rw (c.passed-on.ensures.table, c.passed-on.ensures.session) at c.restore-reply.ensures) ∙ ap (λ (m : List ℕ). call_stored a.table.now a.s (restore m)) (take_all (length l - 6) (drop 6 l) (omega arith));
-      created = restore-creates a.table.now a.s c.requires.ready (drop 6 l);
+      reply = (rw (c.passed-on.ensures.table, c.passed-on.ensures.session) at c.restore-reply.ensures) ∙ ap (λ (m : List ℕ). call_stored a.table.now a.s.now (restore m)) (take_all (length l - 6) (drop 6 l) (omega arith));
+      created = restore-creates a.table.now a.s.now c.requires.ready (drop 6 l);
     })
 
 -- what the record that was read asks for
@@ -42,6 +42,6 @@ returns c =
     let l = a.bytes.now in
     let q = request_of (get_or l 0 0) (get_or l 1 0) (word_at l 0) in
     rw (ne_eqb (get_or l 0 0) 6 c.if-bytes-eq6.false) (record {
-      reply = (rw (c.passed-on.ensures.table, c.passed-on.ensures.session) at c.make.ensures.reply) ∙ ap (reply_stored a.table.now a.s) (request c) ∙ asked-reply a.table.now a.s q;
-      created = (rw (c.passed-on.ensures.table, c.passed-on.ensures.session) at c.make.ensures.created) ∙ ap (created_stored a.table.now a.s) (request c) ∙ asked-created a.table.now a.s c.requires.ready q;
+      reply = (rw (c.passed-on.ensures.table, c.passed-on.ensures.session) at c.make.ensures.reply) ∙ ap (reply_stored a.table.now a.s.now) (request c) ∙ asked-reply a.table.now a.s.now q;
+      created = (rw (c.passed-on.ensures.table, c.passed-on.ensures.session) at c.make.ensures.created) ∙ ap (created_stored a.table.now a.s.now) (request c) ∙ asked-created a.table.now a.s.now c.requires.ready q;
     })

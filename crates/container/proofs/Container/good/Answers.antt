@@ -12,11 +12,11 @@ use Rattle.container.proofs.KeptLaws.{good-bad, good-kept, list_all-fits}
 use Rattle.container.proofs.Container.good.Goals as goal
 
 pub returns-then-n-self : goal.returns-then-n-self
-returns-then-n-self c = good-bad c.args.self (rw c.from-n.ensures at c.if-n-self.true)
+returns-then-n-self c = good-bad c.args.self.now (rw c.from-n.ensures at c.if-n-self.true)
 
 pub returns : goal.returns
 returns c =
-    let a = c.args.self in
+    let a = c.args.self.now in
     let ks = take c.from-n.result a.kept in
     all_from_yields_List fits _ _ c.all.result c.all.ensures.ran (YieldsList-from_slice ks cc) (λ x b q k. search (rules, tests))
     ∙ list_all-fits ks
