@@ -58,6 +58,11 @@ size-within n few many h = ones-within n few many (digit-within few many h)
 half-less : (n x : ℕ) → x < 2 ^ suc n → x / 2 < 2 ^ n
 half-less n x l = omega (arith, l, pow-suc 2 n)
 
+pub ones-most : (n set : ℕ) → ones_among n set ≤ n
+unfolding ones_among
+ones-most zero set = omega arith
+ones-most (suc n) set = omega (arith, ones-most n (set / 2))
+
 -- the language's count of ones
 pub ones-counted : (n x : ℕ) → x < 2 ^ n → ones x ≡ ones_among n x
 unfolding ones_among ones ones_in

@@ -4,11 +4,12 @@ use mathlib.Core.Path.{◌≡◌, refl, sym, ap}
 use mathlib.Core.Bool.{Bool, true, false, ◌||◌, true≢false}
 use mathlib.Core.List.{List, [], ◌∷◌, ◌++◌}
 use native.Mathlib.Omega.{arith}
-use lib.Dec.{ltb}
-use lib.ListN.{length, get_or, take, drop}
+use lib.Dec.{eqb, ltb}
+use lib.ListN.{length, get_or, take, drop, length-append}
 use lib.Seq.{take_all}
-use borrow.Author.Tests.{eq-eqb, ne_eqb, ltb-false}
+use borrow.Author.Tests.{eq-eqb, ne_eqb, eqb-true, eqb-false, ltb-false}
 use Rattle.panels.specs.Operations.{most_panels, Operation, operation, operated, carried_out, makes_nine, remove_topmost, operations_in}
+use Rattle.panels.proofs.PanelLaws.{topmost-shorter}
 
 module _ (k p : ℕ) (xs : List ℕ) where
   pub op-add : k ≡ 1 → operated (operation k p) xs ≡ xs ++ (p ∷ [])
@@ -22,6 +23,15 @@ module _ (k p : ℕ) (xs : List ℕ) where
   pub op-replace : (k ≡ 1 → ⊥) → (k ≡ 2 → ⊥) → operated (operation k p) xs ≡ p ∷ []
   unfolding operated
   op-replace n m = rw (ne_eqb k 1 n, ne_eqb k 2 m)
+
+  -- only an add makes one panel more
+  pub op-low : length xs ≤ most_panels → (k ≡ 1 → length xs < most_panels) → length (operated (operation k p) xs) ≤ most_panels
+  op-low l room = go (eqb k 1) (eqb k 2) refl refl
+    where
+      go : (a b : Bool) → eqb k 1 ≡ a → eqb k 2 ≡ b → length (operated (operation k p) xs) ≤ most_panels
+      go true b e f = rw (op-add (eqb-true k 1 e)) (omega (arith, length-append xs (p ∷ []), room (eqb-true k 1 e)))
+      go false true e f = rw (op-remove (eqb-false k 1 e) (eqb-true k 2 f)) (omega (arith, topmost-shorter p xs))
+      go false false e f = rw (op-replace (eqb-false k 1 e) (eqb-false k 2 f)) (omega arith)
 
 -- where no operation makes nine panels
 pub or-false : (a b : Bool) → (a || b) ≡ false → (a ≡ false) × (b ≡ false)
