@@ -13,10 +13,10 @@ pub returns : goal.returns
 returns c =
     let a = c.args in
     elim c.match-restored.branch [
-      in-Ok w ↦
+      | in-Ok w ↦
           rw (w.reply-is, w.look_at-reply.ensures)
           (restore-made a.on.now.table.now a.on.now.session.now a.image.now (refusal_in a.on.now.refused) a.on.now.says w.in-Ok.ensures.brings).1
-    | in-Err w ↦
+      | in-Err w ↦
           rw (w.reply-is, w.refused-reply.ensures, w.number.ensures, w.in-Err.ensures.stays (number-some w.in-Err.refusal))
           (restore-refused a.on.now.table.now a.on.now.session.now a.image.now (refusal_in a.on.now.refused) a.on.now.says (refusal_number w.in-Err.refusal) (number-some w.in-Err.refusal) w.in-Err.ensures.brings)
     ]
